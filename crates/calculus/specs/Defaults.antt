@@ -1,0 +1,45 @@
+-- Defaults: what the exceptions come to, and the result of the whole.
+use Rattle.calculus.specs.declared.Cause.{Cause}
+use Rattle.calculus.specs.declared.Cause.the-variants.{Empty, Conflict, OutOfRange}
+use Rattle.calculus.specs.declared.Outcome.{Outcome}
+use Rattle.calculus.specs.declared.Outcome.the-variants.{Gives, Ends}
+use Rattle.calculus.specs.declared.Joined.{Joined}
+use Rattle.calculus.specs.declared.Joined.the-variants.{Nothing, One, Many}
+use Rattle.calculus.specs.declared.Gathered.{Gathered}
+use Rattle.calculus.specs.declared.Gathered.the-variants.{SoFar, Ended}
+
+-- "nothing with a gives a; two values, or 'many' with anything, give 'many'"
+abbrev pub join : Joined → Joined → Joined
+join Nothing b = b
+join (One u) Nothing = One u
+join (One u) (One v) = Many
+join (One u) Many = Many
+join Many b = Many
+
+-- what an exception without a value comes to: an empty one to nothing
+abbrev pub caught : Cause → Gathered
+caught Empty = SoFar Nothing
+caught Conflict = Ended Conflict
+caught OutOfRange = Ended OutOfRange
+
+-- what one exception comes to
+abbrev pub found : Outcome → Gathered
+found (Gives v) = SoFar (One v)
+found (Ends c) = caught c
+
+-- what two parts of the exceptions come to, left first
+abbrev pub together : Gathered → Gathered → Gathered
+together (Ended c) b = Ended c
+together (SoFar j) (Ended c) = Ended c
+together (SoFar j) (SoFar k) = SoFar (join j k)
+
+-- the exceptions so far and one more: "The first that is conflict or out of range is the result"
+abbrev pub gather : Gathered → Outcome → Gathered
+gather g o = together g (found o)
+
+-- "Else two or more that are not empty give conflict, equal values included; exactly one is the result"; with none, the rest is
+abbrev pub settle : Gathered → Outcome → Outcome
+settle (Ended c) rest = Ends c
+settle (SoFar Nothing) rest = rest
+settle (SoFar (One v)) rest = Gives v
+settle (SoFar Many) rest = Ends Conflict

@@ -1,0 +1,20 @@
+-- Booleans by cases.
+--     decide      true or false
+--     both        of a conjunction that holds, both parts hold
+--     or-cases    of a disjunction that holds, one part holds
+-- Assumes nothing.
+use mathlib.Core.Path.{_≡_, refl}
+use mathlib.Core.Bool.{Bool, true, false, _&&_, _||_, false≢true}
+use mathlib.Core.Logic.{_⊎_, inl, inr}
+
+pub decide : (a : Bool) → (a ≡ true) ⊎ (a ≡ false)
+decide true = inl refl
+decide false = inr refl
+
+pub both : (a b : Bool) → (a && b) ≡ true → (a ≡ true) × (b ≡ true)
+both true b e = (refl, e)
+both false b e = absurd (false≢true e)
+
+pub or-cases : (a b : Bool) → (a || b) ≡ true → (a ≡ true) ⊎ (b ≡ true)
+or-cases true b e = inl e
+or-cases false b e = inr e

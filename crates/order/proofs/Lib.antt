@@ -1,0 +1,9 @@
+pub mod Booleans
+pub mod Search
+pub mod Matrix
+pub mod Ready
+pub mod Count
+pub mod Reaching
+pub mod Order
+pub mod Answer
+pub mod Filling

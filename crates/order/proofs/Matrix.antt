@@ -1,0 +1,44 @@
+-- Laws of the bytes of the matrix, and of the marks of the vertices that are done.
+--     marked-true, marked-false    a byte that is not 0, or 0
+--     marked-set                   the marks once one more is set
+--     edge-true, edge-false        the byte of an edge
+-- Assumes nothing.
+use Prim.Native.Nat.{ℕ, _<_, _+_, _*_}
+use mathlib.Core.Path.{_≡_, sym}
+use mathlib.Core.Bool.{true, false, not, _||_, or-true, or-false}
+use mathlib.Core.List.{List}
+use mathlib.Core.Logic.{⊎-elim}
+use lib.ListN.{length, getD, set}
+use lib.Seq.{getD-set-same, getD-set-other}
+use lib.Dec.{eqb}
+use borrow.Author.Tests.{eq-eqb, ne-eqb, eqb-true, eqb-false}
+use Rattle.order.specs.Matrix.{marked, edgeOf}
+use Rattle.order.proofs.Booleans.{decide}
+
+module _ (bytes : List ℕ) (i : ℕ) where
+  pub marked-true : (getD bytes i 0 ≡ 0 → ⊥) → marked bytes i ≡ true
+  unfolding marked
+  marked-true h = rw (ne-eqb (getD bytes i 0) 0 h)
+
+  pub marked-false : getD bytes i 0 ≡ 0 → marked bytes i ≡ false
+  unfolding marked
+  marked-false h = rw (eq-eqb (getD bytes i 0) 0 h)
+
+module _ (deps : List ℕ) (v w : ℕ) where
+  pub edge-true : (getD deps (v * 40 + w) 0 ≡ 0 → ⊥) → edgeOf deps v w ≡ true
+  unfolding edgeOf
+  edge-true h = marked-true deps (v * 40 + w) h
+
+  pub edge-false : getD deps (v * 40 + w) 0 ≡ 0 → edgeOf deps v w ≡ false
+  unfolding edgeOf
+  edge-false h = marked-false deps (v * 40 + w) h
+
+pub marked-set : (done : List ℕ) (v w : ℕ) → v < length done → marked (set done v 1) w ≡ (marked done w || eqb w v)
+unfolding marked
+marked-set done v w h =
+    ⊎-elim
+    (λ (q : eqb w v ≡ true).
+    let e : w ≡ v = eqb-true w v q in
+    rw (q, e, getD-set-same done v 1 0 h) (sym (or-true (not (eqb (getD done v 0) 0)))))
+    (λ (q : eqb w v ≡ false). rw (q, getD-set-other done v w 1 0 (eqb-false w v q)) (sym (or-false (not (eqb (getD done w 0) 0)))))
+    (decide (eqb w v))

@@ -1,0 +1,5 @@
+pub mod Search
+pub mod Order
+pub mod Reaching
+pub mod Matrix
+pub mod Answer

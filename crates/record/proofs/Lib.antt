@@ -1,0 +1,6 @@
+mod Decision
+mod Same
+mod Signs
+pub mod Endian
+pub mod Overwrite
+pub mod RoundTrip
