@@ -1,0 +1,31 @@
+//! What an evaluation or a run hands back.
+
+use crate::value::Failure;
+
+/// How a run ended; the discriminant is its number.
+#[derive(Clone, Copy, Debug, PartialEq, Eq)]
+#[repr(u8)]
+pub enum Outcome {
+    Values = 0,
+    Empty = 1,
+    Conflict = 2,
+    OutOfRange = 3,
+}
+
+impl From<Failure> for Outcome {
+    fn from(failure: Failure) -> Outcome {
+        match failure {
+            Failure::Empty => Outcome::Empty,
+            Failure::Conflict => Outcome::Conflict,
+            Failure::OutOfRange => Outcome::OutOfRange,
+        }
+    }
+}
+
+/// Outcome, count of scopes entered, and length of the results (0 without values).
+#[derive(Clone, Copy, Debug, PartialEq, Eq)]
+pub struct Answer {
+    pub outcome: Outcome,
+    pub count: usize,
+    pub length: usize,
+}
