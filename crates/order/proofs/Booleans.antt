@@ -2,8 +2,9 @@
 --     decide      true or false
 --     both        of a conjunction that holds, both parts hold
 --     or-cases    of a disjunction that holds, one part holds
+--     neither     of a disjunction that fails, both parts fail
 -- Assumes nothing.
-use mathlib.Core.Path.{_≡_, refl}
+use mathlib.Core.Path.{_≡_, refl, sym}
 use mathlib.Core.Bool.{Bool, true, false, _&&_, _||_, false≢true}
 use mathlib.Core.Logic.{_⊎_, inl, inr}
 
@@ -18,3 +19,7 @@ both false b e = absurd (false≢true e)
 pub or-cases : (a b : Bool) → (a || b) ≡ true → (a ≡ true) ⊎ (b ≡ true)
 or-cases true b e = inl e
 or-cases false b e = inr e
+
+pub neither : (a b : Bool) → (a || b) ≡ false → (a ≡ false) × (b ≡ false)
+neither true b e = absurd (false≢true (sym e))
+neither false b e = (refl, e)

@@ -162,7 +162,7 @@ pub fn distance_at(s: &[u8], at: usize) -> usize
 }
 
 // The number whose bits are u.
-fn number_of(u: u32) -> i32
+pub fn number_of(u: u32) -> i32
     ensures { λ r. ⌜ r ≡ toZ w32 u ⌝ }
 {
     if u < 2147483648 {
@@ -173,7 +173,7 @@ fn number_of(u: u32) -> i32
 }
 
 // The bits of n.
-fn bits_of(n: i32) -> u32
+pub fn bits_of(n: i32) -> u32
     ensures { λ r. ⌜ r ≡ ofZ w32 n ⌝ }
 {
     if n < 0 {

@@ -1,0 +1,24 @@
+//! Compares the proved engine with the second program.
+
+mod engine;
+mod judging;
+mod runs;
+mod tally;
+
+use std::process::ExitCode;
+
+const USAGE: &str = "compare judge CASES | compare runs PROGRAM STACK_KIB FILE";
+
+fn main() -> ExitCode {
+    let words: Vec<String> = std::env::args().skip(1).collect();
+    let words: Vec<&str> = words.iter().map(String::as_str).collect();
+    let agreed = match words[..] {
+        ["judge", cases] => judging::run(cases.parse().expect(USAGE)),
+        ["runs", program, stack, file] => runs::run(program, stack.parse().expect(USAGE), file),
+        _ => {
+            eprintln!("{USAGE}");
+            false
+        }
+    };
+    ExitCode::from(u8::from(!agreed))
+}

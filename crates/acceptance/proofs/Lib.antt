@@ -1,0 +1,12 @@
+pub mod Searches
+pub mod Cycles
+pub mod Numbers
+pub mod Scanning
+pub mod Acceptance
+pub mod First
+pub mod Limits
+pub mod WellFormed
+pub mod Namings
+pub mod Orders
+pub mod Reading
+pub mod Dependencies

@@ -1,0 +1,59 @@
+-- `book::node_at` meets its contract.
+-- Assumes nothing.
+use Rattle.book.specs.declared.Node.the-variants.{Constant}
+use mathlib.Core.Bool.{true}
+use Rattle.book.specs.Tables.{nodeAt, nodeFrom}
+use Rattle.book.specs.References.{scopeAt}
+use Rattle.book.specs.Decode.{scopesOf}
+use lib.ListN.{length, List·getD-eq-default}
+use denote.Ref.{now}
+use Prim.Native.Nat.{_<_, _≤_}
+use mathlib.Core.Path.{sym}
+use borrow.Author.Needs.{needs}
+use Rattle.book.proofs.node_at.Statement.{statement}
+use Rattle.book.proofs.node_at.Tie as tie
+
+count-at-requires : tie.Need-count-at-requires
+count-at-requires c κs = search needs
+
+place-at-requires : tie.Need-place-at-requires
+place-at-requires c κs = search needs
+
+body-at-requires : tie.Need-body-at-requires
+body-at-requires c κs = search needs
+
+byte-at-requires : tie.Need-byte-at-requires
+byte-at-requires c κs = search needs
+
+node-of-requires : tie.Need-node-of-requires
+node-of-requires c κs = search needs
+
+returns : tie.Need-returns
+unfolding nodeAt nodeFrom
+returns c =
+    let laid = c .before .before .before .before .before .before .before .before .before .pre in
+    let i = c .before .before .before .before .before .before .before .before .before .args .i in
+    let n = c .before .before .before .before .before .before .before .before .before .args .n in
+    let few : n < length (scopeAt (scopesOf (now (c .before .before .before .before .before .before .before .before .before .args .book))) i .nodes) = rw (← laid .nodeCount i, ← c .before .before .before .before .before .count-at .ensures) (c .before .before .before .before .if1 .taken) in
+    rw (c .node-of .ensures, c .before .byte-at .ensures, c .before .before .body-at .ensures, c .before .before .before .place-at .ensures) (laid .nodes i n (Constant true) few)
+
+returns-2 : tie.Need-returns-2
+unfolding nodeAt
+returns-2 c =
+    let laid = c .before .before .before .before .before .pre in
+    let i = c .before .before .before .before .before .args .i in
+    let n = c .before .before .before .before .before .args .n in
+    let many : length (scopeAt (scopesOf (now (c .before .before .before .before .before .args .book))) i .nodes) ≤ n = rw (← laid .nodeCount i, ← c .before .count-at .ensures) (c .if1 .left) in
+    sym (List·getD-eq-default (scopeAt (scopesOf (now (c .before .before .before .before .before .args .book))) i .nodes) (Constant true) many)
+
+pub node-at-spec : {M : Type 1} → statement M
+node-at-spec =
+    tie.close
+    (tie.spec
+    count-at-requires
+    place-at-requires
+    body-at-requires
+    byte-at-requires
+    node-of-requires
+    returns
+    returns-2)

@@ -1,0 +1,14 @@
+pub mod Lists
+pub mod Syntax
+pub mod Records
+pub mod Decode
+pub mod References
+pub mod Limits
+pub mod Sharing
+pub mod Typing
+pub mod Mixing
+pub mod Trees
+pub mod Scopes
+pub mod Steps
+pub mod Judge
+pub mod Tables

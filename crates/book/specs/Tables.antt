@@ -1,0 +1,66 @@
+-- The tables by which the records of a book are found: how many of each sort a scope has, and where each begins.
+use Prim.Native.Nat.{ℕ, _+_, _*_, _<_}
+use mathlib.Core.Path.{_≡_}
+use mathlib.Core.Bool.{Bool, true, false, cond, _&&_}
+use mathlib.Core.List.{List}
+use lib.ListN.{length, getD}
+use lib.Dec.{ltb}
+use Rattle.record.specs.Record.{bodyAt}
+use Rattle.record.specs.declared.Medium.the-variants.{Book}
+use Rattle.book.specs.Syntax.{Scope, variableOf, nodeOf, clauseOf}
+use Rattle.book.specs.Decode.{scopesOf}
+use Rattle.book.specs.References.{scopeAt, noClause}
+use Rattle.book.specs.declared.ValueType.the-variants.{YesNo}
+use Rattle.book.specs.declared.Variable.{Variable}
+use Rattle.book.specs.declared.Node.{Node}
+use Rattle.book.specs.declared.Node.the-variants.{Constant}
+use Rattle.book.specs.declared.Clause.{Clause}
+
+-- a variable, sub-scope, node or clause of a scope of the book, by its number
+unfoldable pub variableAt : List Scope → ℕ → ℕ → Variable
+variableAt book i v = getD (scopeAt book i .variables) v (record { holds = YesNo })
+
+unfoldable pub subScopeAt : List Scope → ℕ → ℕ → ℕ
+subScopeAt book i k = getD (scopeAt book i .subScopes) k 0
+
+unfoldable pub nodeAt : List Scope → ℕ → ℕ → Node
+nodeAt book i n = getD (scopeAt book i .nodes) n (Constant true)
+
+unfoldable pub clauseAt : List Scope → ℕ → ℕ → Clause
+clauseAt book i c = getD (scopeAt book i .clauses) c noClause
+
+-- four counts for each of 32 scopes: variables, sub-scopes, nodes, clauses
+unfoldable pub countAt : List ℕ → ℕ → ℕ → ℕ
+countAt counts i sort = cond (ltb i 32 && ltb sort 4) (getD counts (i * 4 + sort) 0) 0
+
+-- 418 places for each of 32 scopes: 32 variables, 8 sub-scopes, 250 nodes, 128 clauses
+unfoldable pub placeAt : List ℕ → ℕ → ℕ → ℕ
+placeAt places i k = cond (ltb i 32 && ltb k 418) (getD places (i * 418 + k) 0) 0
+
+-- what the record that begins at a position is
+unfoldable pub variableFrom : List ℕ → ℕ → Variable
+variableFrom bytes at = variableOf (bodyAt Book bytes at)
+
+unfoldable pub subScopeFrom : List ℕ → ℕ → ℕ
+subScopeFrom bytes at = getD (bodyAt Book bytes at) 0 0
+
+unfoldable pub nodeFrom : List ℕ → ℕ → Node
+nodeFrom bytes at = nodeOf (getD bytes at 0) (bodyAt Book bytes at)
+
+unfoldable pub clauseFrom : List ℕ → ℕ → Clause
+clauseFrom bytes at = clauseOf (getD bytes at 0) (bodyAt Book bytes at)
+
+-- the records of one sort of scope i, whose places begin at a base
+abbrev pub Placed : {A : Type 0} → (List ℕ → ℕ → A) → List ℕ → List ℕ → ℕ → ℕ → List A → Type 0
+Placed {A} from bytes places i base xs = (n : ℕ) (d : A) → n < length xs → from bytes (placeAt places i (base + n)) ≡ getD xs n d
+
+-- the tables are those of the book
+pub record Laid (bytes places counts : List ℕ) : Type 0 where
+  pub variableCount : (i : ℕ) → countAt counts i 0 ≡ length (scopeAt (scopesOf bytes) i .variables)
+  pub subScopeCount : (i : ℕ) → countAt counts i 1 ≡ length (scopeAt (scopesOf bytes) i .subScopes)
+  pub nodeCount : (i : ℕ) → countAt counts i 2 ≡ length (scopeAt (scopesOf bytes) i .nodes)
+  pub clauseCount : (i : ℕ) → countAt counts i 3 ≡ length (scopeAt (scopesOf bytes) i .clauses)
+  pub variables : (i : ℕ) → Placed variableFrom bytes places i 0 (scopeAt (scopesOf bytes) i .variables)
+  pub subScopes : (i : ℕ) → Placed subScopeFrom bytes places i 32 (scopeAt (scopesOf bytes) i .subScopes)
+  pub nodes : (i : ℕ) → Placed nodeFrom bytes places i 40 (scopeAt (scopesOf bytes) i .nodes)
+  pub clauses : (i : ℕ) → Placed clauseFrom bytes places i 290 (scopeAt (scopesOf bytes) i .clauses)

@@ -1,0 +1,123 @@
+-- `judge::judge_whole` meets its contract.
+-- Assumes nothing.
+use Rattle.judge.proofs.Faults.{refused, dangling, shared, mismatched, mixed, orders-left}
+use Rattle.scan.proofs.Limits.{within}
+use Rattle.book.specs.Decode.{scopesOf}
+use denote.Ref.{now}
+use mathlib.Core.Path.{sym, _∙_}
+use borrow.Author.Needs.{needs}
+use Rattle.judge.proofs.judge_whole.Statement.{statement}
+use Rattle.judge.proofs.judge_whole.Tie as tie
+
+fill-tables-requires : tie.Need-fill-tables-requires
+fill-tables-requires c κs = search needs
+
+has-dangling-requires : tie.Need-has-dangling-requires
+has-dangling-requires c κs = (c .before .before .before .before .before .before .fill-tables .ensures .laid, c .before .before .before .before .before .before .fill-tables .ensures .scopes)
+
+same-length : tie.Need-same-length
+same-length c = search needs
+
+same-length-2 : tie.Need-same-length-2
+same-length-2 c = search needs
+
+returns : tie.Need-returns
+returns c = refused (dangling (scopesOf (now (c .before .before .before .before .before .before .before .before .before .before .before .before .before .before .before .before .before .args .book))) (sym (c .before .has-dangling .ensures) ∙ c .if1 .taken))
+
+has-shared-requires : tie.Need-has-shared-requires
+has-shared-requires c κs = (c .before .before .before .before .before .before .before .before .before .before .fill-tables .ensures .laid, c .before .before .before .before .before .before .before .before .before .before .fill-tables .ensures .scopes)
+
+same-length-3 : tie.Need-same-length-3
+same-length-3 c = search needs
+
+same-length-4 : tie.Need-same-length-4
+same-length-4 c = search needs
+
+returns-2 : tie.Need-returns-2
+returns-2 c = refused (shared (scopesOf (now (c .before .before .before .before .before .before .before .before .before .before .before .before .before .before .before .before .before .before .before .before .before .args .book))) (sym (c .before .before .before .before .before .has-dangling .ensures) ∙ c .before .before .before .before .if1 .left) (sym (c .before .has-shared .ensures) ∙ c .if2 .taken))
+
+has-mismatch-requires : tie.Need-has-mismatch-requires
+has-mismatch-requires c κs = (c .before .before .before .before .before .before .before .before .before .before .before .before .before .before .fill-tables .ensures .laid, c .before .before .before .before .before .before .before .before .before .before .before .before .before .before .fill-tables .ensures .scopes)
+
+same-length-5 : tie.Need-same-length-5
+same-length-5 c = search needs
+
+same-length-6 : tie.Need-same-length-6
+same-length-6 c = search needs
+
+returns-3 : tie.Need-returns-3
+returns-3 c = refused (mismatched (scopesOf (now (c .before .before .before .before .before .before .before .before .before .before .before .before .before .before .before .before .before .before .before .before .before .before .before .before .before .args .book))) (sym (c .before .before .before .before .before .before .before .before .before .has-dangling .ensures) ∙ c .before .before .before .before .before .before .before .before .if1 .left) (sym (c .before .before .before .before .before .has-shared .ensures) ∙ c .before .before .before .before .if2 .left) (sym (c .before .has-mismatch .ensures) ∙ c .if3 .taken))
+
+has-mixed-requires : tie.Need-has-mixed-requires
+has-mixed-requires c κs =
+    let w = within (now (c .before .before .before .before .before .before .before .before .before .before .before .before .before .before .before .before .before .before .before .before .before .before .before .before .before .before .before .args .book)) (c .before .before .before .before .before .before .before .before .before .before .before .before .before .before .before .before .before .before .before .before .before .before .before .before .before .before .before .pre .0 .sound) in
+    (c .before .before .before .before .before .before .before .before .before .before .before .before .before .before .before .before .before .before .fill-tables .ensures .laid, (c .before .before .before .before .before .before .before .before .before .before .before .before .before .before .before .before .before .before .fill-tables .ensures .scopes, (sym (c .before .before .before .before .before .before .before .before .before .before .before .has-dangling .ensures) ∙ c .before .before .before .before .before .before .before .before .before .before .if1 .left, w)))
+
+same-length-7 : tie.Need-same-length-7
+same-length-7 c = search needs
+
+same-length-8 : tie.Need-same-length-8
+same-length-8 c = search needs
+
+returns-4 : tie.Need-returns-4
+returns-4 c = refused (mixed (scopesOf (now (c .before .before .before .before .before .before .before .before .before .before .before .before .before .before .before .before .before .before .before .before .before .before .before .before .before .before .before .before .before .args .book))) (sym (c .before .before .before .before .before .before .before .before .before .before .before .before .before .has-dangling .ensures) ∙ c .before .before .before .before .before .before .before .before .before .before .before .before .if1 .left) (sym (c .before .before .before .before .before .before .before .before .before .has-shared .ensures) ∙ c .before .before .before .before .before .before .before .before .if2 .left) (sym (c .before .before .before .before .before .has-mismatch .ensures) ∙ c .before .before .before .before .if3 .left) (sym (c .before .has-mixed .ensures) ∙ c .if4 .taken))
+
+judge-orders-requires : tie.Need-judge-orders-requires
+judge-orders-requires c κs =
+    let w = within (now (c .before .before .before .before .before .before .before .before .before .before .before .before .before .before .before .before .before .before .before .before .before .before .before .before .before .before .before .before .before .before .before .before .before .before .args .book)) (c .before .before .before .before .before .before .before .before .before .before .before .before .before .before .before .before .before .before .before .before .before .before .before .before .before .before .before .before .before .before .before .before .before .before .pre .0 .sound) in (
+      record {
+        tabled = record { laid = c .before .before .before .before .before .before .before .before .before .before .before .before .before .before .before .before .before .before .before .before .before .before .before .before .before .fill-tables .ensures .laid; within = w };
+        scoped = record { count = c .before .before .before .before .before .before .before .before .before .before .before .before .before .before .before .before .before .before .before .before .before .before .before .before .before .fill-tables .ensures .scopes; few = rw (c .before .before .before .before .before .before .before .before .before .before .before .before .before .before .before .before .before .before .before .before .before .before .before .before .before .fill-tables .ensures .scopes) (w .scopes) };
+        sound = sym (c .before .before .before .before .before .before .before .before .before .before .before .before .before .before .before .before .before .before .has-dangling .ensures) ∙ c .before .before .before .before .before .before .before .before .before .before .before .before .before .before .before .before .before .if1 .left;
+      },
+      c .before .before .before .before .before .before .before .before .before .before .before .before .before .before .before .before .before .before .before .before .before .before .before .before .before .before .before .before .before .before .before .before .before .before .pre .1,
+    )
+
+same-length-9 : tie.Need-same-length-9
+same-length-9 c = c .before .before .before .before .before .before .before .before .before .before .before .before .before .before .before .before .before .before .before .before .before .before .before .before .before .before .before .before .before .before .before .places .given
+
+same-length-10 : tie.Need-same-length-10
+same-length-10 c = search needs
+
+same-length-11 : tie.Need-same-length-11
+same-length-11 c = search needs
+
+same-length-12 : tie.Need-same-length-12
+same-length-12 c = search needs
+
+same-length-13 : tie.Need-same-length-13
+same-length-13 c = search needs
+
+returns-5 : tie.Need-returns-5
+returns-5 c =
+    let left = orders-left (scopesOf (now (c .before .before .before .before .before .before .before .before .before .before .before .before .before .before .before .before .before .before .before .before .before .before .before .before .before .before .before .before .before .before .before .before .before .before .before .before .before .before .before .before .before .args .book))) (sym (c .before .before .before .before .before .before .before .before .before .before .before .before .before .before .before .before .before .before .before .before .before .before .before .before .before .has-dangling .ensures) ∙ c .before .before .before .before .before .before .before .before .before .before .before .before .before .before .before .before .before .before .before .before .before .before .before .before .if1 .left) (sym (c .before .before .before .before .before .before .before .before .before .before .before .before .before .before .before .before .before .before .before .before .before .has-shared .ensures) ∙ c .before .before .before .before .before .before .before .before .before .before .before .before .before .before .before .before .before .before .before .before .if2 .left) (sym (c .before .before .before .before .before .before .before .before .before .before .before .before .before .before .before .before .before .has-mismatch .ensures) ∙ c .before .before .before .before .before .before .before .before .before .before .before .before .before .before .before .before .if3 .left) (sym (c .before .before .before .before .before .before .before .before .before .before .before .before .before .has-mixed .ensures) ∙ c .before .before .before .before .before .before .before .before .before .before .before .before .if4 .left) in
+    record { answer = c .before .before .before .before .before .before .judge-orders .ensures .answer ∙ left; tables = c .before .before .before .before .before .before .judge-orders .ensures .tables }
+
+pub judge-whole-spec : {M : Type 1} → statement M
+judge-whole-spec =
+    tie.close
+    (tie.spec
+    fill-tables-requires
+    has-dangling-requires
+    same-length
+    same-length-2
+    returns
+    has-shared-requires
+    same-length-3
+    same-length-4
+    returns-2
+    has-mismatch-requires
+    same-length-5
+    same-length-6
+    returns-3
+    has-mixed-requires
+    same-length-7
+    same-length-8
+    returns-4
+    judge-orders-requires
+    same-length-9
+    same-length-10
+    same-length-11
+    same-length-12
+    same-length-13
+    returns-5)

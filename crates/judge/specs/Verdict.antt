@@ -1,0 +1,55 @@
+-- What judging answers, and what the tables lent hold afterwards.
+use Prim.Native.Nat.{ℕ, _*_, _<_, _≤_}
+use mathlib.Core.Bool.{false, cond}
+use mathlib.Core.Path.{_≡_}
+use mathlib.Core.List.{List}
+use lib.ListN.{length, getD, take, drop, replicate}
+use Rattle.book.specs.Syntax.{Scope}
+use Rattle.book.specs.References.{scopeAt, dangles}
+use Rattle.book.specs.Decode.{scopesOf}
+use Rattle.book.specs.Scopes as scopes
+use Rattle.book.specs.Steps.{stepCount, stepOrder, dependencyCycle}
+use Rattle.book.specs.Tables.{Laid}
+use Rattle.steps.specs.Limits.{Tabled, Scoped}
+use Rattle.book.specs.declared.Fault.the-variants.{ScopeCycle, WeightExceeded, DependencyCycle}
+use Rattle.book.specs.declared.Judged.{Judged}
+use Rattle.book.specs.declared.Judged.the-variants.{Accepted, Refused}
+
+-- the tables of an accepted book: its records, the order of its blocks, the weight of each scope, and the order of each scope's steps in a
+-- row of 40
+pub record Tables (bytes places counts blocks weights orders : List ℕ) : Type 0 where
+  pub laid : Laid bytes places counts
+  pub blockOrder : take (length (scopesOf bytes)) blocks ≡ scopes.blocks (scopesOf bytes)
+  pub weightOf : (i : ℕ) → i < length (scopesOf bytes) → getD weights i 0 ≡ scopes.weight (scopesOf bytes) i
+  pub stepOrders : (i : ℕ) → i < length (scopesOf bytes)
+      → take (stepCount (scopeAt (scopesOf bytes) i)) (drop (i * 40) orders) ≡ stepOrder (scopeAt (scopesOf bytes) i)
+
+-- tables that are still empty
+pub record Fresh (places counts : List ℕ) : Type 0 where
+  pub noPlaces : places ≡ replicate 13376 0
+  pub noCounts : counts ≡ replicate 128 0
+
+-- "then 6 to 12, each over the whole book": the last three of these
+unfoldable pub orderFaults : List Scope → Judged
+orderFaults book =
+    cond (scopes.scopeCycle book) (Refused ScopeCycle)
+    (cond (scopes.overweight book) (Refused WeightExceeded)
+    (cond (dependencyCycle book) (Refused DependencyCycle)
+    (Accepted (length book))))
+
+-- what these rest on: filled tables of a book within the limits in which no number dangles
+pub record Checked (bytes places counts : List ℕ) (n : ℕ) : Type 0 where
+  pub tabled : Tabled bytes places counts
+  pub scoped : Scoped bytes n
+  pub sound : dangles (scopesOf bytes) ≡ false
+
+-- room for the orders and the weights
+pub record Room (blocks weights orders : List ℕ) : Type 0 where
+  pub blockRoom : 32 ≤ length blocks
+  pub weightRoom : 32 ≤ length weights
+  pub orderRoom : 1280 ≤ length orders
+
+-- an answer, and of an accepted book the tables
+pub record Judging (bytes places counts blocks weights orders : List ℕ) (expected r : Judged) : Type 0 where
+  pub answer : r ≡ expected
+  pub tables : (n : ℕ) → r ≡ Accepted n → Tables bytes places counts blocks weights orders

@@ -1,0 +1,136 @@
+// Judging a book: the first fault in the order written, or the number of its scopes; and the tables of an accepted book.
+use book::Fault;
+use book::Judged;
+use book::Scanned;
+use references::has_dangling;
+use references::has_shared;
+use scan::fill_tables;
+use scan::scan_records;
+use steps::block_order;
+use steps::fill_steps;
+use steps::fill_weights;
+use typing::has_mismatch;
+use typing::has_mixed;
+ghost use mathlib.Core.Path.{_≡_};
+ghost use lib.ListN.{length};
+ghost use Rattle.book.specs.Decode.{scopesOf};
+ghost use Rattle.book.specs.Judge.{wholeBook, faultNumber};
+ghost use Rattle.book.specs.Judge.{judge as Judge·judge};
+ghost use Rattle.scan.specs.Filling.{Ready};
+ghost use Rattle.judge.specs.Verdict.{Fresh, Room, Checked, Judging, orderFaults};
+
+// Faults 10 to 12, over calls and steps: fills the orders and the weights.
+fn judge_orders(
+    book: &[u8],
+    places: &[u16],
+    counts: &[u8],
+    scopes: usize,
+    blocks: &mut [u8],
+    weights: &mut [u16],
+    orders: &mut [u8],
+) -> Judged
+    requires { ⌜ Checked (now book) (now places) (now counts) scopes × Room (now blocks) (now weights) (now orders) ⌝ }
+    ensures { λ r.
+        ⌜ Judging (now (book .entry)) (now (places .entry)) (now (counts .entry)) (now (blocks .exit)) (now (weights .exit)) (now (orders .exit)) (orderFaults (scopesOf (now (book .entry)))) r ⌝ }
+{
+    if block_order(book, places, counts, scopes, blocks) != scopes {
+        return Judged::Refused(Fault::ScopeCycle);
+    }
+    if fill_weights(book, places, counts, blocks, scopes, weights) {
+        return Judged::Refused(Fault::WeightExceeded);
+    }
+    if fill_steps(book, places, counts, scopes, orders) {
+        return Judged::Refused(Fault::DependencyCycle);
+    }
+    Judged::Accepted(scopes)
+}
+
+// Faults 6 to 12 of a book whose records are sound, each over the whole book: fills all tables.
+fn judge_whole(
+    book: &[u8],
+    places: &mut [u16],
+    counts: &mut [u8],
+    blocks: &mut [u8],
+    weights: &mut [u16],
+    orders: &mut [u8],
+) -> Judged
+    requires { ⌜ Ready (now book) (now places) (now counts) × Room (now blocks) (now weights) (now orders) ⌝ }
+    ensures { λ r.
+        ⌜ Judging (now (book .entry)) (now (places .exit)) (now (counts .exit)) (now (blocks .exit)) (now (weights .exit)) (now (orders .exit)) (wholeBook (scopesOf (now (book .entry)))) r ⌝ }
+{
+    let scopes = fill_tables(book, places, counts);
+    if has_dangling(book, places, counts, scopes) {
+        return Judged::Refused(Fault::DanglingReference);
+    }
+    if has_shared(book, places, counts, scopes) {
+        return Judged::Refused(Fault::SharedNode);
+    }
+    if has_mismatch(book, places, counts, scopes) {
+        return Judged::Refused(Fault::TypeMismatch);
+    }
+    if has_mixed(book, places, counts, scopes) {
+        return Judged::Refused(Fault::MixedClauses);
+    }
+    judge_orders(book, places, counts, scopes, blocks, weights, orders)
+}
+
+// Judges a book, and fills the tables of an accepted one: they are lent empty.
+pub fn judge_into(
+    book: &[u8],
+    places: &mut [u16],
+    counts: &mut [u8],
+    blocks: &mut [u8],
+    weights: &mut [u16],
+    orders: &mut [u8],
+) -> Judged
+    requires { ⌜ Fresh (now places) (now counts) × Room (now blocks) (now weights) (now orders) ⌝ }
+    ensures { λ r.
+        ⌜ Judging (now (book .entry)) (now (places .exit)) (now (counts .exit)) (now (blocks .exit)) (now (weights .exit)) (now (orders .exit)) (Judge·judge (now (book .entry))) r ⌝ }
+{
+    if 32768 < book.len() {
+        return Judged::Refused(Fault::LimitExceeded);
+    }
+    match scan_records(book) {
+        Scanned::Sound => judge_whole(book, places, counts, blocks, weights, orders),
+        Scanned::Faulty(f) => Judged::Refused(f),
+    }
+}
+
+// Judges a book: accepted with the number of its scopes, or refused with the first fault.
+pub fn judge(book: &[u8]) -> Judged
+    ensures { λ r. ⌜ r ≡ Judge·judge (now (book .entry)) ⌝ }
+{
+    let mut places = [0u16; 13376];
+    let mut counts = [0u8; 128];
+    let mut blocks = [0u8; 32];
+    let mut weights = [0u16; 32];
+    let mut orders = [0u8; 1280];
+    judge_into(
+        book,
+        &mut places,
+        &mut counts,
+        &mut blocks,
+        &mut weights,
+        &mut orders,
+    )
+}
+
+// The paper's number of a fault.
+pub fn fault_number(f: Fault) -> u8
+    ensures { λ r. ⌜ r ≡ faultNumber f ⌝ }
+{
+    match f {
+        Fault::Truncated => 1,
+        Fault::UnknownKind => 2,
+        Fault::OutOfOrder => 3,
+        Fault::LimitExceeded => 4,
+        Fault::InvalidByte => 5,
+        Fault::DanglingReference => 6,
+        Fault::SharedNode => 7,
+        Fault::TypeMismatch => 8,
+        Fault::MixedClauses => 9,
+        Fault::ScopeCycle => 10,
+        Fault::WeightExceeded => 11,
+        Fault::DependencyCycle => 12,
+    }
+}

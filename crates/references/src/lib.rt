@@ -1,0 +1,427 @@
+// Faults of naming in a book: 6, a number that names nothing or what it may not, and 7, a node that is named more than once.
+use book::Clause;
+use book::Consequence;
+use book::Node;
+use book::Target;
+use book::clause_at;
+use book::clause_count;
+use book::node_at;
+use book::node_count;
+use book::sub_scope_at;
+use book::sub_scope_count;
+use book::variable_count;
+ghost use mathlib.Core.Path.{_≡_};
+ghost use mathlib.Core.List.{[], _∷_};
+ghost use lib.ListN.{length};
+ghost use lib.Dec.{ltb};
+ghost use Rattle.book.specs.Syntax.{sameTarget};
+ghost use Rattle.book.specs.Decode.{scopesOf};
+ghost use Rattle.book.specs.References.{scopeAt, namesCalled, namesException, nodeNames, namesTarget, namesParent, namesCondition, namesConsequence, clauseNames, danglesIn, dangles};
+ghost use Rattle.book.specs.Sharing.{unless255, operands, clauseNodes, shares};
+ghost use Rattle.book.specs.Tables.{Laid};
+ghost use Rattle.references.specs.Dangling.{bothBelow, defaultNames, subScopeDangles, nodeDangles, clauseDangles};
+ghost use Rattle.references.specs.Marks.{Marking, nodeNamings, clauseNamings, sharesIn};
+
+// Whether a number is below n.
+fn below(n: usize, a: u8) -> bool
+    ensures { λ r. ⌜ r ≡ ltb a n ⌝ }
+{
+    (a as usize) < n
+}
+
+// Whether two numbers are below n.
+fn both_below(n: usize, a: u8, b: u8) -> bool
+    ensures { λ r. ⌜ r ≡ bothBelow n a b ⌝ }
+{
+    if below(n, a) { below(n, b) } else { false }
+}
+
+// Whether scope i has sub-scope k, and the scope that it names has variable v.
+fn names_called(book: &[u8], places: &[u16], counts: &[u8], i: usize, k: u8, v: u8) -> bool
+    requires { ⌜ Laid (now book) (now places) (now counts) ⌝ }
+    ensures { λ r. ⌜ r ≡ namesCalled (scopesOf (now (book .entry))) (scopeAt (scopesOf (now (book .entry))) i) k v ⌝ }
+{
+    if below(sub_scope_count(book, places, counts, i), k) {
+        let called = sub_scope_at(book, places, counts, i, k as usize);
+        below(variable_count(book, places, counts, called), v)
+    } else {
+        false
+    }
+}
+
+// Whether an exception of node n is none, or a node of lower number.
+fn names_exception(n: usize, e: u8) -> bool
+    ensures { λ r. ⌜ r ≡ namesException n e ⌝ }
+{
+    if e == 255 { true } else { below(n, e) }
+}
+
+// Whether default n names only nodes of lower number.
+fn default_names(n: usize, x: u8, y: u8, z: u8, j: u8, c: u8) -> bool
+    ensures { λ r. ⌜ r ≡ defaultNames n x y z j c ⌝ }
+{
+    if !names_exception(n, x) {
+        return false;
+    }
+    if !names_exception(n, y) {
+        return false;
+    }
+    if !names_exception(n, z) {
+        return false;
+    }
+    both_below(n, j, c)
+}
+
+// Whether node n of scope i names only what it may.
+fn node_names(book: &[u8], places: &[u16], counts: &[u8], i: usize, n: usize, node: Node) -> bool
+    requires { ⌜ Laid (now book) (now places) (now counts) ⌝ }
+    ensures { λ r. ⌜ r ≡ nodeNames (scopesOf (now (book .entry))) (scopeAt (scopesOf (now (book .entry))) i) n node ⌝ }
+{
+    match node {
+        Node::Constant(_) => true,
+        Node::Number(_) => true,
+        Node::Own(v) => below(variable_count(book, places, counts, i), v),
+        Node::Called(k, v) => names_called(book, places, counts, i, k, v),
+        Node::Empty(_) => true,
+        Node::Conflict(_) => true,
+        Node::Unary(_, a) => below(n, a),
+        Node::Binary(_, a, b) => both_below(n, a, b),
+        Node::Choice(c, a, b) => {
+            if below(n, c) {
+                both_below(n, a, b)
+            } else {
+                false
+            }
+        }
+        Node::Default(x, y, z, j, c) => default_names(n, x, y, z, j, c),
+    }
+}
+
+// Whether two targets are one.
+fn same_target(a: Target, b: Target) -> bool
+    ensures { λ r. ⌜ r ≡ sameTarget a b ⌝ }
+{
+    if a.sub == b.sub {
+        a.variable == b.variable
+    } else {
+        false
+    }
+}
+
+// Whether a target is a variable of scope i or of one of its sub-scopes.
+fn names_target(book: &[u8], places: &[u16], counts: &[u8], i: usize, target: Target) -> bool
+    requires { ⌜ Laid (now book) (now places) (now counts) ⌝ }
+    ensures { λ r. ⌜ r ≡ namesTarget (scopesOf (now (book .entry))) (scopeAt (scopesOf (now (book .entry))) i) target ⌝ }
+{
+    let sub = target.sub;
+    let variable = target.variable;
+    if sub == 255 {
+        below(variable_count(book, places, counts, i), variable)
+    } else {
+        names_called(book, places, counts, i, sub, variable)
+    }
+}
+
+// Whether clause n of scope i has no parent, or one of lower number with the same target.
+fn names_parent(
+    book: &[u8],
+    places: &[u16],
+    counts: &[u8],
+    i: usize,
+    n: usize,
+    clause: Clause,
+) -> bool
+    requires { ⌜ Laid (now book) (now places) (now counts) ⌝ }
+    ensures { λ r. ⌜ r ≡ namesParent (scopeAt (scopesOf (now (book .entry))) i) n clause ⌝ }
+{
+    let p = clause.parent;
+    if p == 255 {
+        return true;
+    }
+    if below(n, p) {
+        let parent = clause_at(book, places, counts, i, p as usize);
+        let a = parent.target;
+        let b = clause.target;
+        same_target(a, b)
+    } else {
+        false
+    }
+}
+
+// Whether a condition in scope i is always, or a node.
+fn names_condition(book: &[u8], places: &[u16], counts: &[u8], i: usize, n: u8) -> bool
+    requires { ⌜ Laid (now book) (now places) (now counts) ⌝ }
+    ensures { λ r. ⌜ r ≡ namesCondition (scopeAt (scopesOf (now (book .entry))) i) n ⌝ }
+{
+    if n == 255 {
+        true
+    } else {
+        below(node_count(book, places, counts, i), n)
+    }
+}
+
+// Whether the consequence of a clause of scope i is a node, or a rule's.
+fn names_consequence(
+    book: &[u8],
+    places: &[u16],
+    counts: &[u8],
+    i: usize,
+    consequence: Consequence,
+) -> bool
+    requires { ⌜ Laid (now book) (now places) (now counts) ⌝ }
+    ensures { λ r. ⌜ r ≡ namesConsequence (scopeAt (scopesOf (now (book .entry))) i) consequence ⌝ }
+{
+    match consequence {
+        Consequence::Of(n) => below(node_count(book, places, counts, i), n),
+        Consequence::Fixed(_) => true,
+    }
+}
+
+// Whether clause n of scope i names only what it may.
+fn clause_names(
+    book: &[u8],
+    places: &[u16],
+    counts: &[u8],
+    i: usize,
+    n: usize,
+    clause: Clause,
+) -> bool
+    requires { ⌜ Laid (now book) (now places) (now counts) ⌝ }
+    ensures { λ r. ⌜ r ≡ clauseNames (scopesOf (now (book .entry))) (scopeAt (scopesOf (now (book .entry))) i) n clause ⌝ }
+{
+    let target = clause.target;
+    if !names_target(book, places, counts, i, target) {
+        return false;
+    }
+    if !names_parent(book, places, counts, i, n, clause) {
+        return false;
+    }
+    let condition = clause.condition;
+    if !names_condition(book, places, counts, i, condition) {
+        return false;
+    }
+    let consequence = clause.consequence;
+    names_consequence(book, places, counts, i, consequence)
+}
+
+// Whether some sub-scope of scope i names no scope.
+fn sub_scope_dangles(book: &[u8], places: &[u16], counts: &[u8], scopes: usize, i: usize) -> bool
+    requires { ⌜ Laid (now book) (now places) (now counts) ⌝ }
+    requires { ⌜ scopes ≡ length (scopesOf (now book)) ⌝ }
+    ensures { λ r. ⌜ r ≡ subScopeDangles (scopesOf (now (book .entry))) i ⌝ }
+{
+    let count = sub_scope_count(book, places, counts, i);
+    let mut k = 0;
+    while k < count {
+        if scopes <= sub_scope_at(book, places, counts, i, k) {
+            return true;
+        }
+        k += 1;
+    }
+    false
+}
+
+// Whether some node of scope i names what it may not.
+fn node_dangles(book: &[u8], places: &[u16], counts: &[u8], i: usize) -> bool
+    requires { ⌜ Laid (now book) (now places) (now counts) ⌝ }
+    ensures { λ r. ⌜ r ≡ nodeDangles (scopesOf (now (book .entry))) i ⌝ }
+{
+    let count = node_count(book, places, counts, i);
+    let mut n = 0;
+    while n < count {
+        let node = node_at(book, places, counts, i, n);
+        if !node_names(book, places, counts, i, n, node) {
+            return true;
+        }
+        n += 1;
+    }
+    false
+}
+
+// Whether some clause of scope i names what it may not.
+fn clause_dangles(book: &[u8], places: &[u16], counts: &[u8], i: usize) -> bool
+    requires { ⌜ Laid (now book) (now places) (now counts) ⌝ }
+    ensures { λ r. ⌜ r ≡ clauseDangles (scopesOf (now (book .entry))) i ⌝ }
+{
+    let count = clause_count(book, places, counts, i);
+    let mut n = 0;
+    while n < count {
+        let clause = clause_at(book, places, counts, i, n);
+        if !clause_names(book, places, counts, i, n, clause) {
+            return true;
+        }
+        n += 1;
+    }
+    false
+}
+
+// Whether something dangles in scope i.
+fn dangles_in(book: &[u8], places: &[u16], counts: &[u8], scopes: usize, i: usize) -> bool
+    requires { ⌜ Laid (now book) (now places) (now counts) ⌝ }
+    requires { ⌜ scopes ≡ length (scopesOf (now book)) ⌝ }
+    ensures { λ r. ⌜ r ≡ danglesIn (scopesOf (now (book .entry))) (scopeAt (scopesOf (now (book .entry))) i) ⌝ }
+{
+    if sub_scope_dangles(book, places, counts, scopes, i) {
+        return true;
+    }
+    if node_dangles(book, places, counts, i) {
+        return true;
+    }
+    clause_dangles(book, places, counts, i)
+}
+
+// Fault 6: whether something dangles in a book of so many scopes, by the tables of the book.
+pub fn has_dangling(book: &[u8], places: &[u16], counts: &[u8], scopes: usize) -> bool
+    requires { ⌜ Laid (now book) (now places) (now counts) ⌝ }
+    requires { ⌜ scopes ≡ length (scopesOf (now book)) ⌝ }
+    ensures { λ r. ⌜ r ≡ dangles (scopesOf (now (book .entry))) ⌝ }
+{
+    let mut i = 0;
+    while i < scopes {
+        if dangles_in(book, places, counts, scopes, i) {
+            return true;
+        }
+        i += 1;
+    }
+    false
+}
+
+// Marks a number, and says whether a number was met twice: so far, or by this one.
+fn mark(marks: &mut [u8], twice: bool, w: u8) -> bool
+    ensures { λ r. ⌜ Marking (w ∷ []) (now (marks .entry)) twice r (now (marks .exit)) ⌝ }
+{
+    let at = w as usize;
+    if marks.len() <= at {
+        return twice;
+    }
+    let before = marks[at];
+    marks[at] = 1;
+    if before == 0 { twice } else { true }
+}
+
+// Marks a number, unless it is 255: none, or always.
+fn mark_unless(marks: &mut [u8], twice: bool, w: u8) -> bool
+    ensures { λ r. ⌜ Marking (unless255 w []) (now (marks .entry)) twice r (now (marks .exit)) ⌝ }
+{
+    if w == 255 {
+        twice
+    } else {
+        mark(marks, twice, w)
+    }
+}
+
+// Marks the nodes that a node names.
+fn mark_operands(marks: &mut [u8], twice: bool, node: Node) -> bool
+    ensures { λ r. ⌜ Marking (operands node) (now (marks .entry)) twice r (now (marks .exit)) ⌝ }
+{
+    match node {
+        Node::Constant(_) => twice,
+        Node::Number(_) => twice,
+        Node::Own(_) => twice,
+        Node::Called(_, _) => twice,
+        Node::Empty(_) => twice,
+        Node::Conflict(_) => twice,
+        Node::Unary(_, a) => mark(marks, twice, a),
+        Node::Binary(_, a, b) => {
+            let first = mark(marks, twice, a);
+            mark(marks, first, b)
+        }
+        Node::Choice(c, a, b) => {
+            let first = mark(marks, twice, c);
+            let second = mark(marks, first, a);
+            mark(marks, second, b)
+        }
+        Node::Default(x, y, z, j, c) => {
+            let first = mark_unless(marks, twice, x);
+            let second = mark_unless(marks, first, y);
+            let third = mark_unless(marks, second, z);
+            let fourth = mark(marks, third, j);
+            mark(marks, fourth, c)
+        }
+    }
+}
+
+// Marks the nodes that a clause names.
+fn mark_clause(marks: &mut [u8], twice: bool, clause: Clause) -> bool
+    ensures { λ r. ⌜ Marking (clauseNodes clause) (now (marks .entry)) twice r (now (marks .exit)) ⌝ }
+{
+    let condition = clause.condition;
+    let first = mark_unless(marks, twice, condition);
+    let consequence = clause.consequence;
+    match consequence {
+        Consequence::Of(n) => mark(marks, first, n),
+        Consequence::Fixed(_) => first,
+    }
+}
+
+// Marks what the nodes of scope i name.
+fn mark_nodes(
+    book: &[u8],
+    places: &[u16],
+    counts: &[u8],
+    i: usize,
+    marks: &mut [u8],
+    twice: bool,
+) -> bool
+    requires { ⌜ Laid (now book) (now places) (now counts) ⌝ }
+    ensures { λ r. ⌜ Marking (nodeNamings (scopesOf (now (book .entry))) i) (now (marks .entry)) twice r (now (marks .exit)) ⌝ }
+{
+    let count = node_count(book, places, counts, i);
+    let mut found = twice;
+    let mut n = 0;
+    while n < count {
+        let node = node_at(book, places, counts, i, n);
+        found = mark_operands(marks, found, node);
+        n += 1;
+    }
+    found
+}
+
+// Marks what the clauses of scope i name.
+fn mark_clauses(
+    book: &[u8],
+    places: &[u16],
+    counts: &[u8],
+    i: usize,
+    marks: &mut [u8],
+    twice: bool,
+) -> bool
+    requires { ⌜ Laid (now book) (now places) (now counts) ⌝ }
+    ensures { λ r. ⌜ Marking (clauseNamings (scopesOf (now (book .entry))) i) (now (marks .entry)) twice r (now (marks .exit)) ⌝ }
+{
+    let count = clause_count(book, places, counts, i);
+    let mut found = twice;
+    let mut n = 0;
+    while n < count {
+        let clause = clause_at(book, places, counts, i, n);
+        found = mark_clause(marks, found, clause);
+        n += 1;
+    }
+    found
+}
+
+// Whether a node of scope i is named more than once.
+fn shares_in(book: &[u8], places: &[u16], counts: &[u8], i: usize) -> bool
+    requires { ⌜ Laid (now book) (now places) (now counts) ⌝ }
+    ensures { λ r. ⌜ r ≡ sharesIn (scopeAt (scopesOf (now (book .entry))) i) ⌝ }
+{
+    let mut marks = [0u8; 256];
+    let found = mark_nodes(book, places, counts, i, &mut marks, false);
+    mark_clauses(book, places, counts, i, &mut marks, found)
+}
+
+// Fault 7: whether a node is named more than once in a book of so many scopes, by the tables of the book.
+pub fn has_shared(book: &[u8], places: &[u16], counts: &[u8], scopes: usize) -> bool
+    requires { ⌜ Laid (now book) (now places) (now counts) ⌝ }
+    requires { ⌜ scopes ≡ length (scopesOf (now book)) ⌝ }
+    ensures { λ r. ⌜ r ≡ shares (scopesOf (now (book .entry))) ⌝ }
+{
+    let mut i = 0;
+    while i < scopes {
+        if shares_in(book, places, counts, i) {
+            return true;
+        }
+        i += 1;
+    }
+    false
+}

@@ -1,0 +1,8 @@
+mod Steps
+mod Sorts
+mod Cells
+mod Positions
+pub mod Limits
+mod Laying
+mod Filling
+mod Stores

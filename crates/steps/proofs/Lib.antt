@@ -1,0 +1,9 @@
+pub mod Equality
+pub mod Marking
+pub mod Orders
+pub mod Calls
+pub mod Weights
+pub mod Weighing
+pub mod Reading
+pub mod Clauses
+pub mod Rows

@@ -1,0 +1,28 @@
+-- What the passes over a book's tables rest on.
+use Prim.Native.Nat.{ℕ, _≤_}
+use mathlib.Core.Path.{_≡_}
+use mathlib.Core.Bool.{false}
+use mathlib.Core.List.{List}
+use lib.ListN.{length, take}
+use Rattle.book.specs.Syntax.{Scope}
+use Rattle.book.specs.Decode.{scopesOf}
+use Rattle.book.specs.References.{scopeAt, dangles}
+use Rattle.book.specs.Limits.{Within}
+use Rattle.book.specs.Scopes.{blocks}
+use Rattle.book.specs.Tables.{Laid}
+
+-- the tables are those of the book, and its scopes are within the limits
+pub record Tabled (bytes places counts : List ℕ) : Type 0 where
+  pub laid : Laid bytes places counts
+  pub within : Within (scopesOf bytes)
+
+-- the book has that many scopes, 32 at most
+pub record Scoped (bytes : List ℕ) (scopes : ℕ) : Type 0 where
+  pub count : scopes ≡ length (scopesOf bytes)
+  pub few : scopes ≤ 32
+
+-- no number dangles, and `order` begins with the blocks of all scopes
+pub record WholeOrder (bytes order : List ℕ) (scopes : ℕ) : Type 0 where
+  pub sound : dangles (scopesOf bytes) ≡ false
+  pub is : take scopes order ≡ blocks (scopesOf bytes)
+  pub all : length (blocks (scopesOf bytes)) ≡ scopes

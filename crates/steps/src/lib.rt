@@ -1,0 +1,304 @@
+// The order of a book's blocks, the weights of its scopes and the order of each scope's steps: faults 10, 11 and 12.
+use book::Clause;
+use book::Consequence;
+use book::Node;
+use book::clause_at;
+use book::clause_count;
+use book::node_at;
+use book::node_count;
+use book::sub_scope_at;
+use book::sub_scope_count;
+use book::variable_count;
+use order::Ordered;
+use order::fill_order;
+ghost use mathlib.Core.Path.{_≡_};
+ghost use Prim.Native.Nat.{_≤_};
+ghost use lib.ListN.{length};
+ghost use Rattle.order.specs.Order.{order};
+ghost use Rattle.order.specs.Matrix.{edgeOf};
+ghost use Rattle.book.specs.Decode.{scopesOf};
+ghost use Rattle.book.specs.Scopes.{calls, blocks};
+ghost use Rattle.book.specs.References.{scopeAt};
+ghost use Rattle.book.specs.Steps.{stepCount, dependsOn, stepOrder};
+ghost use Rattle.book.specs.Tables.{Laid};
+ghost use Rattle.steps.specs.Limits.{Scoped, Tabled, WholeOrder};
+ghost use Rattle.steps.specs.Edges.{oneEdge, callEdges, operandsOf, readBy, readEdges, stepWith, clauseEdges, Marked, CanMark};
+ghost use Rattle.steps.specs.Answers.{Written, StepsFilled, Weight, weightBy, Weighed};
+
+// The most vertices of a graph, and the bytes of a matrix's row.
+const WIDTH: usize = 40;
+
+// Marks that v depends on w. A number from 40 on is no vertex.
+fn mark(deps: &mut [u8], v: usize, w: usize)
+    requires { ⌜ length (now deps) ≡ 1600 ⌝ }
+    ensures { λ _. ⌜ Marked (now (deps .entry)) (now (deps .exit)) (oneEdge v w) ⌝ }
+{
+    if WIDTH <= v {
+        return;
+    }
+    if WIDTH <= w {
+        return;
+    }
+    deps[v * WIDTH + w] = 1;
+}
+
+// Marks the scopes that scope i calls.
+fn mark_calls(book: &[u8], places: &[u16], counts: &[u8], i: usize, deps: &mut [u8])
+    requires { ⌜ Laid (now book) (now places) (now counts) × (length (now deps) ≡ 1600) ⌝ }
+    ensures { λ _. ⌜ Marked (now (deps .entry)) (now (deps .exit)) (callEdges (scopesOf (now (book .entry))) i) ⌝ }
+{
+    let count = sub_scope_count(book, places, counts, i);
+    let mut k: usize = 0;
+    while k < count {
+        let called = sub_scope_at(book, places, counts, i, k);
+        mark(deps, i, called);
+        k += 1;
+    }
+}
+
+// Marks the calls of every scope.
+fn fill_calls(book: &[u8], places: &[u16], counts: &[u8], scopes: usize, deps: &mut [u8])
+    requires { ⌜ Laid (now book) (now places) (now counts) × Scoped (now book) scopes × (length (now deps) ≡ 1600) ⌝ }
+    ensures { λ _. ⌜ Marked (now (deps .entry)) (now (deps .exit)) (calls (scopesOf (now (book .entry)))) ⌝ }
+{
+    let mut i: usize = 0;
+    while i < scopes {
+        mark_calls(book, places, counts, i, deps);
+        i += 1;
+    }
+}
+
+// The order of n vertices, written from the first byte of `out`; no later byte changes. Answers its length.
+fn write_order(deps: &[u8], n: usize, out: &mut [u8]) -> usize
+    requires { ⌜ (n ≤ 40) × (length (now deps) ≡ 1600) × (n ≤ length (now out)) ⌝ }
+    ensures { λ r. ⌜ Written (order (edgeOf (now (deps .entry))) n) (now (out .entry)) r (now (out .exit)) ⌝ }
+{
+    match fill_order(deps, n, out) {
+        Ordered::Taken(k) => k,
+        Ordered::Unfit => 0,
+    }
+}
+
+// The order of the book's blocks, written from the first byte of `out`; no later byte changes. Answers its length: fewer than all
+// scopes exactly where there is a scope cycle.
+pub fn block_order(
+    book: &[u8],
+    places: &[u16],
+    counts: &[u8],
+    scopes: usize,
+    out: &mut [u8],
+) -> usize
+    requires { ⌜ Laid (now book) (now places) (now counts) × Scoped (now book) scopes × (32 ≤ length (now out)) ⌝ }
+    ensures { λ r. ⌜ Written (blocks (scopesOf (now (book .entry)))) (now (out .entry)) r (now (out .exit)) ⌝ }
+{
+    let mut deps = [0u8; 1600];
+    fill_calls(book, places, counts, scopes, &mut deps);
+    write_order(&deps, scopes, out)
+}
+
+// The weight at j, 0 past the end.
+fn weight_at(weights: &[u16], j: usize) -> usize
+    ensures { λ r. ⌜ Weight (now (weights .entry)) j r ⌝ }
+{
+    if j < weights.len() {
+        weights[j] as usize
+    } else {
+        0
+    }
+}
+
+// The weight of scope i, by those of the sub-scopes that it calls.
+fn weigh(book: &[u8], places: &[u16], counts: &[u8], i: usize, weights: &[u16]) -> usize
+    requires { ⌜ Tabled (now book) (now places) (now counts) ⌝ }
+    ensures { λ r. ⌜ r ≡ weightBy (now (weights .entry)) (scopeAt (scopesOf (now (book .entry))) i) ⌝ }
+{
+    let count = sub_scope_count(book, places, counts, i);
+    let mut total: usize = 1;
+    let mut k: usize = 0;
+    while k < count {
+        let called = sub_scope_at(book, places, counts, i, k);
+        total += weight_at(weights, called);
+        k += 1;
+    }
+    total
+}
+
+// The weights of all scopes, by their numbers, for an order of all blocks. Answers whether one is above 4,096, and stops there.
+pub fn fill_weights(
+    book: &[u8],
+    places: &[u16],
+    counts: &[u8],
+    blocks: &[u8],
+    scopes: usize,
+    weights: &mut [u16],
+) -> bool
+    requires { ⌜ Tabled (now book) (now places) (now counts) × Scoped (now book) scopes × WholeOrder (now book) (now blocks) scopes × (32 ≤ length (now weights)) ⌝ }
+    ensures { λ r. ⌜ Weighed (scopesOf (now (book .entry))) r (now (weights .exit)) ⌝ }
+{
+    let mut k: usize = 0;
+    while k < scopes {
+        let i = blocks[k] as usize;
+        let w = weigh(book, places, counts, i, weights);
+        if 4096 < w {
+            return true;
+        }
+        weights[i] = w as u16;
+        k += 1;
+    }
+    false
+}
+
+// The nodes that a node names, in five places: 255 where a place names none.
+fn operands_of(node: Node) -> [u8; 5]
+    ensures { λ r. ⌜ r ≡ operandsOf node ⌝ }
+{
+    match node {
+        Node::Constant(_) => [255, 255, 255, 255, 255],
+        Node::Number(_) => [255, 255, 255, 255, 255],
+        Node::Own(_) => [255, 255, 255, 255, 255],
+        Node::Called(_, _) => [255, 255, 255, 255, 255],
+        Node::Empty(_) => [255, 255, 255, 255, 255],
+        Node::Conflict(_) => [255, 255, 255, 255, 255],
+        Node::Unary(_, a) => [a, 255, 255, 255, 255],
+        Node::Binary(_, a, b) => [a, b, 255, 255, 255],
+        Node::Choice(c, a, b) => [c, a, b, 255, 255],
+        Node::Default(x, y, z, j, c) => [x, y, z, j, c],
+    }
+}
+
+// The step that a node itself reads, in a scope with some number of variables: 40 where it reads none.
+fn read_by(variables: usize, node: Node) -> usize
+    requires { ⌜ variables ≤ 32 ⌝ }
+    ensures { λ r. ⌜ r ≡ readBy variables node ⌝ }
+{
+    match node {
+        Node::Constant(_) => WIDTH,
+        Node::Number(_) => WIDTH,
+        Node::Own(x) => x as usize,
+        Node::Called(k, _) => variables + k as usize,
+        Node::Empty(_) => WIDTH,
+        Node::Conflict(_) => WIDTH,
+        Node::Unary(_, _) => WIDTH,
+        Node::Binary(_, _, _) => WIDTH,
+        Node::Choice(_, _, _) => WIDTH,
+        Node::Default(_, _, _, _, _) => WIDTH,
+    }
+}
+
+// Marks, in a row, what node n reads, with the nodes under it. Only nodes below the limit count.
+fn mark_reads(
+    book: &[u8],
+    places: &[u16],
+    counts: &[u8],
+    i: usize,
+    row: usize,
+    limit: usize,
+    n: u8,
+    deps: &mut [u8],
+)
+    requires { ⌜ CanMark (now book) (now places) (now counts) i limit (now deps) ⌝ }
+    ensures { λ _. ⌜ Marked (now (deps .entry)) (now (deps .exit)) (readEdges (scopesOf (now (book .entry))) i row limit n) ⌝ }
+{
+    let at = n as usize;
+    if limit <= at {
+        return;
+    }
+    let node = node_at(book, places, counts, i, at);
+    let variables = variable_count(book, places, counts, i);
+    let step = read_by(variables, node);
+    mark(deps, row, step);
+    let operands = operands_of(node);
+    let mut k: usize = 0;
+    while k < 5 {
+        mark_reads(book, places, counts, i, row, at, operands[k], deps);
+        k += 1;
+    }
+}
+
+// The step whose tree, or one of whose override trees, a clause belongs to, in a scope with some number of variables.
+fn step_with(variables: usize, clause: Clause) -> usize
+    requires { ⌜ variables ≤ 32 ⌝ }
+    ensures { λ r. ⌜ r ≡ stepWith variables clause ⌝ }
+{
+    let target = clause.target;
+    if target.sub == 255 {
+        target.variable as usize
+    } else {
+        variables + target.sub as usize
+    }
+}
+
+// Marks, in the row of its step, what clause c reads.
+fn mark_clause(book: &[u8], places: &[u16], counts: &[u8], i: usize, c: usize, deps: &mut [u8])
+    requires { ⌜ Tabled (now book) (now places) (now counts) × (length (now deps) ≡ 1600) ⌝ }
+    ensures { λ _. ⌜ Marked (now (deps .entry)) (now (deps .exit)) (clauseEdges (scopesOf (now (book .entry))) i c) ⌝ }
+{
+    let clause = clause_at(book, places, counts, i, c);
+    let variables = variable_count(book, places, counts, i);
+    let row = step_with(variables, clause);
+    let limit = node_count(book, places, counts, i);
+    mark_reads(book, places, counts, i, row, limit, clause.condition, deps);
+    let consequence = clause.consequence;
+    match consequence {
+        Consequence::Of(n) => mark_reads(book, places, counts, i, row, limit, n, deps),
+        Consequence::Fixed(_) => {}
+    }
+}
+
+// Marks what every step of scope i depends on.
+fn fill_reads(book: &[u8], places: &[u16], counts: &[u8], i: usize, deps: &mut [u8])
+    requires { ⌜ Tabled (now book) (now places) (now counts) × (length (now deps) ≡ 1600) ⌝ }
+    ensures { λ _. ⌜ Marked (now (deps .entry)) (now (deps .exit)) (dependsOn (scopeAt (scopesOf (now (book .entry))) i)) ⌝ }
+{
+    let count = clause_count(book, places, counts, i);
+    let mut c: usize = 0;
+    while c < count {
+        mark_clause(book, places, counts, i, c, deps);
+        c += 1;
+    }
+}
+
+// How many steps scope i has: one for each variable and for each sub-scope.
+fn step_count(book: &[u8], places: &[u16], counts: &[u8], i: usize) -> usize
+    requires { ⌜ Tabled (now book) (now places) (now counts) ⌝ }
+    ensures { λ r. ⌜ r ≡ stepCount (scopeAt (scopesOf (now (book .entry))) i) ⌝ }
+{
+    variable_count(book, places, counts, i) + sub_scope_count(book, places, counts, i)
+}
+
+// The order of scope i's steps, written from the first byte of `out`; no later byte changes. Answers its length: fewer than all steps
+// exactly where there is a dependency cycle.
+pub fn step_order(book: &[u8], places: &[u16], counts: &[u8], i: usize, out: &mut [u8]) -> usize
+    requires { ⌜ Tabled (now book) (now places) (now counts) × (40 ≤ length (now out)) ⌝ }
+    ensures { λ r. ⌜ Written (stepOrder (scopeAt (scopesOf (now (book .entry))) i)) (now (out .entry)) r (now (out .exit)) ⌝ }
+{
+    let mut deps = [0u8; 1600];
+    fill_reads(book, places, counts, i, &mut deps);
+    let steps = step_count(book, places, counts, i);
+    write_order(&deps, steps, out)
+}
+
+// The order of every scope's steps, in a row of 40 bytes for each scope. Answers whether some scope has a dependency cycle.
+pub fn fill_steps(
+    book: &[u8],
+    places: &[u16],
+    counts: &[u8],
+    scopes: usize,
+    orders: &mut [u8],
+) -> bool
+    requires { ⌜ Tabled (now book) (now places) (now counts) × Scoped (now book) scopes × (1280 ≤ length (now orders)) ⌝ }
+    ensures { λ r. ⌜ StepsFilled (scopesOf (now (book .entry))) r (now (orders .exit)) ⌝ }
+{
+    let mut i: usize = 0;
+    while i < scopes {
+        let a = i * WIDTH;
+        let e = a + WIDTH;
+        let taken = step_order(book, places, counts, i, &mut orders[a..e]);
+        let steps = step_count(book, places, counts, i);
+        if taken != steps {
+            return true;
+        }
+        i += 1;
+    }
+    false
+}

@@ -1,0 +1,4 @@
+mod Searching
+mod Table
+mod Targets
+mod Marking

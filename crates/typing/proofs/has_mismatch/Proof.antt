@@ -1,0 +1,60 @@
+-- `typing::has_mismatch` meets its contract. The invariant of its loop is `Sought`.
+-- Assumes nothing.
+use Prim.Native.Nat.{_-_}
+use native.Mathlib.Omega.{arith}
+use borrow.Author.Needs.{needs}
+use Rattle.book.specs.Syntax.{emptyScope}
+use Rattle.book.specs.Decode.{scopesOf}
+use Rattle.book.specs.Typing.{mismatchIn, mismatches}
+use Rattle.typing.specs.Types.{mismatchAt}
+use Rattle.typing.proofs.Searching.{Sought, start, turn, found, ended}
+use Rattle.typing.proofs.has_mismatch.Statement.{statement}
+use Rattle.typing.proofs.has_mismatch.Tie as tie
+
+abbrev Inv-loop : tie.InvT-loop
+Inv-loop book places counts scopes i₀ i = Sought (mismatchIn (scopesOf book)) (scopesOf book) i
+
+abbrev μ-loop : tie.MeasureT-loop
+μ-loop book places counts scopes i₀ i = scopes - i
+
+loop-holds : tie.Need-loop-holds Inv-loop μ-loop
+loop-holds c = start _ _
+
+mismatch-at-requires : tie.Need-mismatch-at-requires Inv-loop μ-loop
+mismatch-at-requires c κs = search needs
+
+returns : tie.Need-returns Inv-loop μ-loop
+unfolding mismatches mismatchAt
+returns c =
+    let few = rw (c .before .before .before .before .before .before .before .pre .1) at (c .before .before .loop-test .taken) in
+    found _ _ _ (c .before .before .before .loop .inv) emptyScope few (rw (← c .before .mismatch-at .ensures) (c .if1 .taken))
+
+add-i : tie.Need-add-i Inv-loop μ-loop
+add-i c = omega arith
+
+loop-less : tie.Need-loop-less Inv-loop μ-loop
+loop-less c = omega arith
+
+loop-again : tie.Need-loop-again Inv-loop μ-loop
+unfolding mismatchAt
+loop-again c =
+    let few = rw (c .before .before .before .before .before .before .before .pre .1) at (c .before .before .loop-test .taken) in
+    turn _ _ _ (c .before .before .before .loop .inv) emptyScope few (rw (← c .before .mismatch-at .ensures) (c .if1 .left))
+
+returns-2 : tie.Need-returns-2 Inv-loop μ-loop
+unfolding mismatches
+returns-2 c = ended _ _ _ (c .before .loop .inv) (rw (← c .before .before .before .before .before .pre .1) (c .loop-test .left))
+
+pub has-mismatch-spec : {M : Type 1} → statement M
+has-mismatch-spec =
+    tie.close
+    (tie.spec
+    Inv-loop
+    μ-loop
+    loop-holds
+    mismatch-at-requires
+    returns
+    add-i
+    loop-less
+    loop-again
+    returns-2)

@@ -1,0 +1,69 @@
+-- The types of a scope's nodes as a table of bytes, and what is asked of nodes and clauses by that table.
+use Prim.Native.Nat.{ℕ}
+use mathlib.Core.Bool.{Bool, not, cond}
+use mathlib.Core.List.{List}
+use lib.ListN.{getD}
+use lib.Dec.{eqb}
+use Rattle.book.specs.Lists.{any}
+use Rattle.book.specs.Syntax.{Scope}
+use Rattle.book.specs.References.{scopeAt}
+use Rattle.book.specs.Typing.{typeAt, calledTypeAt, targetType, nodeType, exceptionFits, nodeFits, consequenceType, clauseFits, mismatchIn}
+use Rattle.book.specs.declared.ValueType.{ValueType}
+use Rattle.book.specs.declared.ValueType.the-variants.{YesNo, Numeric}
+use Rattle.book.specs.declared.Node.{Node}
+use Rattle.book.specs.declared.Consequence.{Consequence}
+use Rattle.book.specs.declared.Target.{Target}
+use Rattle.book.specs.declared.Clause.{Clause}
+
+-- a type as a byte
+unfoldable pub byteOf : ValueType → ℕ
+byteOf YesNo = 0
+byteOf Numeric = 1
+
+-- the type that a table has for node n; yes/no for a node that it does not have
+unfoldable pub typeIn : List ℕ → ℕ → ValueType
+typeIn types n = cond (eqb (getD types n 0) 0) YesNo Numeric
+
+-- the type of variable v of scope i
+unfoldable pub ownType : List Scope → ℕ → ℕ → ValueType
+ownType book i v = typeAt (scopeAt book i) v
+
+-- the type of variable v of sub-scope k of scope i
+unfoldable pub calledType : List Scope → ℕ → ℕ → ℕ → ValueType
+calledType book i k v = calledTypeAt book (scopeAt book i) k v
+
+-- the type of a target of scope i
+unfoldable pub typeOfTarget : List Scope → ℕ → Target → ValueType
+typeOfTarget book i t = targetType book (scopeAt book i) t
+
+-- the type of a node of scope i, the table having those of lower nodes
+unfoldable pub typeOver : List Scope → ℕ → List ℕ → Node → ValueType
+typeOver book i types x = nodeType book (scopeAt book i) (typeIn types) x
+
+-- "255: none", or a node of this type
+unfoldable pub namedFits : List ℕ → ValueType → ℕ → Bool
+namedFits types t n = exceptionFits (typeIn types) t n
+
+-- the type of a clause's consequence
+unfoldable pub typeOfConsequence : List ℕ → Consequence → ValueType
+typeOfConsequence types q = consequenceType (typeIn types) q
+
+-- a node's operands have the types that it takes
+unfoldable pub nodeSuits : List ℕ → Node → Bool
+nodeSuits types x = nodeFits (typeIn types) x
+
+-- a clause of scope i has a yes/no condition and a consequence of its target's type
+unfoldable pub clauseSuits : List Scope → ℕ → List ℕ → Clause → Bool
+clauseSuits book i types c = clauseFits book (scopeAt book i) (typeIn types) c
+
+-- some node of scope i does not fit
+unfoldable pub nodeMisfits : List Scope → ℕ → List ℕ → Bool
+nodeMisfits book i types = any (λ x. not (nodeSuits types x)) (scopeAt book i .nodes)
+
+-- some clause of scope i does not fit
+unfoldable pub clauseMisfits : List Scope → ℕ → List ℕ → Bool
+clauseMisfits book i types = any (λ c. not (clauseSuits book i types c)) (scopeAt book i .clauses)
+
+-- some node or clause of scope i does not fit
+unfoldable pub mismatchAt : List Scope → ℕ → Bool
+mismatchAt book i = mismatchIn book (scopeAt book i)

@@ -1,0 +1,370 @@
+// Faults 8 and 9: a type that does not fit, and a rule and a definition on one target.
+use book::Clause;
+use book::Consequence;
+use book::Node;
+use book::Target;
+use book::ValueType;
+use book::clause_at;
+use book::clause_count;
+use book::node_at;
+use book::node_count;
+use book::sub_scope_at;
+use book::variable_at;
+use calculus::Binary;
+use calculus::Unary;
+use record::byte_at;
+ghost use mathlib.Core.Path.{_≡_};
+ghost use mathlib.Core.Bool.{false};
+ghost use lib.ListN.{length};
+ghost use Rattle.book.specs.Syntax.{sameType};
+ghost use Rattle.book.specs.Decode.{scopesOf};
+ghost use Rattle.book.specs.Typing.{unaryType, binaryType, operandType, mismatches};
+ghost use Rattle.book.specs.References.{dangles};
+ghost use Rattle.book.specs.Mixing.{mixes};
+ghost use Rattle.book.specs.Tables.{Laid};
+ghost use Rattle.book.specs.Limits.{Within};
+ghost use Rattle.typing.specs.Marks.{slotOf, markOf, mixedAt};
+ghost use Rattle.typing.specs.Types.{byteOf, typeIn, ownType, calledType, typeOfTarget, typeOver, namedFits};
+ghost use Rattle.typing.specs.Types.{typeOfConsequence, nodeSuits, clauseSuits, nodeMisfits, clauseMisfits, mismatchAt};
+
+// A type as a byte.
+fn byte_of(t: ValueType) -> u8
+    ensures { λ r. ⌜ r ≡ byteOf t ⌝ }
+{
+    match t {
+        ValueType::YesNo => 0,
+        ValueType::Numeric => 1,
+    }
+}
+
+// The type that a table of bytes has for a node.
+fn type_in(types: &[u8], n: u8) -> ValueType
+    ensures { λ r. ⌜ r ≡ typeIn (now (types .entry)) n ⌝ }
+{
+    if byte_at(types, n as usize) == 0 {
+        ValueType::YesNo
+    } else {
+        ValueType::Numeric
+    }
+}
+
+fn same_type(a: ValueType, b: ValueType) -> bool
+    ensures { λ r. ⌜ r ≡ sameType a b ⌝ }
+{
+    match a {
+        ValueType::YesNo => match b {
+            ValueType::YesNo => true,
+            ValueType::Numeric => false,
+        },
+        ValueType::Numeric => match b {
+            ValueType::YesNo => false,
+            ValueType::Numeric => true,
+        },
+    }
+}
+
+// What a unary operator takes and gives.
+fn unary_type(op: Unary) -> ValueType
+    ensures { λ r. ⌜ r ≡ unaryType op ⌝ }
+{
+    match op {
+        Unary::Not => ValueType::YesNo,
+        Unary::Negate => ValueType::Numeric,
+    }
+}
+
+// What a binary operator gives.
+fn binary_type(op: Binary) -> ValueType
+    ensures { λ r. ⌜ r ≡ binaryType op ⌝ }
+{
+    match op {
+        Binary::And => ValueType::YesNo,
+        Binary::Add => ValueType::Numeric,
+        Binary::Subtract => ValueType::Numeric,
+        Binary::Equal => ValueType::YesNo,
+        Binary::Less => ValueType::YesNo,
+    }
+}
+
+// What a binary operator takes, its left operand's type given.
+fn operand_type(op: Binary, left: ValueType) -> ValueType
+    ensures { λ r. ⌜ r ≡ operandType op left ⌝ }
+{
+    match op {
+        Binary::And => ValueType::YesNo,
+        Binary::Add => ValueType::Numeric,
+        Binary::Subtract => ValueType::Numeric,
+        Binary::Equal => left,
+        Binary::Less => ValueType::Numeric,
+    }
+}
+
+// The type of variable v of scope i.
+fn own_type(book: &[u8], places: &[u16], counts: &[u8], i: usize, v: u8) -> ValueType
+    requires { ⌜ Laid (now book) (now places) (now counts) ⌝ }
+    ensures { λ r. ⌜ r ≡ ownType (scopesOf (now (book .entry))) i v ⌝ }
+{
+    let variable = variable_at(book, places, counts, i, v as usize);
+    variable.holds
+}
+
+// The type of variable v of sub-scope k of scope i.
+fn called_type(book: &[u8], places: &[u16], counts: &[u8], i: usize, k: u8, v: u8) -> ValueType
+    requires { ⌜ Laid (now book) (now places) (now counts) ⌝ }
+    ensures { λ r. ⌜ r ≡ calledType (scopesOf (now (book .entry))) i k v ⌝ }
+{
+    own_type(
+        book,
+        places,
+        counts,
+        sub_scope_at(book, places, counts, i, k as usize),
+        v,
+    )
+}
+
+// The type of a target of scope i.
+fn target_type(book: &[u8], places: &[u16], counts: &[u8], i: usize, target: Target) -> ValueType
+    requires { ⌜ Laid (now book) (now places) (now counts) ⌝ }
+    ensures { λ r. ⌜ r ≡ typeOfTarget (scopesOf (now (book .entry))) i target ⌝ }
+{
+    let sub = target.sub;
+    let variable = target.variable;
+    if sub == 255 {
+        own_type(book, places, counts, i, variable)
+    } else {
+        called_type(book, places, counts, i, sub, variable)
+    }
+}
+
+// The type of a node of scope i, the table having those of lower nodes.
+fn type_over(
+    book: &[u8],
+    places: &[u16],
+    counts: &[u8],
+    i: usize,
+    types: &[u8],
+    node: Node,
+) -> ValueType
+    requires { ⌜ Laid (now book) (now places) (now counts) ⌝ }
+    ensures { λ r. ⌜ r ≡ typeOver (scopesOf (now (book .entry))) i (now (types .entry)) node ⌝ }
+{
+    match node {
+        Node::Constant(_) => ValueType::YesNo,
+        Node::Number(_) => ValueType::Numeric,
+        Node::Own(v) => own_type(book, places, counts, i, v),
+        Node::Called(k, v) => called_type(book, places, counts, i, k, v),
+        Node::Empty(t) => t,
+        Node::Conflict(t) => t,
+        Node::Unary(op, _) => unary_type(op),
+        Node::Binary(op, _, _) => binary_type(op),
+        Node::Choice(_, a, _) => type_in(types, a),
+        Node::Default(_, _, _, _, c) => type_in(types, c),
+    }
+}
+
+// Whether a number is 255, none, or a node of this type.
+fn named_fits(types: &[u8], t: ValueType, n: u8) -> bool
+    ensures { λ r. ⌜ r ≡ namedFits (now (types .entry)) t n ⌝ }
+{
+    if n == 255 {
+        return true;
+    }
+    same_type(type_in(types, n), t)
+}
+
+// Whether a node's operands have the types that it takes.
+fn node_suits(types: &[u8], node: Node) -> bool
+    ensures { λ r. ⌜ r ≡ nodeSuits (now (types .entry)) node ⌝ }
+{
+    match node {
+        Node::Constant(_) => true,
+        Node::Number(_) => true,
+        Node::Own(_) => true,
+        Node::Called(_, _) => true,
+        Node::Empty(_) => true,
+        Node::Conflict(_) => true,
+        Node::Unary(op, a) => same_type(type_in(types, a), unary_type(op)),
+        Node::Binary(op, a, b) => {
+            let left = type_in(types, a);
+            let t = operand_type(op, left);
+            same_type(left, t) & same_type(type_in(types, b), t)
+        }
+        Node::Choice(c, a, b) => {
+            same_type(type_in(types, c), ValueType::YesNo)
+                & same_type(type_in(types, b), type_in(types, a))
+        }
+        Node::Default(x, y, z, j, c) => {
+            let t = type_in(types, c);
+            let justified = same_type(type_in(types, j), ValueType::YesNo);
+            named_fits(types, t, x)
+                & (named_fits(types, t, y) & (named_fits(types, t, z) & justified))
+        }
+    }
+}
+
+// The type of a clause's consequence.
+fn consequence_type(types: &[u8], consequence: Consequence) -> ValueType
+    ensures { λ r. ⌜ r ≡ typeOfConsequence (now (types .entry)) consequence ⌝ }
+{
+    match consequence {
+        Consequence::Of(n) => type_in(types, n),
+        Consequence::Fixed(_) => ValueType::YesNo,
+    }
+}
+
+// Whether a clause of scope i has a yes/no condition and a consequence of its target's type.
+fn clause_suits(
+    book: &[u8],
+    places: &[u16],
+    counts: &[u8],
+    i: usize,
+    types: &[u8],
+    clause: Clause,
+) -> bool
+    requires { ⌜ Laid (now book) (now places) (now counts) ⌝ }
+    ensures { λ r. ⌜ r ≡ clauseSuits (scopesOf (now (book .entry))) i (now (types .entry)) clause ⌝ }
+{
+    let target = clause.target;
+    let condition = clause.condition;
+    let consequence = clause.consequence;
+    let given = consequence_type(types, consequence);
+    let wanted = target_type(book, places, counts, i, target);
+    named_fits(types, ValueType::YesNo, condition) & same_type(given, wanted)
+}
+
+// Whether some node of scope i does not fit.
+fn node_misfits(book: &[u8], places: &[u16], counts: &[u8], i: usize, types: &[u8]) -> bool
+    requires { ⌜ Laid (now book) (now places) (now counts) ⌝ }
+    ensures { λ r. ⌜ r ≡ nodeMisfits (scopesOf (now (book .entry))) i (now (types .entry)) ⌝ }
+{
+    let count = node_count(book, places, counts, i);
+    let mut n: usize = 0;
+    while n < count {
+        let node = node_at(book, places, counts, i, n);
+        if !node_suits(types, node) {
+            return true;
+        }
+        n += 1;
+    }
+    false
+}
+
+// Whether some clause of scope i does not fit.
+fn clause_misfits(book: &[u8], places: &[u16], counts: &[u8], i: usize, types: &[u8]) -> bool
+    requires { ⌜ Laid (now book) (now places) (now counts) ⌝ }
+    ensures { λ r. ⌜ r ≡ clauseMisfits (scopesOf (now (book .entry))) i (now (types .entry)) ⌝ }
+{
+    let count = clause_count(book, places, counts, i);
+    let mut n: usize = 0;
+    while n < count {
+        let clause = clause_at(book, places, counts, i, n);
+        if !clause_suits(book, places, counts, i, types, clause) {
+            return true;
+        }
+        n += 1;
+    }
+    false
+}
+
+// Whether some node or clause of scope i does not fit. The types of its nodes are found in number order, and kept as bytes.
+fn mismatch_at(book: &[u8], places: &[u16], counts: &[u8], i: usize) -> bool
+    requires { ⌜ Laid (now book) (now places) (now counts) ⌝ }
+    ensures { λ r. ⌜ r ≡ mismatchAt (scopesOf (now (book .entry))) i ⌝ }
+{
+    let mut types = [0u8; 256];
+    let count = node_count(book, places, counts, i);
+    let mut n: usize = 0;
+    while n < count {
+        let node = node_at(book, places, counts, i, n);
+        let t = type_over(book, places, counts, i, &types, node);
+        types[n] = byte_of(t);
+        n += 1;
+    }
+    if node_misfits(book, places, counts, i, &types) {
+        return true;
+    }
+    clause_misfits(book, places, counts, i, &types)
+}
+
+// Fault 8: whether a type does not fit somewhere in a book of so many scopes.
+pub fn has_mismatch(book: &[u8], places: &[u16], counts: &[u8], scopes: usize) -> bool
+    requires { ⌜ Laid (now book) (now places) (now counts) ⌝ ∗ ⌜ scopes ≡ length (scopesOf (now book)) ⌝ }
+    ensures { λ r. ⌜ r ≡ mismatches (scopesOf (now (book .entry))) ⌝ }
+{
+    let mut i: usize = 0;
+    while i < scopes {
+        if mismatch_at(book, places, counts, i) {
+            return true;
+        }
+        i += 1;
+    }
+    false
+}
+
+// The place of a target's mark: 32 for the own variables, then 32 for each sub-scope.
+fn slot_of(target: Target) -> usize
+    ensures { λ r. ⌜ r ≡ slotOf target ⌝ }
+{
+    let sub = target.sub;
+    let variable = target.variable;
+    if sub == 255 {
+        variable as usize
+    } else {
+        sub as usize * 32 + variable as usize + 32
+    }
+}
+
+// A definition's mark, or a rule's.
+fn mark_of(consequence: Consequence) -> u8
+    ensures { λ r. ⌜ r ≡ markOf consequence ⌝ }
+{
+    match consequence {
+        Consequence::Of(_) => 1,
+        Consequence::Fixed(_) => 2,
+    }
+}
+
+// Whether a rule and a definition of scope i have one target: each clause marks its target, unless it finds the other mark there.
+fn mixed_at(book: &[u8], places: &[u16], counts: &[u8], i: usize) -> bool
+    requires { ⌜ Laid (now book) (now places) (now counts) ⌝
+        ∗ ⌜ dangles (scopesOf (now book)) ≡ false ⌝
+        ∗ ⌜ Within (scopesOf (now book)) ⌝ }
+    ensures { λ r. ⌜ r ≡ mixedAt (scopesOf (now (book .entry))) i ⌝ }
+{
+    let mut seen = [0u8; 288];
+    let count = clause_count(book, places, counts, i);
+    let mut n: usize = 0;
+    while n < count {
+        let clause = clause_at(book, places, counts, i, n);
+        let target = clause.target;
+        let consequence = clause.consequence;
+        let at = slot_of(target);
+        let mark = mark_of(consequence);
+        if seen[at] != 0 {
+            if seen[at] != mark {
+                return true;
+            }
+        }
+        seen[at] = mark;
+        n += 1;
+    }
+    false
+}
+
+// Fault 9: whether a rule and a definition have one target in a scope of a book of so many scopes.
+pub fn has_mixed(book: &[u8], places: &[u16], counts: &[u8], scopes: usize) -> bool
+    requires { ⌜ Laid (now book) (now places) (now counts) ⌝
+        ∗ ⌜ scopes ≡ length (scopesOf (now book)) ⌝
+        ∗ ⌜ dangles (scopesOf (now book)) ≡ false ⌝
+        ∗ ⌜ Within (scopesOf (now book)) ⌝ }
+    ensures { λ r. ⌜ r ≡ mixes (scopesOf (now (book .entry))) ⌝ }
+{
+    let mut i: usize = 0;
+    while i < scopes {
+        if mixed_at(book, places, counts, i) {
+            return true;
+        }
+        i += 1;
+    }
+    false
+}
