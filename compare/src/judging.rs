@@ -14,7 +14,8 @@ fn shown(answer: Result<usize, u8>) -> String {
 
 fn compare(tally: &mut Tally, bytes: &[u8], label: &str) {
     let (ours, theirs) = (engine::judge(bytes), second::judge(bytes));
-    let difference = || format!("{label}: engine {ours:?}, second program {theirs:?}: {bytes:02x?}");
+    let difference =
+        || format!("{label}: engine {ours:?}, second program {theirs:?}: {bytes:02x?}");
     let agreed = (ours == theirs).then_some(()).ok_or_else(difference);
     tally.count(&shown(theirs), agreed);
 }
@@ -26,7 +27,11 @@ pub fn run(random: u64) -> bool {
         compare(&mut tally, &case.bytes, case.label);
     }
     for seed in 0..random {
-        compare(&mut tally, &cases::case(seed).bytes, &format!("seed {seed}"));
+        compare(
+            &mut tally,
+            &cases::case(seed).bytes,
+            &format!("seed {seed}"),
+        );
     }
     tally.expect_met("accepted");
     (1..=12).for_each(|refusal| tally.expect_met(&format!("refused {refusal}")));

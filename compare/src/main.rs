@@ -1,5 +1,6 @@
 //! Compares the proved engine with the second program.
 
+mod bench;
 mod engine;
 mod judging;
 mod runs;
@@ -7,7 +8,7 @@ mod tally;
 
 use std::process::ExitCode;
 
-const USAGE: &str = "compare judge CASES | compare runs PROGRAM STACK_KIB FILE";
+const USAGE: &str = "compare judge CASES | compare runs PROGRAM STACK_KIB FILE | compare bench";
 
 fn main() -> ExitCode {
     let words: Vec<String> = std::env::args().skip(1).collect();
@@ -15,6 +16,7 @@ fn main() -> ExitCode {
     let agreed = match words[..] {
         ["judge", cases] => judging::run(cases.parse().expect(USAGE)),
         ["runs", program, stack, file] => runs::run(program, stack.parse().expect(USAGE), file),
+        ["bench"] => bench::run(),
         _ => {
             eprintln!("{USAGE}");
             false

@@ -11,7 +11,10 @@ fn bytes(text: &str) -> Vec<u8> {
     if let Some(label) = text.strip_prefix('"').and_then(|t| t.strip_suffix('"')) {
         let all = cases::fixed();
         let case = all.iter().find(|case| case.label == label);
-        return case.unwrap_or_else(|| panic!("no fixed case {label}")).bytes.clone();
+        return case
+            .unwrap_or_else(|| panic!("no fixed case {label}"))
+            .bytes
+            .clone();
     }
     let digits: Vec<u8> = text.bytes().filter(|b| *b != b' ' && *b != b'-').collect();
     digits
@@ -46,11 +49,17 @@ fn output(program: &str, stack: usize, input: &[u8]) -> String {
 pub fn run(program: &str, stack: usize, file: &str) -> bool {
     let mut tally = Tally::default();
     let text = std::fs::read_to_string(file).expect("the file of runs");
-    for line in text.lines().filter(|l| !l.is_empty() && !l.starts_with('#')) {
+    for line in text
+        .lines()
+        .filter(|l| !l.is_empty() && !l.starts_with('#'))
+    {
         let (input, expected) = line.split_once(" = ").expect("input = output");
         let found = output(program, stack, &bytes(input.trim()));
         let difference = || format!("{input}: {expected} expected, {found} written");
-        tally.count(expected, (found == expected).then_some(()).ok_or_else(difference));
+        tally.count(
+            expected,
+            (found == expected).then_some(()).ok_or_else(difference),
+        );
     }
     tally.finish()
 }

@@ -1,0 +1,60 @@
+//! Time a call, the engine's and the second program's, on named books, in one run.
+
+use crate::engine;
+use second::cases;
+use std::hint::black_box;
+use std::time::Instant;
+
+/// Microseconds of one call: the best of several rounds.
+fn time(mut call: impl FnMut()) -> f64 {
+    let rounds = (0..7).map(|_| {
+        let (start, mut calls) = (Instant::now(), 0u32);
+        while start.elapsed().as_millis() < 30 {
+            call();
+            calls += 1;
+        }
+        start.elapsed().as_secs_f64() * 1e6 / f64::from(calls)
+    });
+    rounds.fold(f64::INFINITY, f64::min)
+}
+
+fn line(service: &str, book: &str, engine: f64, second: f64) {
+    let ratio = engine / second;
+    println!("{service:<10} {book:<40} {engine:>10.2} {second:>10.2} {ratio:>8.2}");
+}
+
+/// The smallest worked example of the specification, and fixed cases by name.
+fn books() -> Vec<(String, Vec<u8>)> {
+    let text = "010202020105004593C00601050022C9E013FF00FFFF0013FF00000102";
+    let byte = |at: usize| u8::from_str_radix(&text[at..at + 2], 16).expect("hexadecimal");
+    let paper = (0..text.len()).step_by(2).map(byte).collect();
+    let mut books = vec![("the paper's 29 bytes".to_string(), paper)];
+    for name in [
+        "wide scope",
+        "32,768 bytes",
+        "weight 4,096",
+        "250 nested nodes",
+    ] {
+        let all = cases::fixed();
+        let case = all.iter().find(|case| case.label == name);
+        books.push((name.to_string(), case.expect("a fixed case").bytes.clone()));
+    }
+    books
+}
+
+pub fn run() -> bool {
+    println!(
+        "{:<10} {:<40} {:>10} {:>10} {:>8}",
+        "service", "book", "engine us", "second us", "ratio"
+    );
+    for (name, book) in books() {
+        let ours = time(|| {
+            let _ = black_box(engine::judge(black_box(&book)));
+        });
+        let theirs = time(|| {
+            let _ = black_box(second::judge(black_box(&book)));
+        });
+        line("judge", &name, ours, theirs);
+    }
+    true
+}

@@ -1,0 +1,161 @@
+-- What a good list gives.
+--     good-number  a good list says of each variable whether it is given
+--     good-typed   what is given has its variable's type
+--     good-short   a good list has at most 6 bytes a variable
+-- Assumes nothing.
+use Prim.Native.Nat.{ℕ, zero, suc, _+_, _*_, _≤_, _<_}
+use mathlib.Core.Path.{_≡_, refl, sym, ap, _∙_}
+use mathlib.Core.Bool.{Bool, true, false, false≢true, cond}
+use mathlib.Core.List.{List, [], _∷_, map}
+use mathlib.Core.Logic.{⊎-elim}
+use native.Mathlib.Omega.{arith}
+use lib.ListN.{length, getD, set, length-set, length-map, List·getD-map}
+use lib.Seq.{getD-set-same, getD-set-other}
+use lib.Dec.{eqb}
+use borrow.Author.Tests.{eqb-true, eqb-false}
+use Rattle.calculus.specs.declared.Value.{Value}
+use Rattle.calculus.specs.declared.Given.{Given}
+use Rattle.calculus.specs.declared.Given.the-variants.{Absent, Present}
+use Rattle.order.proofs.Booleans.{decide}
+use Rattle.book.specs.Syntax.{sameType}
+use Rattle.book.specs.declared.ValueType.{ValueType}
+use Rattle.book.specs.declared.ValueType.the-variants.{YesNo, Numeric}
+use Rattle.book.specs.declared.Variable.{Variable}
+use Rattle.lists.specs.Inputs.{Inputs, bad, good, inputLength, inputType, inputValue, isGiven, badRecord, inputsFrom, inputs}
+use Rattle.lists.specs.Writing.{valueType}
+use Rattle.lists.proofs.Reading.{Fine, fine}
+
+-- Types
+
+abbrev typeAt : List Variable → ℕ → ValueType
+typeAt variables v = getD variables v (record { holds = YesNo }) .holds
+
+-- what is given has its variable's type
+record Suited (variables : List Variable) (gs : List Given) : Type 0 where
+  number : length gs ≡ length variables
+  typed : (v : ℕ) (x : Value) → getD gs v Absent ≡ Present x → valueType x ≡ typeAt variables v
+
+same-type : (s t : ValueType) → sameType s t ≡ true → s ≡ t
+same-type YesNo YesNo e = refl
+same-type YesNo Numeric e = absurd (false≢true e)
+same-type Numeric YesNo e = absurd (false≢true e)
+same-type Numeric Numeric e = refl
+
+value-type : (k : ℕ) (rest : List ℕ) → valueType (inputValue k rest) ≡ inputType k
+value-type k rest = ⊎-elim (λ q. rw q) (λ q. rw q) (decide (eqb k 1))
+
+-- the variables before any record
+none-given : (variables : List Variable) → Suited variables (map (λ v. Absent) variables)
+none-given variables =
+    record {
+      number = length-map variables (λ v. Absent);
+      typed =
+          λ v x e.
+          let none = List·getD-map (λ (y : Variable). Absent) variables v (record { holds = YesNo }) in
+          let z : _≡_ {A = ℕ} 0 1 = cc in
+          absurd (omega arith);
+    }
+
+-- one record more
+one-given : (variables : List Variable) (gs : List Given) (k : ℕ) (rest : List ℕ) → Fine variables gs k rest → Suited variables gs
+    → Suited variables (set gs (getD rest 0 0) (Present (inputValue k rest)))
+one-given variables gs k rest f h =
+    let u = getD rest 0 0 in
+    let g = Present (inputValue k rest) in
+    record {
+      number = length-set gs u g ∙ h .number;
+      typed =
+          λ v x e.
+          ⊎-elim
+          (λ q.
+          let same : v ≡ u = eqb-true v u q in
+          let here : getD (set gs u g) u Absent ≡ g = getD-set-same gs u g Absent (rw (h .number) (f .known)) in
+          let p : getD (set gs u g) u Absent ≡ Present x = ap (λ (w : ℕ). getD (set gs u g) w Absent) (sym same) ∙ e in
+          let y : inputValue k rest ≡ x = cc in
+          rw (same, ← y) (value-type k rest ∙ same-type (inputType k) (typeAt variables u) (f .typed)))
+          (λ q. h .typed v x (sym (getD-set-other gs u v g Absent (eqb-false v u q)) ∙ e))
+          (decide (eqb v u));
+    }
+
+-- a record: the rest of the list after it, where the list is good
+module _ (variables : List Variable) (k : ℕ) (rest : List ℕ) (gs end : List Given) where
+  abbrev after : Inputs
+  after = inputsFrom variables rest (inputLength k) (set gs (getD rest 0 0) (Present (inputValue k rest)))
+
+  passed : cond (badRecord variables gs k rest) bad after ≡ good end → (Fine variables gs k rest) × (after ≡ good end)
+  passed e =
+      ⊎-elim
+      (λ q. let b = rw q at e in let z : _≡_ {A = ℕ} 0 1 = cc in absurd (omega arith))
+      (λ q. (fine variables gs k rest q, rw q at e))
+      (decide (badRecord variables gs k rest))
+
+suited-from : (variables : List Variable) (bytes : List ℕ) (n : ℕ) (gs end : List Given) → Suited variables gs → inputsFrom variables bytes n gs ≡ good end
+    → Suited variables end
+unfolding inputsFrom
+suited-from variables [] n gs end h e = let p : gs ≡ end = cc in rw (← p) h
+suited-from variables (k ∷ rest) zero gs end h e =
+    let p = passed variables k rest gs end e in
+    suited-from variables rest (inputLength k) (set gs (getD rest 0 0) (Present (inputValue k rest))) end (one-given variables gs k rest (p .0) h) (p .1)
+suited-from variables (b ∷ rest) (suc n) gs end h e = suited-from variables rest n gs end h e
+
+-- Length
+
+-- how many variables are not given
+unset : List Given → ℕ
+unset [] = 0
+unset (Absent ∷ gs) = suc (unset gs)
+unset (Present x ∷ gs) = unset gs
+
+unset-all : (variables : List Variable) → unset (map (λ v. Absent) variables) ≡ length variables
+unfolding unset
+unset-all [] = refl
+unset-all (v ∷ vs) = ap suc (unset-all vs)
+
+unset-less : (gs : List Given) (v : ℕ) (x : Value) → v < length gs → isGiven (getD gs v Absent) ≡ false → unset gs ≡ suc (unset (set gs v (Present x)))
+unfolding unset
+unset-less [] v x h e = absurd (omega arith)
+unset-less (Absent ∷ gs) zero x h e = refl
+unset-less (Present y ∷ gs) zero x h e = absurd (false≢true (sym e))
+unset-less (Absent ∷ gs) (suc v) x h e = ap suc (unset-less gs v x (omega arith) e)
+unset-less (Present y ∷ gs) (suc v) x h e = unset-less gs v x (omega arith) e
+
+length-small : (k : ℕ) → inputLength k ≤ 5
+length-small k = small (eqb k 1) (eqb k 2)
+  where
+    small : (a b : Bool) → cond a 2 (cond b 5 0) ≤ 5
+    small true b = omega arith
+    small false true = omega arith
+    small false false = omega arith
+
+short-from : (variables : List Variable) (bytes : List ℕ) (n : ℕ) (gs end : List Given) → length gs ≡ length variables
+    → inputsFrom variables bytes n gs ≡ good end → length bytes ≤ n + 6 * unset gs
+unfolding inputsFrom
+short-from variables [] n gs end l e = omega arith
+short-from variables (k ∷ rest) zero gs end l e =
+    let p = passed variables k rest gs end e in
+    let v = getD rest 0 0 in
+    let x = inputValue k rest in
+    let here : v < length gs = rw l (p .0 .known) in
+    let less = unset-less gs v x here (p .0 .fresh) in
+    let more = short-from variables rest (inputLength k) (set gs v (Present x)) end (length-set gs v (Present x) ∙ l) (p .1) in
+    let s = length-small k in
+    omega arith
+short-from variables (b ∷ rest) (suc n) gs end l e = let more = short-from variables rest n gs end l e in omega arith
+
+module _ (variables : List Variable) (bytes : List ℕ) (gs : List Given) (e : inputs variables bytes ≡ good gs) where
+  suited : Suited variables gs
+  unfolding inputs
+  suited = suited-from variables bytes 0 (map (λ v. Absent) variables) gs (none-given variables) e
+
+  pub good-number : length gs ≡ length variables
+  good-number = suited .number
+
+  pub good-typed : (v : ℕ) (x : Value) → getD gs v Absent ≡ Present x → valueType x ≡ getD variables v (record { holds = YesNo }) .holds
+  good-typed = suited .typed
+
+  pub good-short : length bytes ≤ 6 * length variables
+  unfolding inputs
+  good-short =
+      let s = short-from variables bytes 0 (map (λ v. Absent) variables) gs (length-map variables (λ v. Absent)) e in
+      let u = unset-all variables in
+      omega arith

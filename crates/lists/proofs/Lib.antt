@@ -1,0 +1,5 @@
+pub mod Lengths
+mod Reading
+pub mod Givens
+pub mod Values
+mod Writing

@@ -1,0 +1,4 @@
+pub mod Inputs
+pub mod Results
+pub mod Reading
+pub mod Writing

@@ -1,0 +1,101 @@
+-- The outcome of a node among those below a limit: its node's, over the outcomes of the nodes below it.
+-- Assumes nothing.
+use Prim.Native.Nat.{ℕ, zero, suc, _<_, _≤_}
+use mathlib.Core.Path.{_≡_, refl, sym, ap, _∙_}
+use mathlib.Core.Bool.{Bool, true, false, cond, false≢true}
+use mathlib.Core.List.{List, [], _∷_}
+use mathlib.Core.Logic.{⊎-elim}
+use native.Mathlib.Nat.{eq-or-lt-of-le}
+use native.Mathlib.Omega.{arith}
+use lib.ListN.{length, getD}
+use lib.Dec.{eqb}
+use borrow.Author.Tests.{eq-eqb, ne-eqb}
+use Rattle.calculus.specs.Terms.{Term, Terms, none, also, error}
+use Rattle.calculus.specs.Evaluation.{Env, eval, exceptions}
+use Rattle.calculus.specs.Defaults.{gather, settle}
+use Rattle.calculus.specs.Outcomes.{choose}
+use Rattle.calculus.specs.declared.Cause.the-variants.{Empty}
+use Rattle.calculus.specs.declared.Outcome.{Outcome}
+use Rattle.calculus.specs.declared.Outcome.the-variants.{Ends}
+use Rattle.calculus.specs.declared.Joined.the-variants.{Nothing, One, Many}
+use Rattle.calculus.specs.declared.Gathered.{Gathered}
+use Rattle.calculus.specs.declared.Gathered.the-variants.{SoFar, Ended}
+use Rattle.book.specs.Decode.{scopesOf}
+use Rattle.book.specs.References.{scopeAt}
+use Rattle.book.specs.Tables.{nodeAt}
+use Rattle.book.specs.Trees.{exception, nodeTerm, termBelow}
+use Rattle.book.specs.declared.Node.{Node}
+use Rattle.book.specs.declared.Node.the-variants.{Constant, Default}
+use Rattle.terms.specs.Outcomes.{envOf, outcomeBelow, gatherBelow, restBelow, defaultBelow, isNothing}
+
+-- of an element that is there, the default does not matter
+get-there : {A : Type 0} (xs : List A) (n : ℕ) (d e : A) → n < length xs → getD xs n d ≡ getD xs n e
+get-there [] n d e h = absurd (omega arith)
+get-there (x ∷ xs) zero d e h = refl
+get-there (x ∷ xs) (suc n) d e h = get-there xs n d e (omega arith)
+
+module _ (nodes : List Node) where
+  -- at the limit and past it there is no node
+  below-past : (l n : ℕ) → l ≤ n → termBelow nodes l n ≡ error Empty
+  unfolding termBelow
+  below-past zero n h = refl
+  below-past (suc l) n h = rw (ne-eqb n l (λ e. omega arith)) (below-past l n (omega arith))
+
+  -- below the limit, a node's term does not depend on it
+  below-at : (l n : ℕ) → n < l → termBelow nodes l n ≡ nodeTerm (termBelow nodes n) (getD nodes n (Constant false))
+  unfolding termBelow
+  below-at zero n h = absurd (omega arith)
+  below-at (suc l) n h =
+      ⊎-elim
+      (λ (e : n ≡ l). rw (eq-eqb n l e, ← e))
+      (λ (k : n < l). rw (ne-eqb n l (λ e. omega arith)) (below-at l n k))
+      (eq-or-lt-of-le (omega arith))
+
+-- an exception is gathered; 255 is none
+exceptions-listed : (e : Env) (lower : ℕ → Term) (g : Gathered) (x : ℕ) (ts : Terms)
+    → exceptions e g (exception lower x ts) ≡ exceptions e (cond (eqb x 255) g (gather g (eval e (lower x)))) ts
+unfolding exceptions
+exceptions-listed e lower g x ts = go (eqb x 255)
+  where
+    go : (b : Bool) → exceptions e g (cond b ts (also (lower x) ts)) ≡ exceptions e (cond b g (gather g (eval e (lower x)))) ts
+    go true = refl
+    go false = refl
+
+-- what is left decides where the exceptions came to nothing, and only there
+pub settle-nothing : (g : Gathered) (rest : Outcome) → isNothing g ≡ true → settle g rest ≡ rest
+settle-nothing (SoFar Nothing) rest h = refl
+settle-nothing (SoFar (One v)) rest h = absurd (false≢true h)
+settle-nothing (SoFar Many) rest h = absurd (false≢true h)
+settle-nothing (Ended c) rest h = absurd (false≢true h)
+
+pub settle-something : (g : Gathered) (a b : Outcome) → isNothing g ≡ false → settle g a ≡ settle g b
+settle-something (SoFar Nothing) a b h = absurd (false≢true (sym h))
+settle-something (SoFar (One v)) a b h = refl
+settle-something (SoFar Many) a b h = refl
+settle-something (Ended c) a b h = refl
+
+module _ (bytes own called : List ℕ) (i : ℕ) where
+  abbrev nodes : List Node
+  nodes = scopeAt (scopesOf bytes) i .nodes
+
+  pub past : (limit n : ℕ) → limit ≤ n → outcomeBelow bytes own called i limit n ≡ Ends Empty
+  unfolding outcomeBelow eval
+  past limit n h = ap (eval (envOf own called)) (below-past nodes limit n h)
+
+  -- the outcome of a node that was fetched, by the variant that it was found to be
+  pub here : (limit n : ℕ) (found nd : Node) → n < limit → limit ≤ length nodes → found ≡ nodeAt (scopesOf bytes) i n → found ≡ nd
+      → outcomeBelow bytes own called i limit n ≡ eval (envOf own called) (nodeTerm (termBelow nodes n) nd)
+  unfolding outcomeBelow nodeAt
+  here limit n found nd h k p q =
+      let same = get-there nodes n (Constant false) (Constant true) (omega arith) in
+      ap (eval (envOf own called)) (below-at nodes limit n h ∙ ap (nodeTerm (termBelow nodes n)) (same ∙ sym p ∙ q))
+
+  pub default-here : (n x y z j c : ℕ)
+      → eval (envOf own called) (nodeTerm (termBelow nodes n) (Default x y z j c)) ≡ defaultBelow bytes own called i n x y z j c
+  unfolding outcomeBelow gatherBelow restBelow defaultBelow eval exceptions
+  default-here n x y z j c =
+      let e = envOf own called in
+      let lower = termBelow nodes n in
+      let rest = choose (eval e (lower j)) (eval e (lower c)) (Ends Empty) in
+      ap (λ (g : Gathered). settle g rest)
+      (exceptions-listed e lower (SoFar Nothing) x _ ∙ exceptions-listed e lower _ y _ ∙ exceptions-listed e lower _ z none)
