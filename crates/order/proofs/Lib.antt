@@ -2,6 +2,7 @@ pub mod Booleans
 pub mod Search
 pub mod Matrix
 pub mod Ready
+pub mod Memo
 pub mod Count
 pub mod Reaching
 pub mod Order

@@ -1,5 +1,7 @@
 -- Laws of readiness.
 --     unmet-here, met-done, met-none           whether a dependency is unmet
+--     unmet-none                               a dependency that is not unmet is done
+--     unmet-first                              a search of the dependencies that stops at w finds w
 --     ready-now, ready-blocked, ready-done     whether a vertex is ready
 --     ready-new, ready-met                     a ready vertex is not done, and all that it depends on is
 --     blocked                                  a vertex that is neither done nor ready depends on one that is not done
@@ -8,15 +10,15 @@
 --     next-ready                               the next vertex, where it is below n, is ready
 --     next-congruent                           it depends only on the edges among the vertices below n and on which of them are done
 -- Assumes nothing.
-use Prim.Native.Nat.{ℕ, _<_, _≤_}
-use mathlib.Core.Path.{_≡_}
+use Prim.Native.Nat.{ℕ, _<_, _≤_, _-_}
+use mathlib.Core.Path.{_≡_, sym, _∙_}
 use mathlib.Core.Bool.{Bool, true, false, not, and-false}
 use native.Mathlib.Omega.{arith}
 use borrow.Author.Tests.{eq-eqb, ne-eqb, not-true, not-false}
-use Rattle.order.specs.Search.{lowest, none}
+use Rattle.order.specs.Search.{lowestFrom, lowest, none}
 use Rattle.order.specs.Order.{unmet, ready, next}
 use Rattle.order.proofs.Booleans.{both}
-use Rattle.order.proofs.Search.{lowest-has, lowest-before, lowest-bound, lowest-congruent, none-each, none-not}
+use Rattle.order.proofs.Search.{lowest-has, lowest-before, lowest-bound, lowest-congruent, none-each, none-not, left-here}
 
 module _ (edge : ℕ → ℕ → Bool) (done : ℕ → Bool) (v w : ℕ) where
   pub unmet-here : edge v w ≡ true → done w ≡ false → unmet edge done v w ≡ true
@@ -31,7 +33,15 @@ module _ (edge : ℕ → ℕ → Bool) (done : ℕ → Bool) (v w : ℕ) where
   unfolding unmet
   met-none e = rw e
 
+  pub unmet-none : unmet edge done v w ≡ false → edge v w ≡ true → done w ≡ true
+  unfolding unmet
+  unmet-none u e = not-false (done w) (rw e at u)
+
 module _ (edge : ℕ → ℕ → Bool) (n : ℕ) (done : ℕ → Bool) where
+  pub unmet-first : (v w : ℕ) → lowestFrom (unmet edge done v) w (n - w) ≡ lowest (unmet edge done v) n
+      → w < n → edge v w ≡ true → done w ≡ false → lowest (unmet edge done v) n ≡ w
+  unmet-first v w left l e d = sym left ∙ left-here (unmet edge done v) n w l (unmet-here edge done v w e d)
+
   pub ready-now : (v : ℕ) → done v ≡ false → lowest (unmet edge done v) n ≡ n → ready edge n done v ≡ true
   unfolding ready none
   ready-now v d e = rw d (eq-eqb _ n e)

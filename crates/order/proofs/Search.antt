@@ -6,6 +6,7 @@
 --     none-each           where none has it, each number below n lacks it
 --     none-not            where it is not so that none has it, some number below n has
 --     left-start, left-end, left-step, left-here    what is left of the search at v, in a loop that counts v up to n
+--     left-from                                     the same, in a loop that starts at k, where no number below k has it
 -- Assumes nothing.
 use Prim.Native.Nat.{ℕ, zero, suc, _<_, _≤_, _+_, _-_}
 use mathlib.Core.Path.{_≡_, refl, sym, ap, _∙_}
@@ -105,3 +106,9 @@ module _ (p : ℕ → Bool) (n : ℕ) where
   pub left-here : (v : ℕ) → v < n → p v ≡ true → lowestFrom p v (n - v) ≡ v
   unfolding lowestFrom
   left-here v h e = rw (left-more n v h, e)
+
+  pub left-from : (k : ℕ) → k ≤ n → ((w : ℕ) → w < k → p w ≡ false) → lowestFrom p k (n - k) ≡ lowest p n
+  left-from zero b lacks = left-start
+  left-from (suc k) b lacks =
+      let step = left-step k (omega arith) (lacks k (omega arith)) in
+      (rw (add-one k) at step) ∙ left-from k (omega arith) (λ w h. lacks w (omega arith))

@@ -5,6 +5,7 @@ ghost use Prim.Native.Nat.{_*_, _≤_};
 ghost use lib.ListN.{length};
 ghost use Rattle.order.specs.Order.{next};
 ghost use Rattle.order.specs.Matrix.{marked, edgeOf};
+ghost use Rattle.order.specs.Memo.{Met};
 ghost use Rattle.order.specs.Answer.{Filled};
 
 // The most vertices of a graph, and the bytes of a row.
@@ -17,10 +18,15 @@ pub enum Ordered {
     Unfit,
 }
 
-// The ready vertex of lowest number, n where none is ready.
-fn ready_vertex(deps: &[u8], done: &[u8], n: usize) -> usize
-    requires { ⌜ (n ≤ 40) × (n * 40 ≤ length (now deps)) × (n ≤ length (now done)) ⌝ }
-    ensures { λ r. ⌜ r ≡ next (edgeOf (now (deps .entry))) n (marked (now (done .entry))) ⌝ }
+// The ready vertex of lowest number, n where none is ready. Of what v depends on, all below met[v] is done: row v is read from there,
+// and met[v] keeps where the reading stopped. So all searches together read each row once.
+fn ready_vertex(deps: &[u8], done: &[u8], met: &mut [u8], n: usize) -> usize
+    requires { ⌜ (n ≤ 40) × (n * 40 ≤ length (now deps)) × (n ≤ length (now done)) × Met (now deps) n (now done) (now met) ⌝ }
+    ensures { λ r.
+        ⌜
+        (r ≡ next (edgeOf (now (deps .entry))) n (marked (now (done .entry))))
+        × Met (now (deps .entry)) n (now (done .entry)) (now (met .exit))
+        ⌝ }
 {
     let mut v: usize = 0;
     let found = 'search: loop {
@@ -28,13 +34,14 @@ fn ready_vertex(deps: &[u8], done: &[u8], n: usize) -> usize
             break 'search n;
         }
         if done[v] == 0 {
-            let mut w: usize = 0;
+            let mut w = met[v] as usize;
             loop {
                 if w == n {
                     break 'search v;
                 }
                 if deps[v * WIDTH + w] != 0 {
                     if done[w] == 0 {
+                        met[v] = w as u8;
                         break;
                     }
                 }
@@ -52,9 +59,10 @@ fn write_order(deps: &[u8], n: usize, out: &mut [u8]) -> Ordered
     ensures { λ r. ⌜ Filled (now (deps .entry)) n (now (out .entry)) r (now (out .exit)) ⌝ }
 {
     let mut done = [0u8; WIDTH];
+    let mut met = [0u8; WIDTH];
     let mut k: usize = 0;
     while k < n {
-        let v = ready_vertex(deps, &done, n);
+        let v = ready_vertex(deps, &done, &mut met, n);
         if v == n {
             return Ordered::Taken(k);
         }
