@@ -24,7 +24,7 @@ use Rattle.book.specs.Syntax.{Scope, emptyScope}
 use Rattle.book.specs.References.{scopeAt}
 use Rattle.book.specs.Scopes.{calls, blocks, scopeCycle, HasScopeCycle}
 use Rattle.book.specs.Steps.{dependsOn, stepCount, stepOrder, dependencyCycleIn, dependencyCycle, HasDependencyCycle}
-use Rattle.acceptance.proofs.Searches.{any-true, any-at}
+use Rattle.book.proofs.Searches.{any-true, any-at}
 
 pub denied : {P : Type 0} (b : Bool) → (b ≡ true) ↔ P → (b ≡ false) ↔ (P → ⊥)
 denied b e = (

@@ -15,7 +15,7 @@ use borrow.Author.Tests.{eqb-true, ltb-true}
 use Rattle.calculus.specs.Terms.{Term, Terms, also, none}
 use Rattle.order.specs.Order.{among}
 use Rattle.order.proofs.Booleans.{decide, both, or-cases}
-use Rattle.book.specs.Syntax.{Scope}
+use Rattle.book.specs.Syntax.{Scope, noNode}
 use Rattle.book.specs.References.{noClause, nodeNames, namesCalled}
 use Rattle.book.specs.Trees.{exception, nodeTerm, termBelow, termOf, conditionTerm, consequenceTerm}
 use Rattle.book.specs.Steps.{stepCount, reads, readsAny, stepOf, clauseReads, dependsOn, stepOrder}
@@ -24,7 +24,7 @@ use Rattle.book.specs.declared.Node.the-variants.{Constant, Number, Own, Called
 use Rattle.book.specs.declared.Consequence.{Consequence}
 use Rattle.book.specs.declared.Consequence.the-variants.{Of, Fixed}
 use Rattle.acceptance.specs.Accepted.{WellFormed, CompleteOrder}
-use Rattle.acceptance.proofs.Searches.{any-true}
+use Rattle.book.proofs.Searches.{any-true}
 
 module _ (v w : ℕ) (lower : ℕ → Term) where
   exception-reads : (e : ℕ) (ts : Terms) → readsAny v w (exception lower e ts) ≡ true → (reads v w (lower e) ≡ true) ⊎ (readsAny v w ts ≡ true)
@@ -77,11 +77,11 @@ module _ (book : List Scope) (s : Scope) (w : ℕ) where
     term-below (suc l) n h e =
         let lower = termBelow (s .nodes) l in
         let below : (i : ℕ) → reads v w (lower i) ≡ true → w < stepCount s = λ i. term-below l i (omega arith) in
-        let x = getD (s .nodes) l (Constant false) in
+        let x = getD (s .nodes) l noNode in
         ⊎-elim
         (λ (q : eqb n l ≡ true).
         let e' : reads v w (nodeTerm lower x) ≡ true = rw q at e in
-        node-below lower below l x (formed .nodesNamed l (omega arith) (Constant false)) e')
+        node-below lower below l x (formed .nodesNamed l (omega arith) noNode) e')
         (λ (q : eqb n l ≡ false).
         let e' : reads v w (lower n) ≡ true = rw q at e in
         below n e')

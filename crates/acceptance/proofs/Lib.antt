@@ -1,4 +1,3 @@
-pub mod Searches
 pub mod Cycles
 pub mod Numbers
 pub mod Scanning

@@ -22,7 +22,7 @@ use Rattle.book.specs.declared.Node.the-variants.{Constant, Number, Own, Called
 use Rattle.book.specs.declared.Consequence.{Consequence}
 use Rattle.book.specs.declared.Consequence.the-variants.{Of, Fixed}
 use Rattle.book.specs.declared.Clause.{Clause}
-use Rattle.acceptance.proofs.Searches.{among-at, among-first}
+use Rattle.order.proofs.Among.{among-at, among-first}
 
 -- nothing is in the empty list
 nowhere : {A : Type 0} (a : ℕ) → among [] a ≡ true → A

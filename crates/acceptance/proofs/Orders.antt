@@ -27,7 +27,8 @@ use Rattle.book.specs.Steps.{dependsOn, stepCount, stepOrder, dependencyCycleIn
 use Rattle.book.specs.Judge.{judge}
 use Rattle.book.specs.declared.Judged.the-variants.{Accepted}
 use Rattle.acceptance.specs.Accepted.{WellFormed, CompleteOrder, AcceptedBook}
-use Rattle.acceptance.proofs.Searches.{any-false, among-at}
+use Rattle.order.proofs.Among.{among-at}
+use Rattle.book.proofs.Searches.{any-false}
 use Rattle.acceptance.proofs.Acceptance.{accepted-faultless, accepted-count}
 use Rattle.acceptance.proofs.Limits.{accepted-within, accepted-scopes, accepted-size}
 use Rattle.acceptance.proofs.WellFormed.{faultless-formed, faultless-weight}

@@ -25,7 +25,7 @@ use Rattle.book.specs.declared.Target.{Target}
 use Rattle.book.specs.declared.Clause.{Clause}
 use Rattle.acceptance.specs.Accepted.{WithinLimits, WellFormed}
 use Rattle.acceptance.specs.Reading.{targetStep, ReadByClause, ReadInTree}
-use Rattle.acceptance.proofs.Searches.{any-true, any-at}
+use Rattle.book.proofs.Searches.{any-true, any-at}
 
 -- equal sub-scope and variable make one target
 same-target : (a b : Target) → sameTarget a b ≡ true → a ≡ b

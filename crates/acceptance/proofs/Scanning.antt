@@ -22,7 +22,7 @@ use Rattle.book.specs.declared.Fault.the-variants.{Truncated, UnknownKind, OutO
 use Rattle.book.specs.declared.Scanned.{Scanned}
 use Rattle.book.specs.declared.Scanned.the-variants.{Sound, Faulty}
 use Rattle.acceptance.specs.Verdicts.{NoneFaulty, FirstOf, FirstFaulty, FreeBelow}
-use Rattle.acceptance.proofs.Searches.{any-append}
+use Rattle.book.proofs.Searches.{any-append}
 
 abbrev isSound : Scanned → Bool
 isSound Sound = true

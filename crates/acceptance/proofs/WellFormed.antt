@@ -1,6 +1,5 @@
 -- In an accepted book every scope is well formed: nothing in it dangles, no node is named twice, types fit, and no target has both
 -- rules and definitions.
---     named-sub-scopes, named-nodes, named-clauses    of a scope in which nothing dangles: each sub-scope, node and clause names what is there
 --     fitting-nodes, fitting-clauses                  of a scope without mismatch: each node and clause fits
 --     unmixed-pairs                                   of a scope that is not mixed: no two clauses are
 --     faultless-formed                                each scope of a book without fault is well formed
@@ -8,17 +7,17 @@
 -- Assumes nothing.
 use Prim.Native.Nat.{ℕ, _<_, _≤_, _+_}
 use mathlib.Core.Path.{_≡_}
-use mathlib.Core.Bool.{Bool, true, false, not}
+use mathlib.Core.Bool.{true, false, not}
 use mathlib.Core.List.{List}
 use native.Mathlib.Omega.{arith}
 use lib.ListN.{length, getD}
 use lib.Dec.{ltb}
-use borrow.Author.Tests.{ltb-true, ltb-false, not-false}
+use borrow.Author.Tests.{ltb-false}
 use Rattle.order.proofs.Booleans.{neither}
-use Rattle.book.specs.Lists.{any, anyFrom}
+use Rattle.book.specs.Lists.{any}
 use Rattle.book.specs.Syntax.{Scope, emptyScope}
 use Rattle.book.specs.Decode.{scopesOf}
-use Rattle.book.specs.References.{scopeAt, nodeNames, clauseNames, danglesIn, dangles}
+use Rattle.book.specs.References.{scopeAt, danglesIn, dangles}
 use Rattle.book.specs.Sharing.{namings, repeats, shares}
 use Rattle.book.specs.Typing.{typeOfNode, nodeFits, clauseFits, mismatchIn, mismatches}
 use Rattle.book.specs.Mixing.{mixedPair, mixedIn, mixes}
@@ -27,49 +26,19 @@ use Rattle.book.specs.declared.Node.{Node}
 use Rattle.book.specs.declared.Clause.{Clause}
 use Rattle.acceptance.specs.Verdicts.{Faultless}
 use Rattle.acceptance.specs.Accepted.{WellFormed}
-use Rattle.acceptance.proofs.Searches.{any-false, anyFrom-false}
+use Rattle.book.proofs.Searches.{any-false, anyFrom-false, each}
+use Rattle.book.proofs.Naming.{named-sub-scopes, named-nodes, named-clauses}
 
--- where no element with its number lacks p, each has it
-each-from : {A : Type 0} (p : ℕ → A → Bool) (xs : List A) → anyFrom (λ n x. not (p n x)) 0 xs ≡ false
-    → (n : ℕ) → n < length xs → (d : A) → p n (getD xs n d) ≡ true
-each-from p xs e n h d =
-    let z : 0 + n ≡ n = omega arith in
-    not-false (p n (getD xs n d)) (rw z at (anyFrom-false (λ n x. not (p n x)) 0 xs e n h d))
+module _ (book : List Scope) (s : Scope) (e : mismatchIn book s ≡ false) where
+  pub fitting-nodes : (n : ℕ) → n < length (s .nodes) → (d : Node) → nodeFits (typeOfNode book s) (getD (s .nodes) n d) ≡ true
+  unfolding mismatchIn
+  fitting-nodes = each (nodeFits (typeOfNode book s)) (s .nodes) (neither _ _ e .0)
 
-each : {A : Type 0} (p : A → Bool) (xs : List A) → any (λ x. not (p x)) xs ≡ false → (n : ℕ) → n < length xs → (d : A) → p (getD xs n d) ≡ true
-each p xs e n h d = not-false (p (getD xs n d)) (any-false (λ x. not (p x)) xs e n h d)
-
-module _ (book : List Scope) (s : Scope) where
-  module _ (e : danglesIn book s ≡ false) where
-    parts : (any (λ i. not (ltb i (length book))) (s .subScopes) ≡ false)
-        × (anyFrom (λ n x. not (nodeNames book s n x)) 0 (s .nodes) ≡ false)
-        × (anyFrom (λ n c. not (clauseNames book s n c)) 0 (s .clauses) ≡ false)
-    unfolding danglesIn
-    parts =
-        let a = neither (any (λ i. not (ltb i (length book))) (s .subScopes)) _ e in
-        let b = neither (anyFrom (λ n x. not (nodeNames book s n x)) 0 (s .nodes)) _ (a .1) in
-        (a .0, b .0, b .1)
-
-    pub named-sub-scopes : (k : ℕ) → k < length (s .subScopes) → getD (s .subScopes) k 0 < length book
-    named-sub-scopes k h =
-        ltb-true (getD (s .subScopes) k 0) (length book) (each (λ i. ltb i (length book)) (s .subScopes) (parts .0) k h 0)
-
-    pub named-nodes : (n : ℕ) → n < length (s .nodes) → (d : Node) → nodeNames book s n (getD (s .nodes) n d) ≡ true
-    named-nodes = each-from (nodeNames book s) (s .nodes) (parts .1)
-
-    pub named-clauses : (n : ℕ) → n < length (s .clauses) → (d : Clause) → clauseNames book s n (getD (s .clauses) n d) ≡ true
-    named-clauses = each-from (clauseNames book s) (s .clauses) (parts .2)
-
-  module _ (e : mismatchIn book s ≡ false) where
-    pub fitting-nodes : (n : ℕ) → n < length (s .nodes) → (d : Node) → nodeFits (typeOfNode book s) (getD (s .nodes) n d) ≡ true
-    unfolding mismatchIn
-    fitting-nodes = each (nodeFits (typeOfNode book s)) (s .nodes) (neither _ _ e .0)
-
-    pub fitting-clauses : (n : ℕ) → n < length (s .clauses) → (d : Clause)
-        → clauseFits book s (typeOfNode book s) (getD (s .clauses) n d) ≡ true
-    unfolding mismatchIn
-    fitting-clauses = each (clauseFits book s (typeOfNode book s)) (s .clauses)
-        (neither (any (λ x. not (nodeFits (typeOfNode book s) x)) (s .nodes)) _ e .1)
+  pub fitting-clauses : (n : ℕ) → n < length (s .clauses) → (d : Clause)
+      → clauseFits book s (typeOfNode book s) (getD (s .clauses) n d) ≡ true
+  unfolding mismatchIn
+  fitting-clauses = each (clauseFits book s (typeOfNode book s)) (s .clauses)
+      (neither (any (λ x. not (nodeFits (typeOfNode book s) x)) (s .nodes)) _ e .1)
 
 pub unmixed-pairs : (s : Scope) → mixedIn s ≡ false → (m n : ℕ) → m < length (s .clauses) → n < length (s .clauses) → (d : Clause)
     → mixedPair (getD (s .clauses) m d) (getD (s .clauses) n d) ≡ false

@@ -1,1 +1,4 @@
 mod Places
+pub mod Searches
+pub mod Naming
+pub mod Terms

@@ -1,6 +1,6 @@
 -- From records to scopes.
 use Prim.Native.Nat.{ℕ}
-use mathlib.Core.Bool.{Bool, cond}
+use mathlib.Core.Bool.{cond}
 use mathlib.Core.List.{List, [], _∷_}
 use lib.ListN.{getD}
 use lib.Dec.{eqb}
@@ -12,7 +12,7 @@ pub record Parsed : Type 0 where
   pub opened : Scope
   pub scopes : List Scope
 
--- a record in front of others: kind 1 begins a scope, any other belongs to the scope begun before it
+-- a record in front of others: kind 1 begins a scope, any other belongs to the scope begun before it; one of unknown kind is passed over
 unfoldable pub inFront : Met → Parsed → Parsed
 inFront m p =
     let s = p .opened in
@@ -24,7 +24,9 @@ inFront m p =
     (record { opened = record { variables = s .variables; subScopes = getD body 0 0 ∷ s .subScopes; nodes = s .nodes; clauses = s .clauses }; scopes = p .scopes })
     (cond (eqb (stageOf m) 4)
     (record { opened = record { variables = s .variables; subScopes = s .subScopes; nodes = nodeOf (m .kind) body ∷ s .nodes; clauses = s .clauses }; scopes = p .scopes })
-    (record { opened = record { variables = s .variables; subScopes = s .subScopes; nodes = s .nodes; clauses = clauseOf (m .kind) body ∷ s .clauses }; scopes = p .scopes }))))
+    (cond (eqb (stageOf m) 5)
+    (record { opened = record { variables = s .variables; subScopes = s .subScopes; nodes = s .nodes; clauses = clauseOf (m .kind) body ∷ s .clauses }; scopes = p .scopes })
+    p))))
 
 unfoldable pub parse : List Met → Parsed
 parse [] = record { opened = emptyScope; scopes = [] }

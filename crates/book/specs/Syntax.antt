@@ -2,10 +2,9 @@
 -- Scopes are numbered from 0 through the book; variables, sub-scopes, nodes and clauses from 0 in their scope.
 use Prim.Native.Nat.{ℕ}
 use mathlib.Core.Bool.{Bool, true, false, cond, _&&_}
-use mathlib.Core.List.{List, [], _∷_}
+use mathlib.Core.List.{List, []}
 use lib.ListN.{getD}
 use lib.Dec.{eqb}
-use lib.IntN.{ℤ}
 use Rattle.calculus.specs.declared.Unary.the-variants.{Not, Negate}
 use Rattle.calculus.specs.declared.Binary.the-variants.{And, Add, Subtract, Equal, Less}
 use Rattle.record.specs.Bytes.{numberAt}
@@ -57,6 +56,10 @@ nodeOf k body =
     (cond (eqb k 16) (Binary Less a b)
     (cond (eqb k 17) (Choice a b c)
     (Default a b c (getD body 3 0) (getD body 4 0)))))))))))))))
+
+-- what stands where a scope has no node of a number
+abbrev pub noNode : Node
+noNode = Constant false
 
 -- a clause by its kind and body: kind 19 a definition, 20 a rule
 unfoldable pub clauseOf : ℕ → List ℕ → Clause

@@ -1,19 +1,18 @@
 -- The tables by which the records of a book are found: how many of each sort a scope has, and where each begins.
 use Prim.Native.Nat.{ℕ, _+_, _*_, _<_}
 use mathlib.Core.Path.{_≡_}
-use mathlib.Core.Bool.{Bool, true, false, cond, _&&_}
+use mathlib.Core.Bool.{cond, _&&_}
 use mathlib.Core.List.{List}
 use lib.ListN.{length, getD}
 use lib.Dec.{ltb}
 use Rattle.record.specs.Record.{bodyAt}
 use Rattle.record.specs.declared.Medium.the-variants.{Book}
-use Rattle.book.specs.Syntax.{Scope, variableOf, nodeOf, clauseOf}
+use Rattle.book.specs.Syntax.{Scope, noNode, variableOf, nodeOf, clauseOf}
 use Rattle.book.specs.Decode.{scopesOf}
 use Rattle.book.specs.References.{scopeAt, noClause}
 use Rattle.book.specs.declared.ValueType.the-variants.{YesNo}
 use Rattle.book.specs.declared.Variable.{Variable}
 use Rattle.book.specs.declared.Node.{Node}
-use Rattle.book.specs.declared.Node.the-variants.{Constant}
 use Rattle.book.specs.declared.Clause.{Clause}
 
 -- a variable, sub-scope, node or clause of a scope of the book, by its number
@@ -24,7 +23,7 @@ unfoldable pub subScopeAt : List Scope → ℕ → ℕ → ℕ
 subScopeAt book i k = getD (scopeAt book i .subScopes) k 0
 
 unfoldable pub nodeAt : List Scope → ℕ → ℕ → Node
-nodeAt book i n = getD (scopeAt book i .nodes) n (Constant true)
+nodeAt book i n = getD (scopeAt book i .nodes) n noNode
 
 unfoldable pub clauseAt : List Scope → ℕ → ℕ → Clause
 clauseAt book i c = getD (scopeAt book i .clauses) c noClause

@@ -9,7 +9,7 @@ use Rattle.calculus.specs.declared.Value.the-variants.{Truth}
 use Rattle.calculus.specs.declared.Value.the-variants as value
 use Rattle.calculus.specs.declared.Cause.the-variants.{Empty, Conflict}
 use Rattle.book.specs.Lists.{any}
-use Rattle.book.specs.Syntax.{Scope, sameTarget, isRule}
+use Rattle.book.specs.Syntax.{Scope, noNode, sameTarget, isRule}
 use Rattle.book.specs.declared.Node.{Node}
 use Rattle.book.specs.declared.Node.the-variants as node
 use Rattle.book.specs.declared.Consequence.{Consequence}
@@ -40,7 +40,7 @@ unfoldable pub termBelow : List Node → ℕ → ℕ → Term
 termBelow nodes zero n = error Empty
 termBelow nodes (suc l) n =
     let lower = termBelow nodes l in
-    cond (eqb n l) (nodeTerm lower (getD nodes l (node.Constant false))) (lower n)
+    cond (eqb n l) (nodeTerm lower (getD nodes l noNode)) (lower n)
 
 unfoldable pub termOf : Scope → ℕ → Term
 termOf s n = termBelow (s .nodes) (length (s .nodes)) n

@@ -9,11 +9,10 @@ use Rattle.calculus.specs.declared.Unary.the-variants.{Not, Negate}
 use Rattle.calculus.specs.declared.Binary.{Binary}
 use Rattle.calculus.specs.declared.Binary.the-variants.{And, Add, Subtract, Equal, Less}
 use Rattle.book.specs.Lists.{any}
-use Rattle.book.specs.Syntax.{Scope, sameType}
+use Rattle.book.specs.Syntax.{Scope, noNode, sameType}
 use Rattle.book.specs.References.{scopeAt}
 use Rattle.book.specs.declared.ValueType.{ValueType}
 use Rattle.book.specs.declared.ValueType.the-variants.{YesNo, Numeric}
-use Rattle.book.specs.declared.Variable.{Variable}
 use Rattle.book.specs.declared.Node.{Node}
 use Rattle.book.specs.declared.Node.the-variants as node
 use Rattle.book.specs.declared.Consequence.{Consequence}
@@ -70,7 +69,7 @@ unfoldable pub typeBelow : List Scope → Scope → ℕ → ℕ → ValueType
 typeBelow book s zero n = YesNo
 typeBelow book s (suc l) n =
     let lower = typeBelow book s l in
-    cond (eqb n l) (nodeType book s lower (getD (s .nodes) l (node.Constant true))) (lower n)
+    cond (eqb n l) (nodeType book s lower (getD (s .nodes) l noNode)) (lower n)
 
 unfoldable pub typeOfNode : List Scope → Scope → ℕ → ValueType
 typeOfNode book s n = typeBelow book s (length (s .nodes)) n

@@ -263,7 +263,7 @@ pub fn node_at(book: &[u8], places: &[u16], counts: &[u8], i: usize, n: usize) -
         let body = body_at(Medium::Book, book, at);
         node_of(byte_at(book, at), body)
     } else {
-        Node::Constant(true)
+        Node::Constant(false)
     }
 }
 

@@ -3,10 +3,14 @@
 --     both        of a conjunction that holds, both parts hold
 --     or-cases    of a disjunction that holds, one part holds
 --     neither     of a disjunction that fails, both parts fail
+--     eqb-swap    a test of equality, turned round
 -- Assumes nothing.
 use mathlib.Core.Path.{_≡_, refl, sym}
 use mathlib.Core.Bool.{Bool, true, false, _&&_, _||_, false≢true}
-use mathlib.Core.Logic.{_⊎_, inl, inr}
+use mathlib.Core.Logic.{_⊎_, inl, inr, ⊎-elim}
+use Prim.Native.Nat.{ℕ}
+use lib.Dec.{eqb}
+use borrow.Author.Tests.{eqb-true, eqb-false, eq-eqb, ne-eqb}
 
 pub decide : (a : Bool) → (a ≡ true) ⊎ (a ≡ false)
 decide true = inl refl
@@ -23,3 +27,10 @@ or-cases false b e = inr e
 pub neither : (a b : Bool) → (a || b) ≡ false → (a ≡ false) × (b ≡ false)
 neither true b e = absurd (false≢true (sym e))
 neither false b e = (refl, e)
+
+pub eqb-swap : (a b : ℕ) → eqb a b ≡ eqb b a
+eqb-swap a b =
+    ⊎-elim
+    (λ (q : eqb a b ≡ true). rw q (sym (eq-eqb b a (sym (eqb-true a b q)))))
+    (λ (q : eqb a b ≡ false). rw q (sym (ne-eqb b a (λ e. eqb-false a b q (sym e)))))
+    (decide (eqb a b))

@@ -7,16 +7,17 @@ use mathlib.Core.Bool.{Bool, _||_}
 use mathlib.Core.List.{List, [], _∷_, _++_}
 use native.Mathlib.Omega.{arith}
 use native.Mathlib.Numerals.{add-one}
-use lib.ListN.{length, getD, drop, set, replicate, length-append, length-set, getD-replicate}
+use lib.ListN.{length, getD, drop, set, replicate, length-append, length-set}
 use lib.Seq.{drop-cons, set-at, append-snoc}
 use lib.Dec.{eqb}
 use Rattle.order.specs.Order.{among, next, taken, order}
 use Rattle.order.specs.Matrix.{marked, edgeOf}
 use Rattle.order.specs.Answer.{Filled}
 use Rattle.order.specs.declared.Ordered.the-variants.{Taken}
-use Rattle.order.proofs.Matrix.{marked-false, marked-set}
+use Rattle.order.proofs.Matrix.{zero-marks, marked-set}
 use Rattle.order.proofs.Ready.{next-congruent, next-bound}
-use Rattle.order.proofs.Order.{among-snoc, taken-more, taken-rest}
+use Rattle.order.proofs.Among.{among-snoc}
+use Rattle.order.proofs.Order.{taken-more, taken-rest}
 use Rattle.order.proofs.Answer.{fits-fit, filled-taken}
 
 pub record Filling (deps : List ℕ) (n : ℕ) (from out done : List ℕ) (k : ℕ) : Type 0 where
@@ -36,7 +37,7 @@ start deps n out small =
       marks = refl;
       count = refl;
       bytes = refl;
-      dones = λ w h. marked-false (replicate 40 0) w (getD-replicate 40 w 0 0 (omega arith));
+      dones = λ w h. zero-marks 40 w;
     }
 
 module _ (deps : List ℕ) (n : ℕ) (from out done : List ℕ) (k : ℕ) (g : Filling deps n from out done k)

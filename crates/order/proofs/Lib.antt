@@ -5,6 +5,7 @@ pub mod Ready
 pub mod Memo
 pub mod Count
 pub mod Reaching
+pub mod Among
 pub mod Order
 pub mod Answer
 pub mod Filling

@@ -1,14 +1,15 @@
 -- Laws of the bytes of the matrix, and of the marks of the vertices that are done.
 --     marked-true, marked-false    a byte that is not 0, or 0
 --     marked-set                   the marks once one more is set
+--     zeros, zero-marks            a list of zeros has 0 everywhere, so nothing is marked in it
 --     edge-true, edge-false        the byte of an edge
 -- Assumes nothing.
-use Prim.Native.Nat.{ℕ, _<_, _+_, _*_}
-use mathlib.Core.Path.{_≡_, sym}
+use Prim.Native.Nat.{ℕ, zero, suc, _<_, _+_, _*_}
+use mathlib.Core.Path.{_≡_, refl, sym}
 use mathlib.Core.Bool.{true, false, not, _||_, or-true, or-false}
 use mathlib.Core.List.{List}
 use mathlib.Core.Logic.{⊎-elim}
-use lib.ListN.{length, getD, set}
+use lib.ListN.{length, getD, set, replicate}
 use lib.Seq.{getD-set-same, getD-set-other}
 use lib.Dec.{eqb}
 use borrow.Author.Tests.{eq-eqb, ne-eqb, eqb-true, eqb-false}
@@ -42,3 +43,11 @@ marked-set done v w h =
     rw (q, e, getD-set-same done v 1 0 h) (sym (or-true (not (eqb (getD done v 0) 0)))))
     (λ (q : eqb w v ≡ false). rw (q, getD-set-other done v w 1 0 (eqb-false w v q)) (sym (or-false (not (eqb (getD done w 0) 0)))))
     (decide (eqb w v))
+
+pub zeros : (n i : ℕ) → _≡_ {A = ℕ} (getD (replicate n 0) i 0) 0
+zeros zero i = refl
+zeros (suc n) zero = refl
+zeros (suc n) (suc i) = zeros n i
+
+pub zero-marks : (n i : ℕ) → marked (replicate n 0) i ≡ false
+zero-marks n i = marked-false (replicate n 0) i (zeros n i)

@@ -9,11 +9,10 @@
 --     order-or-cycle              it has n vertices, or some vertex reaches itself
 --     order-congruent             it depends only on the edges among the vertices below n
 --     taken-more, taken-rest      what a turn takes, and that nothing is taken once none is ready
---     among-snoc                  what is in a list with one more vertex
 -- Assumes nothing.
 use Prim.Native.Nat.{ℕ, zero, suc, _<_, _≤_, _+_}
 use mathlib.Core.Path.{_≡_, refl, sym, ap, subst, _∙_}
-use mathlib.Core.Bool.{Bool, true, false, not, _||_, false≢true, or-false}
+use mathlib.Core.Bool.{Bool, true, false, not, _||_, false≢true}
 use mathlib.Core.List.{List, [], _∷_, _++_}
 use mathlib.Core.Logic.{_⊎_, inl, inr, ⊎-elim, _↔_}
 use native.Mathlib.Omega.{arith}
@@ -30,11 +29,7 @@ use Rattle.order.proofs.Search.{none-each, none-not}
 use Rattle.order.proofs.Ready.{ready-done, ready-new, ready-met, blocked, next-bound, next-ready, next-before, next-congruent}
 use Rattle.order.proofs.Count.{count, with-one, count-bound, count-lacks, count-all, count-same, count-more, count-none}
 use Rattle.order.proofs.Reaching.{cycle}
-
-pub among-snoc : (xs : List ℕ) (v w : ℕ) → among (xs ++ (v ∷ [])) w ≡ (among xs w || eqb w v)
-unfolding among
-among-snoc [] v w = or-false (eqb w v)
-among-snoc (x ∷ xs) v w = ⊎-elim (λ e. rw e refl) (λ e. rw e (among-snoc xs v w)) (decide (eqb w x))
+use Rattle.order.proofs.Among.{among-snoc}
 
 module _ (edge : ℕ → ℕ → Bool) (n : ℕ) where
   pub taken-more : (k : ℕ) → next edge n (among (taken edge n k)) < n

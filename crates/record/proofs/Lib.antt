@@ -1,4 +1,4 @@
-mod Decision
+pub mod Decision
 mod Same
 mod Signs
 pub mod Endian

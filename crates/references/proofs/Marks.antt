@@ -6,7 +6,7 @@
 --     passed-start, passed-more, passed-end    what the elements below n of a list name, in a loop that counts n up to the list's length
 --     marked-repeats                       marks that begin with none find whether some number stands twice
 -- Assumes nothing.
-use Prim.Native.Nat.{ℕ, zero, suc, _<_, _≤_, _+_}
+use Prim.Native.Nat.{ℕ, _<_, _≤_, _+_}
 use mathlib.Core.Path.{_≡_, refl, sym, _∙_}
 use mathlib.Core.Bool.{Bool, true, false, _||_, or-true, or-false}
 use mathlib.Core.List.{List, [], _∷_, _++_, append-assoc, append-nil}
@@ -16,13 +16,13 @@ use native.Mathlib.Numerals.{add-one}
 use lib.ListN.{length, getD, set, take, replicate, length-set, List·getD-eq-default}
 use lib.Seq.{set-out, take-all, take-suc}
 use lib.Dec.{eqb}
-use borrow.Author.Tests.{eq-eqb, ne-eqb, eqb-true, eqb-false}
 use Rattle.order.specs.Order.{among}
 use Rattle.order.specs.Matrix.{marked}
-use Rattle.order.proofs.Booleans.{decide}
-use Rattle.order.proofs.Matrix.{marked-true, marked-false, marked-set}
+use Rattle.order.proofs.Booleans.{decide, eqb-swap}
+use Rattle.order.proofs.Matrix.{marked-true, marked-false, marked-set, zero-marks}
 use Rattle.book.specs.Lists.{any}
 use Rattle.book.specs.Sharing.{unless255, gathered, repeats}
+use Rattle.book.proofs.Searches.{any-none}
 use Rattle.references.specs.Marks.{markAll, meets, Bytes, none, also, Marking}
 
 bytes-then : {xs ys : List ℕ} → Bytes xs → Bytes ys → Bytes (xs ++ ys)
@@ -114,19 +114,12 @@ length-marked (x ∷ xs) marks = length-marked xs (set marks x 1) ∙ length-set
 pub marked-length : {names marks after : List ℕ} {twice r : Bool} → Marking names marks twice r after → length after ≡ length marks
 marked-length {names} {marks} m = rw (m .memory) (length-marked names marks)
 
-equal-turned : (v w : ℕ) → eqb v w ≡ eqb w v
-equal-turned v w =
-    ⊎-elim
-    (λ q. q ∙ sym (eq-eqb w v (sym (eqb-true v w q))))
-    (λ q. q ∙ sym (ne-eqb w v (λ e. eqb-false v w q (sym e))))
-    (decide (eqb v w))
-
 -- the marks with one more: what any of them meets
 any-marked-set : (xs marks : List ℕ) (x : ℕ) → x < length marks → any (marked (set marks x 1)) xs ≡ (any (marked marks) xs || among xs x)
 unfolding any among
 any-marked-set [] marks x h = refl
 any-marked-set (y ∷ ys) marks x h =
-    rw (marked-set marks x y h, any-marked-set ys marks x h, equal-turned x y)
+    rw (marked-set marks x y h, any-marked-set ys marks x h, eqb-swap x y)
     (regroup (marked marks y) (eqb y x) (any (marked marks) ys) (among ys x))
   where
     regroup : (a b c d : Bool) → ((a || b) || (c || d)) ≡ ((a || c) || (b || d))
@@ -134,11 +127,6 @@ any-marked-set (y ∷ ys) marks x h =
     regroup false true true d = refl
     regroup false true false d = refl
     regroup false false c d = refl
-
-none-marked : (names : List ℕ) (marks : List ℕ) → ((w : ℕ) → marked marks w ≡ false) → any (marked marks) names ≡ false
-unfolding any
-none-marked [] marks h = refl
-none-marked (x ∷ xs) marks h = rw (h x) (none-marked xs marks h)
 
 meets-any :
     {names : List ℕ} (marks : List ℕ) (twice : Bool) → Bytes names → 256 ≤ length marks
@@ -156,16 +144,8 @@ meets-any marks twice (also {x} {xs} b more) h =
     regroup false false true c d = refl
     regroup false false false c d = refl
 
-zero-marks : (w : ℕ) → marked (replicate 256 0) w ≡ false
-zero-marks w = marked-false (replicate 256 0) w (zero-at 256 w)
-  where
-    zero-at : (n w : ℕ) → _≡_ {A = ℕ} (getD (replicate n 0) w 0) 0
-    zero-at zero w = refl
-    zero-at (suc n) zero = refl
-    zero-at (suc n) (suc w) = zero-at n w
-
 pub marked-repeats : {names after : List ℕ} {r : Bool} → Marking names (replicate 256 0) false r after → r ≡ repeats names
 marked-repeats {names} {after} {r} m =
     m .found
     ∙ meets-any (replicate 256 0) false (m .bytes) (omega arith)
-    ∙ rw (none-marked names (replicate 256 0) zero-marks)
+    ∙ rw (any-none (marked (replicate 256 0)) names 0 (λ i l. zero-marks 256 (getD names i 0)))

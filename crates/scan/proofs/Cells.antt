@@ -1,6 +1,6 @@
 -- Tables of 32 rows of w cells in one list, and what a store does to them. The table of counts has rows of 4, that of places rows of 418.
 -- Assumes nothing.
-use Prim.Native.Nat.{ℕ, zero, suc, _+_, _*_, _<_}
+use Prim.Native.Nat.{ℕ, _+_, _*_, _<_}
 use mathlib.Core.Path.{_≡_, refl}
 use mathlib.Core.Bool.{Bool, true, false, cond, _&&_}
 use mathlib.Core.List.{List}
@@ -9,6 +9,7 @@ use lib.ListN.{length, getD, set, replicate}
 use lib.Seq.{getD-set-same, getD-set-other}
 use lib.Dec.{ltb}
 use borrow.Author.Tests.{ltb-true, lt-ltb}
+use Rattle.order.proofs.Matrix.{zeros}
 use Rattle.book.specs.Tables.{countAt, placeAt}
 
 unfoldable pub cellAt : ℕ → List ℕ → ℕ → ℕ → ℕ
@@ -47,15 +48,10 @@ module _ (w : ℕ) (apart : Apart w) (xs : List ℕ) (i k v : ℕ) (row : i < 32
       go true false e = refl
       go false b e = refl
 
-getD-zeros : (n k : ℕ) → _≡_ {A = ℕ} (getD (replicate n 0) k 0) 0
-getD-zeros zero k = refl
-getD-zeros (suc n) zero = refl
-getD-zeros (suc n) (suc k) = getD-zeros n k
-
 pub cell-zero : (w n i k : ℕ) → cellAt w (replicate {A = ℕ} n 0) i k ≡ 0
 unfolding cellAt
 cell-zero w n i k = go (ltb i 32 && ltb k w)
   where
     go : (b : Bool) → _≡_ {A = ℕ} (cond b (getD (replicate n 0) (i * w + k) 0) 0) 0
-    go true = getD-zeros n (i * w + k)
+    go true = zeros n (i * w + k)
     go false = refl

@@ -11,6 +11,7 @@ use native.Mathlib.Omega.{arith}
 use lib.ListN.{length, getD, drop, set, length-set, length-replicate, drop-of-length-le}
 use lib.Dec.{eqb, leb}
 use borrow.Author.Tests.{eqb-false, eq-eqb, ne-eqb, leb-true, not-false}
+use Rattle.order.proofs.Booleans.{both}
 use Rattle.record.specs.Kinds.{shapeIn}
 use Rattle.record.specs.declared.Medium.the-variants.{Book}
 use Rattle.record.specs.declared.Shape.{Shape}
@@ -117,15 +118,11 @@ either : (a b : Bool) → (a || b) ≡ true → a ≡ false → b ≡ true
 either true b e h = absurd (true≢false h)
 either false b e h = e
 
-first : (a b : Bool) → (a && b) ≡ true → a ≡ true
-first true b e = refl
-first false b e = e
-
 after-one : (last st : ℕ) → follows last st ≡ true → 2 ≤ st → 1 ≤ last
 unfolding follows
 after-one last st e h =
     let q = either (eqb st 1) (leb 1 last && leb last st) e (ne-eqb st 1 (omega arith)) in
-    leb-true 1 last (first (leb 1 last) (leb last st) q)
+    leb-true 1 last (both (leb 1 last) (leb last st) q .0)
 
 module _ (bytes places counts : List ℕ) (t : Tally) (at : ℕ) (f : Filling bytes places counts t at) (here : at < length bytes) where
   m : Met

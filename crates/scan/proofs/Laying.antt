@@ -7,13 +7,14 @@ use Prim.Native.Nat.{ℕ, suc, _+_, _-_, _*_, _≤_, _<_}
 use mathlib.Core.Path.{_≡_, refl, sym, ap, _∙_}
 use mathlib.Core.Bool.{Bool, true, false, cond}
 use mathlib.Core.List.{List, [], _∷_}
-use mathlib.Core.Logic.{_⊎_, inl, inr, ⊎-elim}
+use mathlib.Core.Logic.{⊎-elim}
 use native.Mathlib.Omega.{arith}
 use native.Mathlib.Numerals.{add-one}
 use lib.ListN.{length, getD, drop, set, replicate, length-drop}
 use lib.Seq.{drop-cons}
 use lib.Dec.{eqb, ltb}
 use borrow.Author.Tests.{eqb-true, eqb-false, eq-eqb, ne-eqb, lt-ltb, le-ltb, ltb-true, ltb-false}
+use Rattle.order.proofs.Booleans.{decide}
 use Rattle.book.specs.declared.Tally.{Tally}
 use Rattle.book.specs.Syntax.{Scope, emptyScope}
 use Rattle.book.specs.Records.{Met, stageOf, counted, start}
@@ -22,10 +23,6 @@ use Rattle.book.specs.References.{scopeAt}
 use Rattle.book.specs.Tables.{countAt, placeAt}
 use Rattle.scan.proofs.Cells.{count-cell, place-cell, apart-counts, apart-places, cell-same, cell-other, cell-zero}
 use Rattle.scan.proofs.Sorts.{Sort, number, stage, base, limit, count, Item, itemsOf, item, from, same-sort, number-below, base-below, bases-apart, count-new, scopes-new, scopes-turn, count-turn, items-none, begun, scopes-behind, items-turn}
-
-decide : (b : Bool) → (b ≡ true) ⊎ (b ≡ false)
-decide true = inl refl
-decide false = inr refl
 
 -- What is left of a scope
 

@@ -10,6 +10,7 @@ use mathlib.Core.List.{List, [], _∷_}
 use lib.ListN.{length, getD, length-drop}
 use lib.Dec.{T, leb, leb→le, ltb}
 use borrow.Author.Tests.{lt-ltb}
+use Rattle.record.proofs.Decision.{and-l, and-r}
 use Rattle.record.specs.Kinds.{kinds, shapesOf, pickShape, shapeIn}
 use Rattle.record.specs.Record.{recordAt, bodyAt}
 use Rattle.record.specs.declared.Medium.the-variants.{Book}
@@ -25,15 +26,11 @@ every : {A : Type 0} → (A → Bool) → List A → Bool
 every p [] = true
 every p (x ∷ xs) = p x && every p xs
 
-both : (a b : Bool) → T (a && b) → T a × T b
-both true b h = (tt, h)
-both false b h = absurd h
-
 at-every : {A : Type 0} (p : A → Bool) (xs : List A) (d : A) → T (every p xs) → T (p d) → (k : ℕ) → T (p (getD xs k d))
 unfolding every
 at-every p [] d h e k = e
-at-every p (x ∷ xs) d h e zero = both (p x) (every p xs) h .0
-at-every p (x ∷ xs) d h e (suc k) = at-every p xs d (both (p x) (every p xs) h .1) e k
+at-every p (x ∷ xs) d h e zero = and-l (p x) (every p xs) h
+at-every p (x ∷ xs) d h e (suc k) = at-every p xs d (and-r (p x) (every p xs) h) e k
 
 pub stage-below : (k : ℕ) → shapeIn Book k .stage ≤ 5
 unfolding shapeIn shapesOf kinds every

@@ -6,7 +6,7 @@
 -- Assumes nothing.
 use Prim.Native.Nat.{ℕ, zero, suc, _+_, _-_, _≤_, _<_}
 use mathlib.Core.Path.{_≡_, refl, sym, ap, _∙_}
-use mathlib.Core.Bool.{Bool, true, false, cond, _||_, true≢false}
+use mathlib.Core.Bool.{Bool, true, false, cond, _||_}
 use mathlib.Core.List.{List, [], _∷_}
 use native.Mathlib.Omega.{arith}
 use native.Mathlib.Numerals.{add-one}
@@ -14,6 +14,7 @@ use lib.ListN.{length, getD, take, drop, length-drop, drop-of-length-le}
 use lib.Seq.{drop-cons, drop-drop}
 use lib.Dec.{eqb, ltb}
 use borrow.Author.Tests.{eq-eqb, ne-eqb, lt-ltb, le-ltb, ltb-false}
+use Rattle.order.proofs.Booleans.{neither}
 use Rattle.record.specs.Kinds.{shapeIn}
 use Rattle.record.specs.declared.Medium.the-variants.{Book}
 use Rattle.record.specs.declared.Shape.{Shape}
@@ -163,18 +164,14 @@ sounds m ms e =
     let g = no-fault (invalidByte m) InvalidByte (scan ms) (f .1) in
     record { clean = record { known = a .0; whole = b .0; ordered = d .0; few = f .0; valid = g .0 }; more = g .1 }
 
-none-of : (a b : Bool) → (a || b) ≡ false → (a ≡ false) × (b ≡ false)
-none-of true b e = absurd (true≢false e)
-none-of false b e = (refl, e)
-
 -- the counts stay within the limits
 pub in-limits : (t : Tally) → exceeds t ≡ false → InLimits t
 unfolding exceeds
 in-limits t e =
-    let a = none-of (ltb 32 (t .scopes)) (ltb 32 (t .variables) || (ltb 8 (t .subs) || (ltb 250 (t .nodes) || ltb 128 (t .clauses)))) e in
-    let b = none-of (ltb 32 (t .variables)) (ltb 8 (t .subs) || (ltb 250 (t .nodes) || ltb 128 (t .clauses))) (a .1) in
-    let d = none-of (ltb 8 (t .subs)) (ltb 250 (t .nodes) || ltb 128 (t .clauses)) (b .1) in
-    let f = none-of (ltb 250 (t .nodes)) (ltb 128 (t .clauses)) (d .1) in
+    let a = neither (ltb 32 (t .scopes)) (ltb 32 (t .variables) || (ltb 8 (t .subs) || (ltb 250 (t .nodes) || ltb 128 (t .clauses)))) e in
+    let b = neither (ltb 32 (t .variables)) (ltb 8 (t .subs) || (ltb 250 (t .nodes) || ltb 128 (t .clauses))) (a .1) in
+    let d = neither (ltb 8 (t .subs)) (ltb 250 (t .nodes) || ltb 128 (t .clauses)) (b .1) in
+    let f = neither (ltb 250 (t .nodes)) (ltb 128 (t .clauses)) (d .1) in
     record {
       scopes = ltb-false 32 (t .scopes) (a .0);
       variables = ltb-false 32 (t .variables) (b .0);

@@ -20,7 +20,7 @@ use Rattle.book.specs.Scopes.{calls}
 use Rattle.book.specs.Tables.{subScopeAt}
 use Rattle.steps.specs.Edges.{oneEdge, callEdges, Marked}
 use Rattle.order.proofs.Booleans.{decide}
-use Rattle.steps.proofs.Equality.{eqb-swap}
+use Rattle.order.proofs.Booleans.{eqb-swap}
 use Rattle.steps.proofs.Marking.{Marking, anyEdge, start, turn, done, list-turn, list-done}
 
 each : (i : ℕ) (xs : List ℕ) (x y : ℕ) → anyEdge (oneEdge i) xs x y ≡ (eqb i x && among xs y)

@@ -23,7 +23,7 @@ use Rattle.book.specs.declared.Clause.{Clause}
 use Rattle.steps.specs.Edges.{readEdges, stepWith, clauseEdges, Marked}
 use Rattle.order.proofs.Booleans.{decide}
 use Rattle.steps.proofs.Marking.{Marking, anyEdge, then, start, list-turn, list-done}
-use Rattle.steps.proofs.Reading.{term-past}
+use Rattle.book.proofs.Terms.{term-past}
 
 -- 255 is no node: a condition reads what the node of its number does
 condition-reads : (s : Scope) (v w n : ℕ) → length (s .nodes) ≤ 250

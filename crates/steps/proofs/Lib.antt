@@ -1,4 +1,3 @@
-pub mod Equality
 pub mod Marking
 pub mod Orders
 pub mod Calls

@@ -10,13 +10,13 @@ use mathlib.Core.Path.{_≡_, ap, _∙_}
 use mathlib.Core.Bool.{Bool, _||_}
 use mathlib.Core.List.{List}
 use native.Mathlib.Omega.{arith}
-use lib.ListN.{length, replicate, getD-replicate}
+use lib.ListN.{length, replicate}
 use Rattle.order.specs.Order.{order}
 use Rattle.order.specs.Matrix.{edgeOf}
 use Rattle.order.specs.Answer.{Filled}
 use Rattle.order.specs.declared.Ordered.{Ordered}
 use Rattle.order.specs.declared.Ordered.the-variants.{Taken, Unfit}
-use Rattle.order.proofs.Matrix.{edge-false}
+use Rattle.order.proofs.Matrix.{edge-false, zeros}
 use Rattle.order.proofs.Answer.{filled-fit}
 use Rattle.order.proofs.Order.{order-congruent}
 use Rattle.book.specs.Syntax.{Scope}
@@ -45,7 +45,7 @@ module _ (deps : List ℕ) (f : ℕ → ℕ → Bool) (h : Marked (replicate 160
   all-edges : (x y : ℕ) → x < 40 → y < 40 → edgeOf deps x y ≡ f x y
   all-edges x y l m =
       h .edges x y l m
-      ∙ ap (λ (t : Bool). t || f x y) (edge-false (replicate 1600 0) x y (getD-replicate 1600 (x * 40 + y) 0 0 (omega arith)))
+      ∙ ap (λ (t : Bool). t || f x y) (edge-false (replicate 1600 0) x y (zeros 1600 (x * 40 + y)))
 
   pub same-order : (n : ℕ) → n ≤ 40 → order (edgeOf deps) n ≡ order f n
   same-order n l = order-congruent (edgeOf deps) f n (λ v w a b. all-edges v w (omega arith) (omega arith))

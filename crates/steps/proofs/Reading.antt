@@ -1,20 +1,17 @@
 -- What a node's term reads, marked in a row of a matrix.
---     term-past                  a number that names no node below the limit has the term empty
---     read-none                  so it reads nothing
+--     read-none                  a number that names no node below the limit reads nothing
 --     operandsLeft, operands-start, operands-turn, operands-done     the reads of a node's operands from the k-th on
---     getD-within                within a list it does not matter what stands past its end
 --     read-all                   a node's own read, then those of its operands
 -- Assumes nothing.
-use Prim.Native.Nat.{ℕ, zero, suc, _<_, _≤_, _+_}
+use Prim.Native.Nat.{ℕ, _<_, _≤_, _+_}
 use mathlib.Core.Path.{_≡_, refl, sym, ap, _∙_}
 use mathlib.Core.Bool.{Bool, true, false, _&&_, _||_, and-false, or-false, and-or-distrib-left}
 use mathlib.Core.List.{List, [], _∷_}
 use mathlib.Core.Logic.{⊎-elim}
 use native.Mathlib.Omega.{arith}
-use native.Mathlib.Nat.{eq-or-lt-of-le}
 use lib.ListN.{length, getD, drop}
 use lib.Dec.{eqb}
-use borrow.Author.Tests.{eqb-true, eq-eqb, ne-eqb}
+use borrow.Author.Tests.{eqb-true, ne-eqb}
 use Rattle.order.specs.Matrix.{edgeOf}
 use Rattle.calculus.specs.Terms.{Term, Terms, error, none}
 use Rattle.calculus.specs.declared.Cause.the-variants.{Empty}
@@ -28,29 +25,8 @@ use Rattle.book.specs.declared.Node.{Node}
 use Rattle.book.specs.declared.Node.the-variants as node
 use Rattle.steps.specs.Edges.{oneEdge, operandsOf, readBy, readEdges, Marked}
 use Rattle.order.proofs.Booleans.{decide}
+use Rattle.book.proofs.Terms.{term-past, term-here}
 use Rattle.steps.proofs.Marking.{Marking, anyEdge, then, start, list-turn, list-done}
-
--- Terms of nodes
-
-pub term-past : (nodes : List Node) (limit n : ℕ) → limit ≤ n → termBelow nodes limit n ≡ error Empty
-unfolding termBelow
-term-past nodes zero n l = refl
-term-past nodes (suc limit) n l = rw (ne-eqb n limit (omega arith)) (term-past nodes limit n (omega arith))
-
-term-here : (nodes : List Node) (limit n : ℕ) → n < limit
-    → termBelow nodes limit n ≡ nodeTerm (termBelow nodes n) (getD nodes n (node.Constant false))
-unfolding termBelow
-term-here nodes zero n l = absurd (omega arith)
-term-here nodes (suc limit) n l =
-    ⊎-elim
-    (λ (e : n ≡ limit). rw (e, eq-eqb limit limit refl))
-    (λ (h : n < limit). rw (ne-eqb n limit (omega arith)) (term-here nodes limit n h))
-    (eq-or-lt-of-le {n = n} {m = limit} (omega arith))
-
-pub getD-within : {A : Type 0} (xs : List A) (k : ℕ) (d d' : A) → k < length xs → getD xs k d ≡ getD xs k d'
-getD-within [] k d d' l = absurd (omega arith)
-getD-within (x ∷ xs) zero d d' l = refl
-getD-within (x ∷ xs) (suc k) d d' l = getD-within xs k d d' (omega arith)
 
 -- What a node reads, by what its operands do
 
@@ -161,8 +137,7 @@ module _ (book : List Scope) (i row limit n : ℕ) where
         let v = length (s .variables) in
         let lower = termBelow (s .nodes) n in
         let absent : lower 255 ≡ error Empty = term-past (s .nodes) n 255 (omega arith) in
-        let same : getD (s .nodes) n (node.Constant false) ≡ nd = getD-within (s .nodes) n (node.Constant false) (node.Constant true) (omega arith) ∙ sym is in
-        let term : termBelow (s .nodes) limit n ≡ nodeTerm lower nd = term-here (s .nodes) limit n here ∙ ap (nodeTerm lower) same in
+        let term : termBelow (s .nodes) limit n ≡ nodeTerm lower nd = term-here (s .nodes) limit n here ∙ ap (nodeTerm lower) (sym is) in
         ap (λ (t : Term). eqb row x && reads v y t) term
         ∙ ap (λ (t : Bool). eqb row x && t) (reads-node v y lower absent nd l)
         ∙ and-or-distrib-left (eqb row x) (eqb (readBy v nd) y) (any (λ a. reads v y (lower a)) (operandsOf nd))

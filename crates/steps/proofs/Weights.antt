@@ -6,52 +6,23 @@
 -- Assumes nothing.
 use Prim.Native.Nat.{ℕ, zero, suc, _<_, _≤_, _+_, _-_}
 use mathlib.Core.Path.{_≡_, refl, sym, ap, _∙_}
-use mathlib.Core.Bool.{Bool, true, false, not, cond, _||_, or-true, false≢true, true≢false}
+use mathlib.Core.Bool.{Bool, true, false, cond, _||_, or-true, true≢false}
 use mathlib.Core.List.{List, [], _∷_, reverse, reverse-append}
 use mathlib.Core.Logic.{⊎-elim}
 use native.Mathlib.Omega.{arith}
 use lib.ListN.{length, getD, take}
 use lib.Seq.{take-suc, take-all}
 use lib.Dec.{eqb, ltb}
-use borrow.Author.Tests.{eqb-true, eq-eqb, lt-ltb, le-ltb, ltb-true, not-false}
+use borrow.Author.Tests.{eqb-true, eq-eqb, lt-ltb, le-ltb}
 use Rattle.order.specs.Order.{among}
-use Rattle.order.proofs.Order.{among-snoc, order-no-repeats, order-after-dependencies, order-all}
-use Rattle.book.specs.Lists.{any, anyFrom}
+use Rattle.order.proofs.Among.{among-snoc, among-place}
+use Rattle.order.proofs.Order.{order-no-repeats, order-after-dependencies, order-all}
 use Rattle.book.specs.Syntax.{Scope, emptyScope}
 use Rattle.book.specs.References.{scopeAt, danglesIn, dangles}
 use Rattle.book.specs.Scopes.{calls, blocks, sum, weightIn, weight, overweight}
 use Rattle.order.proofs.Booleans.{decide}
-
--- Searches through lists
-
-neither : (a b : Bool) → (a || b) ≡ false → (a ≡ false) × (b ≡ false)
-neither true b e = absurd (true≢false e)
-neither false b e = (refl, e)
-
-any-none : {A : Type 0} (p : A → Bool) (xs : List A) (i : ℕ) (d : A) → any p xs ≡ false → i < length xs → p (getD xs i d) ≡ false
-unfolding any
-any-none p [] i d e l = absurd (omega arith)
-any-none p (x ∷ xs) zero d e l = neither (p x) (any p xs) e .0
-any-none p (x ∷ xs) (suc i) d e l = any-none p xs i d (neither (p x) (any p xs) e .1) (omega arith)
-
-any-among : (p : ℕ → Bool) (xs : List ℕ) (j : ℕ) → any p xs ≡ false → among xs j ≡ true → p j ≡ false
-unfolding any among
-any-among p [] j e m = absurd (false≢true m)
-any-among p (x ∷ xs) j e m =
-    let n = neither (p x) (any p xs) e in
-    ⊎-elim
-    (λ (q : eqb j x ≡ true). ap p (eqb-true j x q) ∙ n .0)
-    (λ (q : eqb j x ≡ false). any-among p xs j (n .1) (rw q at m))
-    (decide (eqb j x))
-
-place-of : (xs : List ℕ) (i : ℕ) → among xs i ≡ true → (k : ℕ) × (k < length xs) × (getD xs k 0 ≡ i)
-unfolding among
-place-of [] i m = absurd (false≢true m)
-place-of (x ∷ xs) i m =
-    ⊎-elim
-    (λ (q : eqb i x ≡ true). (0, omega arith, sym (eqb-true i x q)))
-    (λ (q : eqb i x ≡ false). let r = place-of xs i (rw q at m) in (suc (r .0), omega arith, r .2))
-    (decide (eqb i x))
+use Rattle.book.proofs.Searches.{any-false, anyFrom-at, anyFrom-none}
+use Rattle.book.proofs.Naming.{named-sub-scopes}
 
 pub sum-congruent : (f g : ℕ → ℕ) (xs : List ℕ) → ((j : ℕ) → among xs j ≡ true → f j ≡ g j) → sum f xs ≡ sum g xs
 unfolding sum among
@@ -65,11 +36,11 @@ sum-congruent f g (x ∷ xs) same =
 
 -- a number that a sub-scope has is that of a scope
 names-scope : (book : List Scope) → dangles book ≡ false → (i j : ℕ) → i < length book → calls book i j ≡ true → j < length book
-unfolding dangles danglesIn calls
+unfolding dangles calls
 names-scope book sound i j l m =
     let s = scopeAt book i in
-    let none = neither (any (λ k. not (ltb k (length book))) (s .subScopes)) _ (any-none (danglesIn book) book i emptyScope sound l) .0 in
-    ltb-true j (length book) (not-false (ltb j (length book)) (any-among (λ k. not (ltb k (length book))) (s .subScopes) j none m))
+    let r = among-place (s .subScopes) j m in
+    rw (← r .2) (named-sub-scopes book s (any-false (danglesIn book) book sound i l emptyScope) (r .0) (r .1))
 
 module _ (book : List Scope) (whole : length (blocks book) ≡ length book) where
   pub block-bound : (k : ℕ) → k < length book → getD (blocks book) k 0 < length book
@@ -138,7 +109,7 @@ module _ (book : List Scope) (whole : length (blocks book) ≡ length book) wher
 
   pub weight-sum : dangles book ≡ false → (i : ℕ) → i < length book → weight book i ≡ suc (sum (weight book) (scopeAt book i .subScopes))
   weight-sum sound i l =
-      let p = place-of (blocks book) i (every-block i l) in
+      let p = among-place (blocks book) i (every-block i l) in
       let k = p .0 in
       let few : k < length book = omega arith in
       let is : eqb (getD (blocks book) k 0) i ≡ true = eq-eqb (getD (blocks book) k 0) i (p .2) in
@@ -154,34 +125,14 @@ module _ (book : List Scope) (whole : length (blocks book) ≡ length book) wher
 
 -- Weights above 4,096
 
-some-from : {A : Type 0} (p : ℕ → A → Bool) (xs : List A) (k i : ℕ) (d : A) → i < length xs → p (k + i) (getD xs i d) ≡ true → anyFrom p k xs ≡ true
-unfolding anyFrom
-some-from p [] k i d l e = absurd (omega arith)
-some-from p (x ∷ xs) k zero d l e = let z : k + 0 ≡ k = omega arith in let e' : p k x ≡ true = rw z at e in rw e'
-some-from p (x ∷ xs) k (suc i) d l e =
-    let z : k + suc i ≡ suc k + i = omega arith in
-    rw (some-from p xs (suc k) i d (omega arith) (rw z at e)) (or-true (p k x))
-
-none-from : {A : Type 0} (p : ℕ → A → Bool) (xs : List A) (k : ℕ) (d : A) → ((i : ℕ) → i < length xs → p (k + i) (getD xs i d) ≡ false)
-    → anyFrom p k xs ≡ false
-unfolding anyFrom
-none-from p [] k d none = refl
-none-from p (x ∷ xs) k d none =
-    let z : k + 0 ≡ k = omega arith in
-    let here : p k x ≡ false = rw z at (none 0 (omega arith)) in
-    let later : anyFrom p (suc k) xs ≡ false =
-    none-from p xs (suc k) d
-    (λ i l. let y : k + suc i ≡ suc k + i = omega arith in rw y at (none (suc i) (omega arith))) in
-    rw (here, later)
-
 pub overweight-one : (book : List Scope) (i : ℕ) → i < length book → 4096 < weight book i → overweight book ≡ true
 unfolding overweight
 overweight-one book i l h =
     let z : 0 + i ≡ i = omega arith in
-    some-from (λ j s. ltb 4096 (weight book j)) book 0 i emptyScope l (rw z (lt-ltb 4096 (weight book i) h))
+    anyFrom-at (λ j s. ltb 4096 (weight book j)) 0 book i l emptyScope (rw z (lt-ltb 4096 (weight book i) h))
 
 pub overweight-none : (book : List Scope) → ((i : ℕ) → i < length book → weight book i ≤ 4096) → overweight book ≡ false
 unfolding overweight
 overweight-none book small =
-    none-from (λ j s. ltb 4096 (weight book j)) book 0 emptyScope
+    anyFrom-none (λ j s. ltb 4096 (weight book j)) 0 book emptyScope
     (λ i l. let z : 0 + i ≡ i = omega arith in rw z (le-ltb 4096 (weight book i) (small i l)))

@@ -3,7 +3,7 @@
 use Prim.Native.Nat.{ℕ, zero, suc, _<_, _≤_}
 use mathlib.Core.Path.{_≡_, refl, sym, ap, _∙_}
 use mathlib.Core.Bool.{Bool, true, false, cond, false≢true}
-use mathlib.Core.List.{List, [], _∷_}
+use mathlib.Core.List.{List}
 use mathlib.Core.Logic.{⊎-elim}
 use native.Mathlib.Nat.{eq-or-lt-of-le}
 use native.Mathlib.Omega.{arith}
@@ -27,12 +27,6 @@ use Rattle.book.specs.Trees.{exception, nodeTerm, termBelow}
 use Rattle.book.specs.declared.Node.{Node}
 use Rattle.book.specs.declared.Node.the-variants.{Constant, Default}
 use Rattle.terms.specs.Outcomes.{envOf, outcomeBelow, gatherBelow, restBelow, defaultBelow, isNothing}
-
--- of an element that is there, the default does not matter
-get-there : {A : Type 0} (xs : List A) (n : ℕ) (d e : A) → n < length xs → getD xs n d ≡ getD xs n e
-get-there [] n d e h = absurd (omega arith)
-get-there (x ∷ xs) zero d e h = refl
-get-there (x ∷ xs) (suc n) d e h = get-there xs n d e (omega arith)
 
 module _ (nodes : List Node) where
   -- at the limit and past it there is no node
@@ -87,8 +81,7 @@ module _ (bytes own called : List ℕ) (i : ℕ) where
       → outcomeBelow bytes own called i limit n ≡ eval (envOf own called) (nodeTerm (termBelow nodes n) nd)
   unfolding outcomeBelow nodeAt
   here limit n found nd h k p q =
-      let same = get-there nodes n (Constant false) (Constant true) (omega arith) in
-      ap (eval (envOf own called)) (below-at nodes limit n h ∙ ap (nodeTerm (termBelow nodes n)) (same ∙ sym p ∙ q))
+      ap (eval (envOf own called)) (below-at nodes limit n h ∙ ap (nodeTerm (termBelow nodes n)) (sym p ∙ q))
 
   pub default-here : (n x y z j c : ℕ)
       → eval (envOf own called) (nodeTerm (termBelow nodes n) (Default x y z j c)) ≡ defaultBelow bytes own called i n x y z j c

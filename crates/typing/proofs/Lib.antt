@@ -1,4 +1,3 @@
-mod Searching
 mod Table
 mod Targets
 mod Marking

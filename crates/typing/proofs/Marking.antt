@@ -2,7 +2,7 @@
 --     Read       a clause's mark and its place
 --     Marking    each clause passed stands marked, and each mark is that of a clause passed; start, turn and the two ways out, found and ended
 -- Assumes nothing.
-use Prim.Native.Nat.{ℕ, zero, suc, _+_, _≤_, _<_}
+use Prim.Native.Nat.{ℕ, _+_, _≤_, _<_}
 use mathlib.Core.Path.{_≡_, refl, sym, ap, _∙_}
 use mathlib.Core.Bool.{true, false, not, _&&_}
 use mathlib.Core.Logic.{_⊎_, inl, inr, ⊎-elim}
@@ -21,7 +21,8 @@ use Rattle.book.specs.declared.Consequence.{Consequence}
 use Rattle.book.specs.declared.Consequence.the-variants.{Of, Fixed}
 use Rattle.typing.specs.Marks.{slotOf, markOf, mixedAt}
 use Rattle.order.proofs.Booleans.{decide}
-use Rattle.typing.proofs.Searching.{at-some, at-none}
+use Rattle.order.proofs.Matrix.{zeros}
+use Rattle.book.proofs.Searches.{any-at, any-none}
 use Rattle.typing.proofs.Targets.{Ranged, slot-below, slot-same, same-slot}
 
 -- a clause's mark, and where it stands
@@ -50,11 +51,6 @@ pub record Marking (book : List Scope) (i : ℕ) (seen : List ℕ) (n : ℕ) : T
   pub passed : (k : ℕ) → k < n → getD seen (slotAt book i k) 0 ≡ markAt book i k
   pub source : (a : ℕ) → (getD seen a 0 ≡ 0 → ⊥) → Source book i n a (getD seen a 0)
 
-blank : (m a : ℕ) → getD (replicate {A = ℕ} m 0) a 0 ≡ 0
-blank zero a = refl
-blank (suc m) zero = refl
-blank (suc m) (suc a) = blank m a
-
 mark-some : (q : Consequence) → markOf q ≡ 0 → ⊥
 unfolding markOf
 mark-some (Of n) e = omega arith
@@ -81,14 +77,14 @@ module _ (book : List Scope) (i : ℕ) where
   unfolding mixedAt mixedIn clauseAt
   pair-found j k a b e =
       let cs = scopeAt book i .clauses in
-      sym (at-some (λ x. any (mixedPair x) cs) noClause cs j a (at-some (mixedPair (getD cs j noClause)) noClause cs k b e))
+      sym (any-at (λ x. any (mixedPair x) cs) cs j a noClause (any-at (mixedPair (getD cs j noClause)) cs k b noClause e))
 
   none-found : ((j k : ℕ) → j < length (scopeAt book i .clauses) → k < length (scopeAt book i .clauses)
       → mixedPair (clauseAt book i j) (clauseAt book i k) ≡ false) → false ≡ mixedAt book i
   unfolding mixedAt mixedIn clauseAt
   none-found h =
       let cs = scopeAt book i .clauses in
-      sym (at-none (λ x. any (mixedPair x) cs) noClause cs (λ j a. at-none (mixedPair (getD cs j noClause)) noClause cs (λ k b. h j k a b)))
+      sym (any-none (λ x. any (mixedPair x) cs) cs noClause (λ j a. any-none (mixedPair (getD cs j noClause)) cs noClause (λ k b. h j k a b)))
 
   pub start : Marking book i (replicate 288 0) 0
   start =
@@ -96,7 +92,7 @@ module _ (book : List Scope) (i : ℕ) where
         room = length-replicate {A = ℕ} 288 0;
         within = omega arith;
         passed = λ k h. absurd (omega arith);
-        source = λ a h. absurd (h (blank 288 a));
+        source = λ a h. absurd (h (zeros 288 a));
       }
 
   module _ (seen : List ℕ) (n : ℕ) (g : Marking book i seen n) where

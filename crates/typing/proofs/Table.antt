@@ -3,7 +3,7 @@
 --     Table           the types of the nodes below n stand in the table; start and turn
 --     node-found, clause-left    what the searches by a full table find, mismatchAt finds
 -- Assumes nothing.
-use Prim.Native.Nat.{ℕ, zero, suc, _+_, _*_, _≤_, _<_}
+use Prim.Native.Nat.{ℕ, suc, _+_, _*_, _≤_, _<_}
 use mathlib.Core.Path.{_≡_, refl, ap, _∙_, fun-ext}
 use mathlib.Core.Bool.{Bool, true, false, cond, _&&_, _||_}
 use mathlib.Core.Logic.{⊎-elim}
@@ -14,15 +14,15 @@ use lib.ListN.{length, getD, set, replicate, length-set, length-replicate}
 use lib.Seq.{getD-set-same, getD-set-other}
 use lib.Dec.{eqb, ltb}
 use borrow.Author.Tests.{eqb-true, eqb-false}
-use Rattle.book.specs.Syntax.{Scope}
+use Rattle.book.specs.Syntax.{Scope, noNode}
 use Rattle.book.specs.References.{scopeAt}
 use Rattle.book.specs.Typing.{nodeType, typeBelow, typeOfNode, mismatchIn}
 use Rattle.book.specs.Tables.{countAt, nodeAt}
 use Rattle.book.specs.declared.ValueType.{ValueType}
 use Rattle.book.specs.declared.ValueType.the-variants.{YesNo, Numeric}
 use Rattle.book.specs.declared.Node.{Node}
-use Rattle.book.specs.declared.Node.the-variants.{Constant}
 use Rattle.order.proofs.Booleans.{decide}
+use Rattle.order.proofs.Matrix.{zeros}
 use Rattle.typing.specs.Types.{byteOf, typeIn, typeOver, nodeSuits, clauseSuits, nodeMisfits, clauseMisfits, mismatchAt}
 
 either : (b : Bool) (x m : ℕ) → x < m → 0 < m → cond b x 0 < m
@@ -35,9 +35,7 @@ few counts i n h e = rw (← e) (either (ltb i 32 && ltb 2 4) (getD counts (i * 
 
 blank : (m k : ℕ) → typeIn (replicate m 0) k ≡ YesNo
 unfolding typeIn
-blank zero k = refl
-blank (suc m) zero = refl
-blank (suc m) (suc k) = blank m k
+blank m k = rw (zeros m k)
 
 stored : (types : List ℕ) (n : ℕ) (t : ValueType) → n < length types → typeIn (set types n (byteOf t)) n ≡ t
 unfolding typeIn byteOf
@@ -50,7 +48,7 @@ kept types n k b h = rw (getD-set-other types n k b 0 h)
 
 next : (book : List Scope) (s : Scope) (n k : ℕ)
     → typeBelow book s (suc n) k
-    ≡ cond (eqb k n) (nodeType book s (typeBelow book s n) (getD (s .nodes) n (Constant true))) (typeBelow book s n k)
+    ≡ cond (eqb k n) (nodeType book s (typeBelow book s n) (getD (s .nodes) n noNode)) (typeBelow book s n k)
 unfolding typeBelow
 next book s n k = refl
 

@@ -7,22 +7,23 @@
 -- Assumes nothing.
 use Prim.Native.Nat.{ℕ, _+_, _*_, _<_}
 use mathlib.Core.Path.{_≡_, refl, sym, _∙_}
-use mathlib.Core.Bool.{true, false, not, _&&_, _||_}
+use mathlib.Core.Bool.{true, false, _&&_}
 use mathlib.Core.Logic.{_⊎_, inl, inr, ⊎-elim}
 use mathlib.Core.List.{List}
 use native.Mathlib.Omega.{arith}
 use lib.ListN.{length, getD}
 use lib.Dec.{eqb, ltb}
-use borrow.Author.Tests.{eq-eqb, ne-eqb, eqb-true, ltb-true, not-false}
+use borrow.Author.Tests.{eq-eqb, ne-eqb, eqb-true, ltb-true}
 use Rattle.book.specs.Lists.{any, anyFrom}
 use Rattle.book.specs.Syntax.{Scope, emptyScope, sameTarget}
-use Rattle.book.specs.References.{scopeAt, noClause, namesCalled, namesTarget, nodeNames, clauseNames, danglesIn, dangles}
+use Rattle.book.specs.References.{scopeAt, noClause, namesCalled, namesTarget, clauseNames, danglesIn, dangles}
 use Rattle.book.specs.Tables.{clauseAt}
 use Rattle.book.specs.declared.Target.{Target}
 use Rattle.book.specs.Limits.{Within}
 use Rattle.typing.specs.Marks.{slotOf}
-use Rattle.order.proofs.Booleans.{decide, both, neither}
-use Rattle.typing.proofs.Searching.{none-at, none-from}
+use Rattle.order.proofs.Booleans.{decide, both}
+use Rattle.book.proofs.Searches.{any-default}
+use Rattle.book.proofs.Naming.{named-clauses}
 
 pub record Ranged (t : Target) : Type 0 where
   pub variable : t .variable < 32
@@ -77,14 +78,6 @@ nothing-dangles : (book : List Scope) → danglesIn book emptyScope ≡ false
 unfolding danglesIn any anyFrom
 nothing-dangles book = refl
 
-clauses-named : (book : List Scope) (s : Scope) → danglesIn book s ≡ false → anyFrom (λ n c. not (clauseNames book s n c)) 0 (s .clauses) ≡ false
-unfolding danglesIn
-clauses-named book s h =
-    let subs = any (λ i. not (ltb i (length book))) (s .subScopes) in
-    let nodes = anyFrom (λ n x. not (nodeNames book s n x)) 0 (s .nodes) in
-    let clauses = anyFrom (λ n c. not (clauseNames book s n c)) 0 (s .clauses) in
-    neither nodes clauses (neither subs (nodes || clauses) h .1) .1
-
 module _ (book : List Scope) (few : Within book) where
   named-ranged : (i : ℕ) (t : Target) → namesTarget book (scopeAt book i) t ≡ true → Ranged t
   unfolding namesCalled
@@ -109,6 +102,5 @@ module _ (book : List Scope) (few : Within book) where
   ranged h i n l =
       let s = scopeAt book i in
       let t = getD (s .clauses) n noClause .target in
-      let here = clauses-named book s (none-at (danglesIn book) emptyScope book i h (nothing-dangles book)) in
-      let named = none-from (λ m x. not (clauseNames book s m x)) noClause (s .clauses) 0 n here l in
-      named-ranged i t (both (namesTarget book s t) _ (not-false _ named) .0)
+      let here = any-default (danglesIn book) book emptyScope h (nothing-dangles book) i in
+      named-ranged i t (both (namesTarget book s t) _ (named-clauses book s here n l noClause) .0)

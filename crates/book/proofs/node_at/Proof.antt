@@ -1,7 +1,6 @@
 -- `book::node_at` meets its contract.
 -- Assumes nothing.
-use Rattle.book.specs.declared.Node.the-variants.{Constant}
-use mathlib.Core.Bool.{true}
+use Rattle.book.specs.Syntax.{noNode}
 use Rattle.book.specs.Tables.{nodeAt, nodeFrom}
 use Rattle.book.specs.References.{scopeAt}
 use Rattle.book.specs.Decode.{scopesOf}
@@ -35,7 +34,7 @@ returns c =
     let i = c .before .before .before .before .before .before .before .before .before .args .i in
     let n = c .before .before .before .before .before .before .before .before .before .args .n in
     let few : n < length (scopeAt (scopesOf (now (c .before .before .before .before .before .before .before .before .before .args .book))) i .nodes) = rw (← laid .nodeCount i, ← c .before .before .before .before .before .count-at .ensures) (c .before .before .before .before .if1 .taken) in
-    rw (c .node-of .ensures, c .before .byte-at .ensures, c .before .before .body-at .ensures, c .before .before .before .place-at .ensures) (laid .nodes i n (Constant true) few)
+    rw (c .node-of .ensures, c .before .byte-at .ensures, c .before .before .body-at .ensures, c .before .before .before .place-at .ensures) (laid .nodes i n noNode few)
 
 returns-2 : tie.Need-returns-2
 unfolding nodeAt
@@ -44,7 +43,7 @@ returns-2 c =
     let i = c .before .before .before .before .before .args .i in
     let n = c .before .before .before .before .before .args .n in
     let many : length (scopeAt (scopesOf (now (c .before .before .before .before .before .args .book))) i .nodes) ≤ n = rw (← laid .nodeCount i, ← c .before .count-at .ensures) (c .if1 .left) in
-    sym (List·getD-eq-default (scopeAt (scopesOf (now (c .before .before .before .before .before .args .book))) i .nodes) (Constant true) many)
+    sym (List·getD-eq-default (scopeAt (scopesOf (now (c .before .before .before .before .before .args .book))) i .nodes) noNode many)
 
 pub node-at-spec : {M : Type 1} → statement M
 node-at-spec =

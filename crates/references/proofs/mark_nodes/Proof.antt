@@ -1,11 +1,10 @@
 -- `references::mark_nodes` meets its contract. The invariant: what the nodes below n name is marked, and nothing else was.
 -- Assumes nothing.
 use Rattle.references.proofs.Marks.{marked-length, passed, passed-start, passed-more, passed-end}
-use Rattle.book.specs.declared.Node.the-variants.{Constant}
+use Rattle.book.specs.Syntax.{noNode}
 use Rattle.book.specs.Tables.{nodeAt}
 use Rattle.book.specs.Sharing.{operands}
 use Rattle.references.specs.Marks.{Marking, nodeNamings}
-use mathlib.Core.Bool.{true}
 use Rattle.book.specs.References.{scopeAt}
 use Rattle.book.specs.Decode.{scopesOf}
 use borrow.Author.Needs.{needs}
@@ -44,7 +43,7 @@ loop-again : tie.Need-loop-again Inv-loop μ-loop
 unfolding nodeAt
 loop-again c = (
   omega arith,
-  passed-more _ _ _ (c .before .before .before .before .before .before .loop .inv .1) (Constant true)
+  passed-more _ _ _ (c .before .before .before .before .before .before .loop .inv .1) noNode
       (rw (← c .before .before .before .before .before .before .before .node-count .ensures)
       (c .before .before .before .before .before .loop-test .taken))
       (rw (← c .before .before .before .before .node-at .ensures) (c .before .before .mark-operands .ensures)),

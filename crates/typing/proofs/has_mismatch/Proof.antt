@@ -1,18 +1,19 @@
 -- `typing::has_mismatch` meets its contract. The invariant of its loop is `Sought`.
 -- Assumes nothing.
 use Prim.Native.Nat.{_-_}
+use mathlib.Core.Path.{_∙_}
 use native.Mathlib.Omega.{arith}
 use borrow.Author.Needs.{needs}
 use Rattle.book.specs.Syntax.{emptyScope}
 use Rattle.book.specs.Decode.{scopesOf}
 use Rattle.book.specs.Typing.{mismatchIn, mismatches}
 use Rattle.typing.specs.Types.{mismatchAt}
-use Rattle.typing.proofs.Searching.{Sought, start, turn, found, ended}
+use Rattle.book.proofs.Searches.{Sought, start, turn, found, ended, any-from}
 use Rattle.typing.proofs.has_mismatch.Statement.{statement}
 use Rattle.typing.proofs.has_mismatch.Tie as tie
 
 abbrev Inv-loop : tie.InvT-loop
-Inv-loop book places counts scopes i₀ i = Sought (mismatchIn (scopesOf book)) (scopesOf book) i
+Inv-loop book places counts scopes i₀ i = Sought (λ k s. mismatchIn (scopesOf book) s) (scopesOf book) i
 
 abbrev μ-loop : tie.MeasureT-loop
 μ-loop book places counts scopes i₀ i = scopes - i
@@ -27,7 +28,7 @@ returns : tie.Need-returns Inv-loop μ-loop
 unfolding mismatches mismatchAt
 returns c =
     let few = rw (c .before .before .before .before .before .before .before .pre .1) at (c .before .before .loop-test .taken) in
-    found _ _ _ (c .before .before .before .loop .inv) emptyScope few (rw (← c .before .mismatch-at .ensures) (c .if1 .taken))
+    found _ _ _ (c .before .before .before .loop .inv) emptyScope few (rw (← c .before .mismatch-at .ensures) (c .if1 .taken)) ∙ any-from _ _ _
 
 add-i : tie.Need-add-i Inv-loop μ-loop
 add-i c = omega arith
@@ -43,7 +44,7 @@ loop-again c =
 
 returns-2 : tie.Need-returns-2 Inv-loop μ-loop
 unfolding mismatches
-returns-2 c = ended _ _ _ (c .before .loop .inv) (rw (← c .before .before .before .before .before .pre .1) (c .loop-test .left))
+returns-2 c = ended _ _ _ (c .before .loop .inv) (rw (← c .before .before .before .before .before .pre .1) (c .loop-test .left)) ∙ any-from _ _ _
 
 pub has-mismatch-spec : {M : Type 1} → statement M
 has-mismatch-spec =

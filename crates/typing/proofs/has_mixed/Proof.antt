@@ -1,18 +1,19 @@
 -- `typing::has_mixed` meets its contract. The invariant of its loop is `Sought`.
 -- Assumes nothing.
 use Prim.Native.Nat.{_-_}
+use mathlib.Core.Path.{_∙_}
 use native.Mathlib.Omega.{arith}
 use borrow.Author.Needs.{needs}
 use Rattle.book.specs.Syntax.{emptyScope}
 use Rattle.book.specs.Decode.{scopesOf}
 use Rattle.book.specs.Mixing.{mixedIn, mixes}
 use Rattle.typing.specs.Marks.{mixedAt}
-use Rattle.typing.proofs.Searching.{Sought, start, turn, found, ended}
+use Rattle.book.proofs.Searches.{Sought, start, turn, found, ended, any-from}
 use Rattle.typing.proofs.has_mixed.Statement.{statement}
 use Rattle.typing.proofs.has_mixed.Tie as tie
 
 abbrev Inv-loop : tie.InvT-loop
-Inv-loop book places counts scopes i₀ i = Sought mixedIn (scopesOf book) i
+Inv-loop book places counts scopes i₀ i = Sought (λ k s. mixedIn s) (scopesOf book) i
 
 abbrev μ-loop : tie.MeasureT-loop
 μ-loop book places counts scopes i₀ i = scopes - i
@@ -27,7 +28,7 @@ returns : tie.Need-returns Inv-loop μ-loop
 unfolding mixes mixedAt
 returns c =
     let few = rw (c .before .before .before .before .before .before .before .pre .1 .0) at (c .before .before .loop-test .taken) in
-    found _ _ _ (c .before .before .before .loop .inv) emptyScope few (rw (← c .before .mixed-at .ensures) (c .if1 .taken))
+    found _ _ _ (c .before .before .before .loop .inv) emptyScope few (rw (← c .before .mixed-at .ensures) (c .if1 .taken)) ∙ any-from _ _ _
 
 add-i : tie.Need-add-i Inv-loop μ-loop
 add-i c = omega arith
@@ -43,7 +44,7 @@ loop-again c =
 
 returns-2 : tie.Need-returns-2 Inv-loop μ-loop
 unfolding mixes
-returns-2 c = ended _ _ _ (c .before .loop .inv) (rw (← c .before .before .before .before .before .pre .1 .0) (c .loop-test .left))
+returns-2 c = ended _ _ _ (c .before .loop .inv) (rw (← c .before .before .before .before .before .pre .1 .0) (c .loop-test .left)) ∙ any-from _ _ _
 
 pub has-mixed-spec : {M : Type 1} → statement M
 has-mixed-spec =

@@ -1,0 +1,59 @@
+-- The service: what evaluating answers, and what every byte of the result memory holds afterwards.
+use Prim.Native.Nat.{ℕ}
+use mathlib.Core.Bool.{cond}
+use mathlib.Core.List.{List, [], _++_, reverse}
+use lib.ListN.{length, drop}
+use lib.Dec.{ltb, leb}
+use Rattle.book.specs.Syntax.{Scope}
+use Rattle.book.specs.References.{scopeAt}
+use Rattle.book.specs.Decode.{scopesOf}
+use Rattle.book.specs.Scopes.{blocks}
+use Rattle.book.specs.Judge.{judge}
+use Rattle.book.specs.declared.Judged.{Judged}
+use Rattle.book.specs.declared.Judged.the-variants as judged
+use Rattle.lists.specs.Inputs.{Inputs, bad, good, inputs}
+use Rattle.lists.specs.Results.{resultLength, results}
+use Rattle.evaluation.specs.Run.{Entered, values, ended, enter}
+use Rattle.evaluation.specs.declared.Refusal.{Refusal}
+use Rattle.evaluation.specs.declared.Refusal.the-variants.{Book, NoSuchScope, BadInput, BufferTooSmall}
+use Rattle.evaluation.specs.declared.Answer.{Answer}
+use Rattle.evaluation.specs.declared.Answer.the-variants.{Values, Ended, Refused}
+
+-- an answer, and the bytes that it writes
+pub record Reply : Type 0 where
+  pub answer : Answer
+  pub written : List ℕ
+
+abbrev pub refuse : Refusal → Reply
+refuse r = record { answer = Refused r; written = [] }
+
+-- "an evaluation or a run its outcome, its count and the length of the results (0 without values)"
+abbrev pub replyOf : Entered → Reply
+replyOf (values vs n) = record { answer = Values n (length (results vs)); written = results vs }
+replyOf (ended c n) = record { answer = Ended c n; written = [] }
+
+-- 15, the paper's "short can": "code or result longer than the memory lent"
+abbrev pub fitting : ℕ → Scope → Reply → Reply
+fitting room s r = cond (leb (resultLength (s .variables)) room) r (refuse BufferTooSmall)
+
+-- 14, the paper's "bad slip"
+abbrev pub onInputs : Inputs → ℕ → List Scope → ℕ → Reply
+onInputs bad room book i = refuse BadInput
+onInputs (good given) room book i = fitting room (scopeAt book i) (replyOf (enter book (reverse (blocks book)) i given))
+
+-- "then 13, 14, 15"
+unfoldable pub asked : List Scope → ℕ → List ℕ → ℕ → Reply
+asked book i bytes room =
+    cond (ltb i (length book)) (onInputs (inputs (scopeAt book i .variables) bytes) room book i) (refuse NoSuchScope)
+
+abbrev pub onJudged : Judged → Reply → Reply
+onJudged (judged.Accepted n) r = r
+onJudged (judged.Refused f) r = refuse (Book f)
+
+-- evaluating scope i of a book with an input list, for a result memory of this length
+unfoldable pub evaluate : List ℕ → ℕ → List ℕ → ℕ → Reply
+evaluate book i bytes room = onJudged (judge book) (asked (scopesOf book) i bytes room)
+
+-- "Lent memory changes only where code or values are written, from its first byte, and nothing after them"
+unfoldable pub memoryAfter : Reply → List ℕ → List ℕ
+memoryAfter r memory = r .written ++ drop (length (r .written)) memory

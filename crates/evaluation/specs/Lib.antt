@@ -1,0 +1,5 @@
+pub mod Run
+pub mod Evaluate
+pub mod Types
+pub mod Readiness
+pub mod Answers
