@@ -5,9 +5,11 @@
 --     evaluated-refused       of a refusal: not one byte is written
 --     evaluated-unchanged     of anything but values: not one byte is written
 --     evaluated-size          the memory keeps its length
+--     evaluated-length        the length in the answer is that of the bytes written
+--     evaluated-count         the count is 4,096 at most
 -- Assumes nothing.
 use Prim.Native.Nat.{ℕ, _≤_, _+_, _-_}
-use mathlib.Core.Path.{_≡_, refl, sym, ap, _∙_}
+use mathlib.Core.Path.{_≡_, refl, sym, ap, subst, _∙_}
 use mathlib.Core.Bool.{Bool, true, false, false≢true}
 use mathlib.Core.List.{List, _++_}
 use mathlib.Core.Logic.{⊎-elim}
@@ -27,12 +29,13 @@ use Rattle.lists.specs.Inputs.{Inputs, bad, good, inputs}
 use Rattle.lists.specs.Results.{resultLength, results}
 use Rattle.acceptance.proofs.Acceptance.{accepted-count}
 use Rattle.evaluation.specs.Run.{Entered, values, ended, runScope}
-use Rattle.evaluation.specs.Evaluate.{Reply, replyOf, fitting, onInputs, asked, onJudged, evaluate, memoryAfter}
+use Rattle.evaluation.specs.Evaluate.{countIn, lengthIn, Reply, replyOf, fitting, onInputs, asked, onJudged, evaluate, memoryAfter}
 use Rattle.evaluation.specs.Answers.{Asked, Entering, Replied, InValues, InEnd}
 use Rattle.evaluation.specs.declared.Refusal.{Refusal}
 use Rattle.evaluation.specs.declared.Answer.{Answer}
 use Rattle.evaluation.specs.declared.Answer.the-variants.{Values, Ended, Refused}
-use Rattle.evaluation.proofs.Counts.{values-count, ended-count}
+use Rattle.evaluation.proofs.Running.{countOf}
+use Rattle.evaluation.proofs.Counts.{values-count, ended-count, entered-small}
 use Rattle.evaluation.proofs.Types.{inputs-fitting, values-typed, values-length}
 
 module _ (bytes : List ℕ) (i : ℕ) (list : List ℕ) (room : ℕ) where
@@ -49,7 +52,13 @@ module _ (bytes : List ℕ) (i : ℕ) (list : List ℕ) (room : ℕ) where
       ⊎-elim
       (λ (q : leb (resultLength variables) room ≡ true).
       let e : Entering bytes i list room =
-      record { asked = a; given = given; read = h; fitting = inputs-fitting variables list given h; enough = leb-true (resultLength variables) room q } in
+      record {
+        asked = a;
+        given = given;
+        read = h;
+        fitting = inputs-fitting variables list given h;
+        enough = leb-true (resultLength variables) room q;
+      } in
       rw q (on-entered e (runScope (scopesOf bytes) i given) refl))
       (λ (q : leb (resultLength variables) room ≡ false). rw q (Replied.short a given h (leb-false (resultLength variables) room q)))
       (decide (leb (resultLength variables) room))
@@ -86,16 +95,6 @@ isEnd (Values c n) = false
 isEnd (Ended d c) = true
 isEnd (Refused r) = false
 
-abbrev countIn : Answer → ℕ
-countIn (Values c n) = c
-countIn (Ended d c) = c
-countIn (Refused r) = 0
-
-abbrev sizeIn : Answer → ℕ
-sizeIn (Values c n) = n
-sizeIn (Ended d c) = 0
-sizeIn (Refused r) = 0
-
 abbrev causeIn : Answer → Cause
 causeIn (Values c n) = Empty
 causeIn (Ended d c) = d
@@ -115,7 +114,7 @@ module _ (bytes : List ℕ) (i : ℕ) (list memory : List ℕ) where
   in-values c n r (Replied.stopped a d k h) e = absurd (false≢true (ap isValues e))
   in-values c n r (Replied.finished a vs k h) e =
       let count : k ≡ c = ap countIn e in
-      let size : length (results vs) ≡ n = ap sizeIn e in
+      let size : length (results vs) ≡ n = ap lengthIn e in
       let run : runScope (scopesOf bytes) i (a .given) ≡ values vs c = h ∙ ap (values vs) count in
       let is = values-length bytes (a .asked .scopes) (a .asked .accepted) i (a .asked .present) (a .given) (a .fitting) vs c run in
       record {
@@ -168,7 +167,8 @@ module _ (bytes : List ℕ) (i : ℕ) (list memory : List ℕ) where
   pub evaluated-unchanged : ((count size : ℕ) → evaluate bytes i list (length memory) .answer ≡ Values count size → ⊥)
       → memoryAfter (evaluate bytes i list (length memory)) memory ≡ memory
   evaluated-unchanged other =
-      nothing-written (evaluate bytes i list (length memory)) (replied bytes i list (length memory)) (not-values (evaluate bytes i list (length memory) .answer) other)
+      nothing-written (evaluate bytes i list (length memory)) (replied bytes i list (length memory))
+      (not-values (evaluate bytes i list (length memory) .answer) other)
     where
       not-values : (a : Answer) → ((count size : ℕ) → a ≡ Values count size → ⊥) → isValues a ≡ false
       not-values (Values c n) h = absurd (h c n refl)
@@ -188,3 +188,27 @@ module _ (bytes : List ℕ) (i : ℕ) (list memory : List ℕ) where
           ∙ sum-size (length bs) n (length (drop n memory)) (length memory) (v .whole) (v .fits) (length-drop n memory)
       by-answer (Ended d c) e = ap length (evaluated-end d c e .unchanged)
       by-answer (Refused r) e = ap length (evaluated-refused r e)
+
+  written-length : (r : Reply) → Replied bytes i list (length memory) r → lengthIn (r .answer) ≡ length (r .written)
+  written-length r (Replied.faulty f h) = refl
+  written-length r (Replied.absent m h l) = refl
+  written-length r (Replied.malformed a h) = refl
+  written-length r (Replied.short a g h l) = refl
+  written-length r (Replied.stopped a d k h) = refl
+  written-length r (Replied.finished a vs k h) = refl
+
+  pub evaluated-length : lengthIn (evaluate bytes i list (length memory) .answer) ≡ length (evaluate bytes i list (length memory) .written)
+  evaluated-length = written-length (evaluate bytes i list (length memory)) (replied bytes i list (length memory))
+
+  small-count : (r : Reply) → Replied bytes i list (length memory) r → countIn (r .answer) ≤ 4096
+  small-count r (Replied.faulty f h) = omega arith
+  small-count r (Replied.absent m h l) = omega arith
+  small-count r (Replied.malformed a h) = omega arith
+  small-count r (Replied.short a g h l) = omega arith
+  small-count r (Replied.stopped a d k h) =
+      subst (λ (t : Entered). countOf t ≤ 4096) h (entered-small bytes (a .asked .scopes) (a .asked .accepted) i (a .asked .present) (a .given))
+  small-count r (Replied.finished a vs k h) =
+      subst (λ (t : Entered). countOf t ≤ 4096) h (entered-small bytes (a .asked .scopes) (a .asked .accepted) i (a .asked .present) (a .given))
+
+  pub evaluated-count : countIn (evaluate bytes i list (length memory) .answer) ≤ 4096
+  evaluated-count = small-count (evaluate bytes i list (length memory)) (replied bytes i list (length memory))

@@ -3,6 +3,7 @@
 --     entered-bounded     the count of entering a scope: at most its weight, and equal to it where the run ends in values
 --     values-count        of an accepted book: a run that ends in values has entered as many scopes as the weight says
 --     ended-count         one that ends with a cause, at least one and at most as many
+--     entered-small, reached-small    the count is 4,096 at most, and so it is in each state that the run reaches
 -- Assumes nothing.
 use Prim.Native.Nat.{ℕ, zero, suc, _<_, _≤_, _+_, _-_}
 use mathlib.Core.Path.{_≡_, refl, sym, ap, subst, _∙_}
@@ -10,34 +11,30 @@ use mathlib.Core.Bool.{Bool, true, false, cond}
 use mathlib.Core.List.{List, [], _∷_}
 use mathlib.Core.Logic.{⊎-elim}
 use native.Mathlib.Omega.{arith}
-use lib.ListN.{length, getD, set}
+use native.Mathlib.Nat.{eq-or-lt-of-le}
+use lib.ListN.{length, getD}
 use lib.Dec.{eqb, ltb}
-use borrow.Author.Tests.{eqb-true, eqb-false, ne-eqb, lt-ltb, le-ltb, ltb-true, ltb-false}
-use Rattle.calculus.specs.Evaluation.{eval, step}
+use borrow.Author.Tests.{eqb-true, eqb-false, ne-eqb, lt-ltb, le-ltb}
 use Rattle.calculus.specs.declared.Value.{Value}
 use Rattle.calculus.specs.declared.Cause.{Cause}
-use Rattle.calculus.specs.declared.Outcome.{Outcome}
-use Rattle.calculus.specs.declared.Outcome.the-variants.{Gives, Ends}
 use Rattle.calculus.specs.declared.Given.{Given}
-use Rattle.calculus.specs.declared.Given.the-variants.{Absent, Present}
 use Rattle.order.specs.Order.{among}
 use Rattle.order.proofs.Booleans.{decide}
 use Rattle.order.proofs.Among.{among-place}
 use Rattle.book.specs.Syntax.{Scope}
 use Rattle.book.specs.Decode.{scopesOf}
 use Rattle.book.specs.References.{scopeAt}
-use Rattle.book.specs.Trees.{tree, ownTarget, calledTarget}
 use Rattle.book.specs.Scopes.{sum, weight}
 use Rattle.book.specs.Steps.{dependsOn, stepCount, stepOrder}
 use Rattle.book.specs.Judge.{judge}
-use Rattle.book.specs.declared.Variable.{Variable}
 use Rattle.book.specs.declared.Judged.the-variants.{Accepted}
 use Rattle.steps.proofs.Weights.{weight-sum}
 use Rattle.acceptance.specs.Accepted.{CompleteOrder}
 use Rattle.acceptance.proofs.Acceptance.{accepted-faultless}
 use Rattle.acceptance.proofs.Orders.{accepted-book}
-use Rattle.evaluation.specs.Run.{Entered, values, ended, State, envOf, onValue, onEntered, hasClause, overrides, begin, runSteps, enter, runScope}
-use Rattle.evaluation.proofs.Running.{Steps, call-number, countOf}
+use Rattle.evaluation.specs.Run.{Entered, values, ended, State, begin, runSteps, runScope}
+use Rattle.evaluation.specs.Readiness.{Reached, withVariable, withCall}
+use Rattle.evaluation.proofs.Running.{Steps, call-number, countOf, by-step, steps-count, reached-same}
 use Rattle.evaluation.proofs.Entering.{steps-of, accepted-complete, accepted-entered-steps, accepted-entered-count, accepted-by-blocks}
 
 -- Sums
@@ -74,7 +71,8 @@ range-split f a (suc p) m =
     let r = range-split f (suc a) p m in
     rw (e, d) (omega (arith, r))
 
-range-list : (f w : ℕ → ℕ) (xs : List ℕ) (a : ℕ) → ((k : ℕ) → k < length xs → f (a + k) ≡ w (getD xs k 0)) → range f a (length xs) ≡ sum w xs
+range-list : (f w : ℕ → ℕ) (xs : List ℕ) (a : ℕ) → ((k : ℕ) → k < length xs → f (a + k) ≡ w (getD xs k 0))
+    → range f a (length xs) ≡ sum w xs
 unfolding range sum
 range-list f w [] a h = refl
 range-list f w (x ∷ xs) a h =
@@ -114,16 +112,10 @@ module _ (f : ℕ → ℕ) where
       (λ (q : eqb a x ≡ false).
       let ne : a ≡ x → ⊥ = eqb-false a x q in
       let here = within-other x xs a ne in
-      let more : suc a ≤ x = ⊎-elim (λ (t : ltb a x ≡ true). ltb-less t) (λ (t : ltb a x ≡ false). absurd (ne (not-less t))) (decide (ltb a x)) in
+      let more : suc a ≤ x = ⊎-elim (λ (t : a ≡ x). absurd (ne t)) (λ (t : a < x). t) (eq-or-lt-of-le {n = a} {m = x} l) in
       let rest = range-one x xs new (suc a) m more (omega arith) in
       omega (arith, here, rest))
       (decide (eqb a x))
-    where
-      ltb-less : ltb a x ≡ true → suc a ≤ x
-      ltb-less t = ltb-true a x t
-
-      not-less : ltb a x ≡ false → a ≡ x
-      not-less t = omega (arith, ltb-false a x t)
 
   -- a sum over a list without repetitions
   sum-range : (n : ℕ) (xs : List ℕ) → ((i : ℕ) → i < length xs → getD xs i 0 < n)
@@ -157,59 +149,45 @@ abbrev pub Bounded : ℕ → Entered → Type 0
 Bounded w (values vs n) = n ≡ w
 Bounded w (ended c n) = n ≤ w
 
-value-bounded : (o : Outcome) (c b : ℕ) (go : Value → Entered) → c ≤ b → ((y : Value) → Bounded b (go y)) → Bounded b (onValue o c go)
-value-bounded (Gives y) c b go l h = h y
-value-bounded (Ends d) c b go l h = l
-
-call-bounded : (r : Entered) (c w b : ℕ) (go : List Value → ℕ → Entered) → Bounded w r → c + w ≤ b
-    → ((vs : List Value) → Bounded b (go vs (c + w))) → Bounded b (onEntered r c go)
-call-bounded (values vs n) c w b go e l h = rw e (h vs)
-call-bounded (ended d n) c w b go e l h = omega arith
-
-overrides-bounded : (s : Scope) (st : State) (k v : ℕ) (xs : List Variable) (b : ℕ) (go : List Given → Entered) → st .count ≤ b
-    → ((handed : List Given) → Bounded b (go handed)) → Bounded b (overrides s st k v xs go)
-unfolding overrides
-overrides-bounded s st k v [] b go l h = h []
-overrides-bounded s st k v (x ∷ xs) b go l h =
-    ⊎-elim
-    (λ q. rw q
-    (value-bounded (eval (envOf st) (tree s (calledTarget k v))) (st .count) b _ l
-    (λ y. overrides-bounded s st k (suc v) xs b (λ handed. go (Present y ∷ handed)) l (λ handed. h (Present y ∷ handed)))))
-    (λ q. rw q (overrides-bounded s st k (suc v) xs b (λ handed. go (Absent ∷ handed)) l (λ handed. h (Absent ∷ handed))))
-    (decide (hasClause s (calledTarget k v)))
-
 module _ (book : List Scope) (enter : ℕ → List Given → Entered) (s : Scope) (given : List Given) (weigh : ℕ → ℕ)
-    (bounded : (k : ℕ) → k < length (s .subScopes) → (handed : List Given) → Bounded (weigh (getD (s .subScopes) k 0)) (enter (getD (s .subScopes) k 0) handed)) where
+    (bounded : (k : ℕ) → k < length (s .subScopes) → (handed : List Given)
+    → Bounded (weigh (getD (s .subScopes) k 0)) (enter (getD (s .subScopes) k 0) handed)) where
   -- what a step adds to the count
   unfoldable pub added : ℕ → ℕ
   added x = cond (ltb x (length (s .variables))) 0 (weigh (getD (s .subScopes) (x - length (s .variables)) 0))
 
+  added-variable : (x : ℕ) → x < length (s .variables) → added x ≡ 0
+  unfolding added
+  added-variable x l = rw (lt-ltb x (length (s .variables)) l)
+
+  added-call : (x : ℕ) → length (s .variables) ≤ x → added x ≡ weigh (getD (s .subScopes) (x - length (s .variables)) 0)
+  unfolding added
+  added-call x l = rw (le-ltb x (length (s .variables)) l)
+
   pub steps-bounded : (xs : List ℕ) → Steps s xs → (st : State) → Bounded (st .count + sum added xs) (runSteps book enter s given xs st)
-  unfolding runSteps sum added
+  unfolding runSteps sum
   steps-bounded [] below st = omega arith
   steps-bounded (x ∷ xs) below st =
-      let v = length (s .variables) in
-      let k = x - v in
       let later : Steps s xs = λ j l. below (suc j) (omega arith) in
-      ⊎-elim
-      (λ (q : ltb x v ≡ true).
-      let e : st .count + (0 + sum added xs) ≡ st .count + sum added xs = omega arith in
-      rw (q, e)
-      (value-bounded (step (getD given x Absent) (envOf st) (tree s (ownTarget x))) (st .count) (st .count + sum added xs) _ (omega arith)
-      (λ y. steps-bounded xs later (record { own = set (st .own) x (Present y); called = st .called; count = st .count }))))
-      (λ (q : ltb x v ≡ false).
-      let w = weigh (getD (s .subScopes) k 0) in
-      let e : st .count + (w + sum added xs) ≡ st .count + w + sum added xs = omega arith in
-      rw (q, e)
-      (overrides-bounded s st k 0 (scopeAt book (getD (s .subScopes) k 0) .variables) (st .count + w + sum added xs) _ (omega arith)
-      (λ handed. call-bounded (enter (getD (s .subScopes) k 0) handed) (st .count) w (st .count + w + sum added xs) _
-      (bounded k (call-number s x (below 0 (omega arith)) q) handed) (omega arith)
-      (λ vs. steps-bounded xs later (record { own = st .own; called = set (st .called) k vs; count = st .count + w })))))
-      (decide (ltb x v))
+      let k = x - length (s .variables) in
+      by-step book enter s given (Bounded (st .count + (added x + sum added xs))) x xs st
+      (λ l y e.
+      let z : st .count + (added x + sum added xs) ≡ st .count + sum added xs = omega (arith, added-variable x l) in
+      rw z (steps-bounded xs later (withVariable st x y)))
+      (λ l gs vs n h e.
+      let w : n ≡ weigh (getD (s .subScopes) k 0) =
+      subst (Bounded (weigh (getD (s .subScopes) k 0))) e (bounded k (call-number s x (below 0 (omega arith)) l) gs) in
+      let z : st .count + (added x + sum added xs) ≡ st .count + n + sum added xs = omega (arith, added-call x l, w) in
+      rw z (steps-bounded xs later (withCall st k vs n)))
+      (λ c. omega arith)
+      (λ l gs c n h e.
+      let w : n ≤ weigh (getD (s .subScopes) k 0) =
+      subst (Bounded (weigh (getD (s .subScopes) k 0))) e (bounded k (call-number s x (below 0 (omega arith)) l) gs) in
+      omega (arith, added-call x l, w))
 
   -- each sub-scope is called once
   pub added-sum : CompleteOrder (dependsOn s) (stepCount s) (stepOrder s) → sum added (stepOrder s) ≡ sum weigh (s .subScopes)
-  unfolding added stepCount
+  unfolding stepCount
   added-sum c =
       let v = length (s .variables) in
       order-sum added (dependsOn s) (stepCount s) (stepOrder s) c
@@ -220,10 +198,10 @@ module _ (book : List Scope) (enter : ℕ → List Given → Entered) (s : Scope
       own-sum =
           let v = length (s .variables) in
           let z : 0 + v ≡ v = omega arith in
-          let none : range added 0 v ≡ 0 = range-none added 0 v (λ j l h. rw (lt-ltb j v (omega arith))) in
+          let none : range added 0 v ≡ 0 = range-none added 0 v (λ j l h. added-variable j (omega arith)) in
           let all : range added v (length (s .subScopes)) ≡ sum weigh (s .subScopes) = range-list added weigh (s .subScopes) v (λ k l.
           let e : v + k - v ≡ k = omega arith in
-          rw (le-ltb (v + k) v (omega arith), e)) in
+          added-call (v + k) (omega arith) ∙ rw e) in
           rw (z, none, all) (omega arith)
 
 module _ (bytes : List ℕ) (n : ℕ) (accepted : judge bytes ≡ Accepted n) where
@@ -262,3 +240,22 @@ module _ (bytes : List ℕ) (n : ℕ) (accepted : judge bytes ≡ Accepted n) wh
     subst (λ (r : Entered). 1 ≤ countOf r) e (accepted-entered-count bytes n accepted i l given),
     subst (Bounded (weight (scopesOf bytes) i)) e (entered-bounded i l given),
   )
+
+  at-most : (w : ℕ) (r : Entered) → Bounded w r → countOf r ≤ w
+  at-most w (values vs c) h = omega arith
+  at-most w (ended d c) h = h
+
+  pub entered-small : (i : ℕ) → i < n → (given : List Given) → countOf (runScope (scopesOf bytes) i given) ≤ 4096
+  entered-small i l given =
+      let most = at-most (weight (scopesOf bytes) i) (runScope (scopesOf bytes) i given) (entered-bounded i l given) in
+      omega (arith, most, accepted-book bytes n accepted .weights i l)
+
+  pub reached-small : (i : ℕ) → i < n → (given : List Given) (xs : List ℕ) (st : State)
+      → Reached (scopesOf bytes) (runScope (scopesOf bytes)) (scopeAt (scopesOf bytes) i) given xs st → st .count ≤ 4096
+  reached-small i l given xs st r =
+      let book = scopesOf bytes in
+      let s = scopeAt book i in
+      let same = accepted-entered-steps bytes n accepted i l given ∙ reached-same book (runScope book) s given xs st r in
+      let all : countOf (runSteps book (runScope book) s given xs st) ≤ 4096 =
+      subst (λ (t : Entered). countOf t ≤ 4096) same (entered-small i l given) in
+      omega (arith, all, steps-count book (runScope book) s given xs st)

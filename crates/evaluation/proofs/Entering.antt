@@ -48,11 +48,14 @@ module _ (book : List Scope) (complete : CompleteOrder (calls book) (length book
 
   after-more : (k : ℕ) → k < length book → (i : ℕ) (given : List Given)
       → after (suc k) i given
-      ≡ cond (eqb (getD (blocks book) k 0) i) (runSteps book (after k) (scopeAt book i) given (stepOrder (scopeAt book i)) (begin (scopeAt book i))) (after k i given)
+      ≡ cond (eqb (getD (blocks book) k 0) i)
+      (runSteps book (after k) (scopeAt book i) given (stepOrder (scopeAt book i)) (begin (scopeAt book i)))
+      (after k i given)
   unfolding enter
   after-more k l i given =
       ap (λ (bs : List ℕ). enter book bs i given)
-      (ap reverse (take-suc (blocks book) k 0 (omega (arith, complete .count))) ∙ reverse-append (take k (blocks book)) (getD (blocks book) k 0 ∷ []))
+      (ap reverse (take-suc (blocks book) k 0 (omega (arith, complete .count)))
+      ∙ reverse-append (take k (blocks book)) (getD (blocks book) k 0 ∷ []))
 
   block-snoc : (k : ℕ) → k < length book → (j : ℕ)
       → among (take (suc k) (blocks book)) j ≡ (among (take k (blocks book)) j || eqb j (getD (blocks book) k 0))
@@ -175,12 +178,14 @@ module _ (book : List Scope) (complete : CompleteOrder (calls book) (length book
           subst P (p .2) (first-blocks (length book) (p .0) (omega arith) (p .1))
 
 -- the order of blocks and the scopes of an accepted book
-pub accepted-complete : (bytes : List ℕ) (n : ℕ) → judge bytes ≡ Accepted n → CompleteOrder (calls (scopesOf bytes)) (length (scopesOf bytes)) (blocks (scopesOf bytes))
+pub accepted-complete : (bytes : List ℕ) (n : ℕ) → judge bytes ≡ Accepted n
+    → CompleteOrder (calls (scopesOf bytes)) (length (scopesOf bytes)) (blocks (scopesOf bytes))
 accepted-complete bytes n e =
     let a = accepted-book bytes n e in
     subst (λ (m : ℕ). CompleteOrder (calls (scopesOf bytes)) m (blocks (scopesOf bytes))) (a .count) (a .blockOrder)
 
-pub accepted-formed : (bytes : List ℕ) (n : ℕ) → judge bytes ≡ Accepted n → (i : ℕ) → i < length (scopesOf bytes) → WellFormed (scopesOf bytes) (scopeAt (scopesOf bytes) i)
+pub accepted-formed : (bytes : List ℕ) (n : ℕ) → judge bytes ≡ Accepted n → (i : ℕ) → i < length (scopesOf bytes)
+    → WellFormed (scopesOf bytes) (scopeAt (scopesOf bytes) i)
 accepted-formed bytes n e i l = let a = accepted-book bytes n e in a .formed i (omega (arith, a .count))
 
 module _ (bytes : List ℕ) (n : ℕ) (accepted : judge bytes ≡ Accepted n) where
@@ -191,7 +196,8 @@ module _ (bytes : List ℕ) (n : ℕ) (accepted : judge bytes ≡ Accepted n) wh
   below i l = omega (arith, accepted-book bytes n accepted .count)
 
   pub accepted-entered-same : (k l i : ℕ) → k ≤ l → l ≤ n → among (take k (blocks (scopesOf bytes))) i ≡ true → (given : List Given)
-      → enter (scopesOf bytes) (reverse (take l (blocks (scopesOf bytes)))) i given ≡ enter (scopesOf bytes) (reverse (take k (blocks (scopesOf bytes)))) i given
+      → enter (scopesOf bytes) (reverse (take l (blocks (scopesOf bytes)))) i given
+      ≡ enter (scopesOf bytes) (reverse (take k (blocks (scopesOf bytes)))) i given
   accepted-entered-same k l i h m =
       entered-same book (accepted-complete bytes n accepted) k l i h (omega (arith, accepted-book bytes n accepted .count))
 

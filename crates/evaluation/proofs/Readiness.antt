@@ -17,8 +17,9 @@ use mathlib.Core.Logic.{⊎-elim}
 use native.Mathlib.Omega.{arith}
 use lib.ListN.{length, getD, set, take, length-set, length-map, length-append, List·getD-append, List·getD-map}
 use lib.Seq.{getD-set-same, getD-set-other, take-append-seam, getD-append-seam}
-use lib.Dec.{eqb, ltb}
-use borrow.Author.Tests.{eqb-true, eqb-false, eq-eqb, ne-eqb, ltb-true, ltb-false}
+use lib.Dec.{eqb}
+use borrow.Author.Tests.{eqb-true, eqb-false, eq-eqb, ne-eqb}
+use Rattle.calculus.specs.Terms.{Term}
 use Rattle.calculus.specs.Evaluation.{eval, step, takes}
 use Rattle.calculus.specs.declared.Value.{Value}
 use Rattle.calculus.specs.declared.Outcome.{Outcome}
@@ -43,12 +44,12 @@ use Rattle.book.specs.declared.Judged.the-variants.{Accepted}
 use Rattle.acceptance.specs.Accepted.{WithinLimits, WellFormed, CompleteOrder}
 use Rattle.acceptance.proofs.Orders.{accepted-book}
 use Rattle.acceptance.proofs.Reading.{variable-depends, call-depends}
-use Rattle.evaluation.specs.Run.{Entered, values, ended, State, envOf, onValue, onEntered, hasClause, begin, runSteps, enter, runScope}
+use Rattle.evaluation.specs.Run.{Entered, values, State, envOf, hasClause, begin, runSteps, runScope}
 use Rattle.evaluation.specs.Types.{HasType, Holds, MayHold, HoldsAt, Fitting, ValuesFit, OutcomeFits, EnteredFits, OwnNamed, CalledNamed, WellTyped}
-use Rattle.evaluation.specs.Readiness.{Handing, handed, failed, inFront, evaluated, handing, onHanding, Reached, Ready, TermReady, TreesReady, Progress}
-use Rattle.evaluation.proofs.Running.{overrides-handing}
+use Rattle.evaluation.specs.Readiness.{Handing, handed, failed, inFront, evaluated, handing, Reached, Ready, TermReady, TreesReady, Progress, calleeOf, handsOver, withVariable, withCall}
+use Rattle.evaluation.proofs.Running.{by-step}
 use Rattle.evaluation.proofs.Entering.{accepted-entered-steps, accepted-by-blocks}
-use Rattle.evaluation.proofs.Soundness.{typed-map, held-type, ready-typed}
+use Rattle.evaluation.proofs.Soundness.{Passes, typed-map, held-type, ready-typed}
 use Rattle.evaluation.proofs.Trees.{tree-typed}
 
 -- Lists of values
@@ -60,7 +61,8 @@ fit-at (y ∷ xs) [] x h l = absurd h
 fit-at (y ∷ xs) (v ∷ vs) zero h l = h .0
 fit-at (y ∷ xs) (v ∷ vs) (suc x) h l = fit-at xs vs x (h .1) (omega arith)
 
-fitting-at : (xs : List Variable) (gs : List Given) (x : ℕ) → Fitting xs gs → MayHold (getD xs x (record { holds = YesNo }) .holds) (getD gs x Absent)
+fitting-at : (xs : List Variable) (gs : List Given) (x : ℕ) → Fitting xs gs
+    → MayHold (getD xs x (record { holds = YesNo }) .holds) (getD gs x Absent)
 fitting-at [] [] x h = tt
 fitting-at [] (g ∷ gs) x h = absurd h
 fitting-at (y ∷ xs) [] x h = absurd h
@@ -77,16 +79,25 @@ all-held (x ∷ xs) (g ∷ gs) e h = (held-type (x .holds) g (h 0 (omega arith))
 -- Ready steps
 
 module _ (book : List Scope) (s : Scope) (formed : WellFormed book s) (within : WithinLimits s) where
-  term-ready : (x : ℕ) (st : State) → Ready book s x st → (t : ℕ → Bool) → ((w : ℕ) → t w ≡ true → dependsOn s x w ≡ true)
-      → ((w : ℕ) (u : ValueType) → t w ≡ true → OwnNamed s w u → Holds u (getD (st .own) w Absent))
-      × ((k w : ℕ) (u : ValueType) → t (length (s .variables) + k) ≡ true → CalledNamed book s k w u → HoldsAt u (getD (st .called) k []) w)
-  term-ready x st r t depends = (
-    λ w u e n. subst (λ (a : ValueType). Holds a (getD (st .own) w Absent)) (n .1) (r .variables w (n .0) (depends w e)),
-    λ k w u e n.
-        subst (λ (a : ValueType). HoldsAt a (getD (st .called) k []) w) (n .2)
-        (fit-at (scopeAt book (getD (s .subScopes) k 0) .variables) (getD (st .called) k []) w
-        (r .calls k (n .0) (depends (length (s .variables) + k) e)) (n .1)),
-  )
+  -- what a step depends on is there to be read
+  passes : (x : ℕ) (st : State) → Ready book s x st → (r : ℕ → Bool) → ((w : ℕ) → r w ≡ true → dependsOn s x w ≡ true)
+      → Passes (length (s .variables)) (OwnNamed s) (λ w t. Holds t (getD (st .own) w Absent))
+      (CalledNamed book s) (λ k w t. HoldsAt t (getD (st .called) k []) w) r
+  passes x st ready r depends =
+      record {
+        own = λ w t e n. subst (λ (a : ValueType). Holds a (getD (st .own) w Absent)) (n .1) (ready .variables w (n .0) (depends w e));
+        calls = λ k w t e n.
+            subst (λ (a : ValueType). HoldsAt a (getD (st .called) k []) w) (n .2)
+            (fit-at (scopeAt book (getD (s .subScopes) k 0) .variables) (getD (st .called) k []) w
+            (ready .calls k (n .0) (depends (length (s .variables) + k) e)) (n .1));
+      }
+
+  term-ready : (x : ℕ) (st : State) → Ready book s x st → (t : Term) (u : ValueType)
+      → ((w : ℕ) → reads (length (s .variables)) w t ≡ true → dependsOn s x w ≡ true) → WellTyped book s t u → TermReady st t u
+  term-ready x st ready t u depends =
+      typed-map (length (s .variables)) (OwnNamed s) (λ w t₁. Holds t₁ (getD (st .own) w Absent))
+      (CalledNamed book s) (λ k w t₁. HoldsAt t₁ (getD (st .called) k []) w) t u
+      (passes x st ready (λ w. reads (length (s .variables)) w t) depends)
 
   pub trees-ready : (x : ℕ) (st : State) → Ready book s x st → TreesReady book s x st
   trees-ready x st r = record { own = own-ready; overrides = override-ready }
@@ -94,28 +105,18 @@ module _ (book : List Scope) (s : Scope) (formed : WellFormed book s) (within : 
       few : length (s .clauses) ≤ 255
       few = omega (arith, within .clauses)
 
-      make : (t : ℕ → Bool) → ((w : ℕ) → t w ≡ true → dependsOn s x w ≡ true)
-          → ((w : ℕ) (u : ValueType) → t w ≡ true → OwnNamed s w u → Holds u (getD (st .own) w Absent))
-          × ((k w : ℕ) (u : ValueType) → t (length (s .variables) + k) ≡ true → CalledNamed book s k w u → HoldsAt u (getD (st .called) k []) w)
-      make = term-ready x st r
-
       own-ready : x < length (s .variables) → TermReady st (tree s (ownTarget x)) (typeAt s x)
       own-ready l =
-          let v = length (s .variables) in
-          let m = make (λ w. reads v w (tree s (ownTarget x))) (λ w e. variable-depends book s formed within x w l .1 e) in
-          typed-map v (OwnNamed s) (λ w t. Holds t (getD (st .own) w Absent)) (CalledNamed book s) (λ k w t. HoldsAt t (getD (st .called) k []) w)
-          (tree s (ownTarget x)) (typeAt s x) (m .0) (m .1) (tree-typed book s formed few (ownTarget x))
+          term-ready x st r (tree s (ownTarget x)) (typeAt s x) (λ w e. variable-depends book s formed within x w l .1 e)
+          (tree-typed book s formed few (ownTarget x))
 
       override-ready : (k : ℕ) → k < length (s .subScopes) → x ≡ length (s .variables) + k
           → (u : ℕ) → TermReady st (tree s (calledTarget k u)) (calledTypeAt book s k u)
       override-ready k l e u =
-          let v = length (s .variables) in
-          let m = make (λ w. reads v w (tree s (calledTarget k u))) (λ w q. rw e (call-depends book s formed within k w l .1 (u, q))) in
           let other : eqb k 255 ≡ false = ne-eqb k 255 (λ q. omega (arith, within .subScopes)) in
-          let typed : WellTyped book s (tree s (calledTarget k u)) (calledTypeAt book s k u) =
-          rw other at (tree-typed book s formed few (calledTarget k u)) in
-          typed-map v (OwnNamed s) (λ w t. Holds t (getD (st .own) w Absent)) (CalledNamed book s) (λ k w t. HoldsAt t (getD (st .called) k []) w)
-          (tree s (calledTarget k u)) (calledTypeAt book s k u) (m .0) (m .1) typed
+          term-ready x st r (tree s (calledTarget k u)) (calledTypeAt book s k u)
+          (λ w q. rw e (call-depends book s formed within k w l .1 (u, q)))
+          (rw other at (tree-typed book s formed few (calledTarget k u)))
 
 -- Along a run
 
@@ -139,7 +140,8 @@ abbrev HandingFits : List Variable → Handing → Type 0
 HandingFits xs (handed gs) = Fitting xs gs
 HandingFits xs (failed c) = Unit {0}
 
-front-fits : (x : Variable) (xs : List Variable) (g : Given) (h : Handing) → MayHold (x .holds) g → HandingFits xs h → HandingFits (x ∷ xs) (inFront g h)
+front-fits : (x : Variable) (xs : List Variable) (g : Given) (h : Handing) → MayHold (x .holds) g → HandingFits xs h
+    → HandingFits (x ∷ xs) (inFront g h)
 front-fits x xs g (handed gs) m f = (m, f)
 front-fits x xs g (failed c) m f = tt
 
@@ -162,21 +164,6 @@ handing-fits s st k v (x ∷ xs) h =
     (λ q. rw q (evaluated-fits x xs (eval (envOf st) (tree s (calledTarget k v))) (handing s st k (suc v) xs) here rest))
     (λ q. rw q (front-fits x xs Absent (handing s st k (suc v) xs) tt rest))
     (decide (hasClause s (calledTarget k v)))
-
-value-fits : (xs : List Variable) (o : Outcome) (c : ℕ) (go : Value → Entered) → ((y : Value) → o ≡ Gives y → EnteredFits xs (go y))
-    → EnteredFits xs (onValue o c go)
-value-fits xs (Gives y) c go h = h y refl
-value-fits xs (Ends d) c go h = tt
-
-given-fits : (xs : List Variable) (o : Handing) (c : ℕ) (go : List Given → Entered) → ((gs : List Given) → o ≡ handed gs → EnteredFits xs (go gs))
-    → EnteredFits xs (onHanding o c go)
-given-fits xs (handed gs) c go h = h gs refl
-given-fits xs (failed d) c go h = tt
-
-entered-fits : (xs : List Variable) (r : Entered) (c : ℕ) (go : List Value → ℕ → Entered)
-    → ((vs : List Value) (n : ℕ) → r ≡ values vs n → EnteredFits xs (go vs (c + n))) → EnteredFits xs (onEntered r c go)
-entered-fits xs (values vs n) c go h = h vs n refl
-entered-fits xs (ended d n) c go h = tt
 
 module _ (book : List Scope) (enter : ℕ → List Given → Entered) (s : Scope) (given : List Given)
     (formed : WellFormed book s) (within : WithinLimits s) (orders : CompleteOrder (dependsOn s) (stepCount s) (stepOrder s))
@@ -238,7 +225,7 @@ module _ (book : List Scope) (enter : ℕ → List Given → Entered) (s : Scope
 
   variable-progress : (x : ℕ) (xs : List ℕ) (st : State) (y : Value) → Progress book s (x ∷ xs) st → x < length (s .variables)
       → step (getD given x Absent) (envOf st) (tree s (ownTarget x)) ≡ Gives y
-      → Progress book s xs (record { own = set (st .own) x (Present y); called = st .called; count = st .count })
+      → Progress book s xs (withVariable st x y)
   variable-progress x xs st y p l e =
       let d = p .done in
       let ready = trees-ready book s formed within x st (progress-ready x xs st p) in
@@ -267,7 +254,8 @@ module _ (book : List Scope) (enter : ℕ → List Given → Entered) (s : Scope
               unset = λ w h m.
                   ⊎-elim
                   (λ (q : eqb w x ≡ true).
-                  absurd (false≢true (sym m ∙ among-snoc (p .steps) x w ∙ ap (λ (t : Bool). among (p .steps) w || t) q ∙ or-true (among (p .steps) w))))
+                  absurd
+                  (false≢true (sym m ∙ among-snoc (p .steps) x w ∙ ap (λ (t : Bool). among (p .steps) w || t) q ∙ or-true (among (p .steps) w))))
                   (λ (q : eqb w x ≡ false).
                   let ne : w ≡ x → ⊥ = eqb-false w x q in
                   getD-set-other (st .own) x w (Present y) Absent ne ∙ d .unset w h (sym (snoc-other (p .steps) x w ne) ∙ m))
@@ -278,8 +266,8 @@ module _ (book : List Scope) (enter : ℕ → List Given → Entered) (s : Scope
       }
 
   handed-fit : (x : ℕ) (xs : List ℕ) (st : State) → Progress book s (x ∷ xs) st → length (s .variables) ≤ x
-      → HandingFits (scopeAt book (getD (s .subScopes) (x - length (s .variables)) 0) .variables)
-      (handing s st (x - length (s .variables)) 0 (scopeAt book (getD (s .subScopes) (x - length (s .variables)) 0) .variables))
+      → HandingFits (scopeAt book (calleeOf s x) .variables)
+      (handsOver book s st x)
   unfolding stepCount
   handed-fit x xs st p l =
       let k = x - length (s .variables) in
@@ -291,9 +279,9 @@ module _ (book : List Scope) (enter : ℕ → List Given → Entered) (s : Scope
 
   call-progress : (x : ℕ) (xs : List ℕ) (st : State) (gs : List Given) (vs : List Value) (n : ℕ) → Progress book s (x ∷ xs) st
       → length (s .variables) ≤ x
-      → handing s st (x - length (s .variables)) 0 (scopeAt book (getD (s .subScopes) (x - length (s .variables)) 0) .variables) ≡ handed gs
-      → enter (getD (s .subScopes) (x - length (s .variables)) 0) gs ≡ values vs n
-      → Progress book s xs (record { own = st .own; called = set (st .called) (x - length (s .variables)) vs; count = st .count + n })
+      → handsOver book s st x ≡ handed gs
+      → enter (calleeOf s x) gs ≡ values vs n
+      → Progress book s xs (withCall st (x - length (s .variables)) vs n)
   unfolding stepCount
   call-progress x xs st gs vs n p l h e =
       let d = p .done in
@@ -342,17 +330,18 @@ module _ (book : List Scope) (enter : ℕ → List Given → Entered) (s : Scope
   pub reached-progress : (xs : List ℕ) (st : State) → Reached book enter s given xs st → Progress book s xs st
   reached-progress xs st (Reached.start) = begin-progress
   reached-progress xs st (Reached.variable {x = x} {xs = ys} {st = t} y r l e) = variable-progress x ys t y (reached-progress (x ∷ ys) t r) l e
-  reached-progress xs st (Reached.call {x = x} {xs = ys} {st = t} gs vs n r l h e) = call-progress x ys t gs vs n (reached-progress (x ∷ ys) t r) l h e
+  reached-progress xs st (Reached.call {x = x} {xs = ys} {st = t} gs vs n r l h e) =
+      call-progress x ys t gs vs n (reached-progress (x ∷ ys) t r) l h e
 
   pub reached-ready : (x : ℕ) (xs : List ℕ) (st : State) → Reached book enter s given (x ∷ xs) st → Ready book s x st
   reached-ready x xs st r = progress-ready x xs st (reached-progress (x ∷ xs) st r)
 
   -- what a call hands over fits the variables of the scope that it enters
   pub reached-handed : (x : ℕ) (xs : List ℕ) (st : State) (gs : List Given) → Reached book enter s given (x ∷ xs) st → length (s .variables) ≤ x
-      → handing s st (x - length (s .variables)) 0 (scopeAt book (getD (s .subScopes) (x - length (s .variables)) 0) .variables) ≡ handed gs
-      → Fitting (scopeAt book (getD (s .subScopes) (x - length (s .variables)) 0) .variables) gs
+      → handsOver book s st x ≡ handed gs
+      → Fitting (scopeAt book (calleeOf s x) .variables) gs
   reached-handed x xs st gs r l h =
-      subst (HandingFits (scopeAt book (getD (s .subScopes) (x - length (s .variables)) 0) .variables)) h
+      subst (HandingFits (scopeAt book (calleeOf s x) .variables)) h
       (handed-fit x xs st (reached-progress (x ∷ xs) st r) l)
 
   pub steps-fit : (xs : List ℕ) (st : State) → Reached book enter s given xs st → EnteredFits (s .variables) (runSteps book enter s given xs st)
@@ -370,22 +359,13 @@ module _ (book : List Scope) (enter : ℕ → List Given → Entered) (s : Scope
       more : (w : ℕ) → w < length (s .variables) → w < stepCount s
       more w l = below-steps s w l
   steps-fit (x ∷ xs) st r =
-      let v = length (s .variables) in
-      let k = x - v in
-      let callee = scopeAt book (getD (s .subScopes) k 0) .variables in
-      ⊎-elim
-      (λ (q : ltb x v ≡ true).
-      rw q
-      (value-fits (s .variables) (step (getD given x Absent) (envOf st) (tree s (ownTarget x))) (st .count) _
-      (λ y e. steps-fit xs (record { own = set (st .own) x (Present y); called = st .called; count = st .count })
-      (Reached.variable y r (ltb-true x v q) e))))
-      (λ (q : ltb x v ≡ false).
-      rw (q, overrides-handing s st k 0 callee)
-      (given-fits (s .variables) (handing s st k 0 callee) (st .count) _
-      (λ gs h. entered-fits (s .variables) (enter (getD (s .subScopes) k 0) gs) (st .count) _
-      (λ vs n e. steps-fit xs (record { own = st .own; called = set (st .called) k vs; count = st .count + n })
-      (Reached.call gs vs n r (ltb-false x v q) h e)))))
-      (decide (ltb x v))
+      let k = x - length (s .variables) in
+      by-step book enter s given (EnteredFits (s .variables)) x xs st
+      (λ l y e. steps-fit xs (withVariable st x y) (Reached.variable y r l e))
+      (λ l gs vs n h e.
+      steps-fit xs (withCall st k vs n) (Reached.call gs vs n r l h e))
+      (λ c. tt)
+      (λ l gs c n h e. tt)
 
 -- Of an accepted book
 
@@ -459,11 +439,8 @@ module _ (bytes : List ℕ) (n : ℕ) (accepted : judge bytes ≡ Accepted n) wh
 
     pub accepted-handed : (x : ℕ) (xs : List ℕ) (st : State) (gs : List Given)
         → Reached (scopesOf bytes) (runScope (scopesOf bytes)) (scopeAt (scopesOf bytes) i) given (x ∷ xs) st
-        → length (scopeAt (scopesOf bytes) i .variables) ≤ x
-        → handing (scopeAt (scopesOf bytes) i) st (x - length (scopeAt (scopesOf bytes) i .variables)) 0
-        (scopeAt (scopesOf bytes) (getD (scopeAt (scopesOf bytes) i .subScopes) (x - length (scopeAt (scopesOf bytes) i .variables)) 0) .variables)
-        ≡ handed gs
-        → Fitting (scopeAt (scopesOf bytes) (getD (scopeAt (scopesOf bytes) i .subScopes) (x - length (scopeAt (scopesOf bytes) i .variables)) 0) .variables) gs
+        → length (scopeAt (scopesOf bytes) i .variables) ≤ x → handsOver (scopesOf bytes) (scopeAt (scopesOf bytes) i) st x ≡ handed gs
+        → Fitting (scopeAt (scopesOf bytes) (calleeOf (scopeAt (scopesOf bytes) i) x) .variables) gs
     accepted-handed =
         let book = scopesOf bytes in
         let a = accepted-book bytes n accepted in

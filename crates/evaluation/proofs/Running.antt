@@ -1,20 +1,21 @@
 -- Running the steps of a scope.
 --     steps-congruent     a run depends only on what entering the scope's sub-scopes comes to
---     steps-count         the count never falls along a run
 --     overrides-handing   a call's overrides, by what they hand over
 --     variable-turn, variable-end                a variable's step that gives a value, and one that does not
 --     call-turn, call-failed, call-end           a call that gives values, one whose overrides do not, one whose scope does not
+--     by-step             what holds of each way that a step can go holds of the run from it
+--     steps-count         the count never falls along a run
 --     reached-same        what a run comes to from a state that it reaches is what it comes to from the start
 -- Assumes nothing.
 use Prim.Native.Nat.{ℕ, suc, _<_, _≤_, _+_, _-_}
-use mathlib.Core.Path.{_≡_, refl, _∙_}
+use mathlib.Core.Path.{_≡_, refl, sym, subst, _∙_}
 use mathlib.Core.Bool.{true, false}
 use mathlib.Core.List.{List, [], _∷_}
 use mathlib.Core.Logic.{⊎-elim}
 use native.Mathlib.Omega.{arith}
 use lib.ListN.{length, getD, set}
 use lib.Dec.{ltb}
-use borrow.Author.Tests.{ltb-false, lt-ltb, le-ltb}
+use borrow.Author.Tests.{ltb-true, ltb-false, lt-ltb, le-ltb}
 use Rattle.calculus.specs.Evaluation.{eval, step}
 use Rattle.calculus.specs.declared.Value.{Value}
 use Rattle.calculus.specs.declared.Cause.{Cause}
@@ -29,19 +30,25 @@ use Rattle.book.specs.Trees.{tree, ownTarget, calledTarget}
 use Rattle.book.specs.Steps.{stepCount, stepOrder}
 use Rattle.book.specs.declared.Variable.{Variable}
 use Rattle.evaluation.specs.Run.{Entered, values, ended, State, envOf, onValue, onEntered, hasClause, overrides, begin, runSteps}
-use Rattle.evaluation.specs.Readiness.{Handing, handed, failed, inFront, evaluated, handing, onHanding, Reached}
+use Rattle.evaluation.specs.Readiness.{Handing, handed, failed, inFront, evaluated, handing, onHanding, Reached, calleeOf, handsOver, withVariable, withCall}
+
+-- the scopes entered
+abbrev pub countOf : Entered → ℕ
+countOf (values vs n) = n
+countOf (ended c n) = n
 
 -- every step of the list is one of the scope's
 abbrev pub Steps : Scope → List ℕ → Type 0
 Steps s xs = (j : ℕ) → j < length xs → getD xs j 0 < stepCount s
 
 -- the sub-scope of a step that is no variable's
-pub call-number : (s : Scope) (x : ℕ) → x < stepCount s → ltb x (length (s .variables)) ≡ false → x - length (s .variables) < length (s .subScopes)
+pub call-number : (s : Scope) (x : ℕ) → x < stepCount s → length (s .variables) ≤ x → x - length (s .variables) < length (s .subScopes)
 unfolding stepCount
-call-number s x l q = omega (arith, ltb-false x (length (s .variables)) q)
+call-number s x l h = omega arith
 
 module _ (book : List Scope) (s : Scope) (given : List Given) (e f : ℕ → List Given → Entered)
-    (same : (k : ℕ) → k < length (s .subScopes) → (handed : List Given) → e (getD (s .subScopes) k 0) handed ≡ f (getD (s .subScopes) k 0) handed) where
+    (same : (k : ℕ) → k < length (s .subScopes) → (handed : List Given)
+    → e (getD (s .subScopes) k 0) handed ≡ f (getD (s .subScopes) k 0) handed) where
   pub steps-congruent : (xs : List ℕ) → Steps s xs → (st : State) → runSteps book e s given xs st ≡ runSteps book f s given xs st
   unfolding runSteps
   steps-congruent [] below st = refl
@@ -53,10 +60,10 @@ module _ (book : List Scope) (s : Scope) (given : List Given) (e f : ℕ → Lis
       (λ (q : ltb x v ≡ true).
       rw q
       (λ i. onValue (step (getD given x Absent) (envOf st) (tree s (ownTarget x))) (st .count)
-      (λ y. rest (record { own = set (st .own) x (Present y); called = st .called; count = st .count }) i)))
+      (λ y. rest (withVariable st x y) i)))
       (λ (q : ltb x v ≡ false).
       let k = x - v in
-      let there : k < length (s .subScopes) = call-number s x (below 0 (omega arith)) q in
+      let there : k < length (s .subScopes) = call-number s x (below 0 (omega arith)) (ltb-false x v q) in
       rw q
       (λ i. overrides s st k 0 (scopeAt book (getD (s .subScopes) k 0) .variables)
       (λ handed. onEntered (same k there handed i) (st .count)
@@ -69,7 +76,8 @@ value-handing (Gives y) (handed gs) c go = refl
 value-handing (Gives y) (failed d) c go = refl
 value-handing (Ends d) h c go = refl
 
-absent-handing : (h : Handing) (c : ℕ) (go : List Given → Entered) → onHanding h c (λ gs. go (Absent ∷ gs)) ≡ onHanding (inFront Absent h) c go
+absent-handing : (h : Handing) (c : ℕ) (go : List Given → Entered)
+    → onHanding h c (λ gs. go (Absent ∷ gs)) ≡ onHanding (inFront Absent h) c go
 absent-handing (handed gs) c go = refl
 absent-handing (failed d) c go = refl
 
@@ -87,57 +95,13 @@ overrides-handing s st k v (x ∷ xs) go =
     (λ q. rw q (overrides-handing s st k (suc v) xs (λ gs. go (Absent ∷ gs)) ∙ absent-handing rest (st .count) go))
     (decide (hasClause s (calledTarget k v)))
 
--- the scopes entered
-abbrev pub countOf : Entered → ℕ
-countOf (values vs n) = n
-countOf (ended c n) = n
-
-value-count : (o : Outcome) (c : ℕ) (go : Value → Entered) → ((y : Value) → c ≤ countOf (go y)) → c ≤ countOf (onValue o c go)
-value-count (Gives y) c go h = h y
-value-count (Ends d) c go h = omega arith
-
-entered-count : (r : Entered) (c : ℕ) (go : List Value → ℕ → Entered) → ((vs : List Value) (n : ℕ) → n ≤ countOf (go vs n)) → c ≤ countOf (onEntered r c go)
-entered-count (values vs n) c go h = omega (arith, h vs (c + n))
-entered-count (ended d n) c go h = omega arith
-
-overrides-count : (s : Scope) (st : State) (k v : ℕ) (xs : List Variable) (go : List Given → Entered)
-    → ((handed : List Given) → st .count ≤ countOf (go handed)) → st .count ≤ countOf (overrides s st k v xs go)
-unfolding overrides
-overrides-count s st k v [] go h = h []
-overrides-count s st k v (x ∷ xs) go h =
-    ⊎-elim
-    (λ q. rw q
-    (value-count (eval (envOf st) (tree s (calledTarget k v))) (st .count) _
-    (λ y. overrides-count s st k (suc v) xs (λ handed. go (Present y ∷ handed)) (λ handed. h (Present y ∷ handed)))))
-    (λ q. rw q (overrides-count s st k (suc v) xs (λ handed. go (Absent ∷ handed)) (λ handed. h (Absent ∷ handed))))
-    (decide (hasClause s (calledTarget k v)))
-
-module _ (book : List Scope) (enter : ℕ → List Given → Entered) (s : Scope) (given : List Given) where
-  pub steps-count : (xs : List ℕ) (st : State) → st .count ≤ countOf (runSteps book enter s given xs st)
-  unfolding runSteps
-  steps-count [] st = omega arith
-  steps-count (x ∷ xs) st =
-      let v = length (s .variables) in
-      let k = x - v in
-      ⊎-elim
-      (λ (q : ltb x v ≡ true).
-      rw q
-      (value-count (step (getD given x Absent) (envOf st) (tree s (ownTarget x))) (st .count) _
-      (λ y. steps-count xs (record { own = set (st .own) x (Present y); called = st .called; count = st .count }))))
-      (λ (q : ltb x v ≡ false).
-      rw q
-      (overrides-count s st k 0 (scopeAt book (getD (s .subScopes) k 0) .variables) _
-      (λ handed. entered-count (enter (getD (s .subScopes) k 0) handed) (st .count) _
-      (λ vs n. steps-count xs (record { own = st .own; called = set (st .called) k vs; count = n })))))
-      (decide (ltb x v))
-
 -- One step of a run
 
 module _ (book : List Scope) (enter : ℕ → List Given → Entered) (s : Scope) (given : List Given) (x : ℕ) (xs : List ℕ) (st : State) where
   module _ (l : x < length (s .variables)) where
     pub variable-turn : (y : Value) → step (getD given x Absent) (envOf st) (tree s (ownTarget x)) ≡ Gives y
         → runSteps book enter s given (x ∷ xs) st
-        ≡ runSteps book enter s given xs (record { own = set (st .own) x (Present y); called = st .called; count = st .count })
+        ≡ runSteps book enter s given xs (withVariable st x y)
     unfolding runSteps
     variable-turn y e = rw (lt-ltb x (length (s .variables)) l, e)
 
@@ -161,25 +125,72 @@ module _ (book : List Scope) (enter : ℕ → List Given → Entered) (s : Scope
     by-handing = rw (le-ltb x (length (s .variables)) l) (overrides-handing s st k 0 callee _)
 
     pub call-turn : (gs : List Given) (vs : List Value) (n : ℕ)
-        → handing s st (x - length (s .variables)) 0 (scopeAt book (getD (s .subScopes) (x - length (s .variables)) 0) .variables) ≡ handed gs
-        → enter (getD (s .subScopes) (x - length (s .variables)) 0) gs ≡ values vs n
+        → handsOver book s st x ≡ handed gs
+        → enter (calleeOf s x) gs ≡ values vs n
         → runSteps book enter s given (x ∷ xs) st
-        ≡ runSteps book enter s given xs
-        (record { own = st .own; called = set (st .called) (x - length (s .variables)) vs; count = st .count + n })
+        ≡ runSteps book enter s given xs (withCall st (x - length (s .variables)) vs n)
     call-turn gs vs n h e = by-handing ∙ rw (h, e)
 
     pub call-failed : (c : Cause)
-        → handing s st (x - length (s .variables)) 0 (scopeAt book (getD (s .subScopes) (x - length (s .variables)) 0) .variables) ≡ failed c
+        → handsOver book s st x ≡ failed c
         → runSteps book enter s given (x ∷ xs) st ≡ ended c (st .count)
     call-failed c h = by-handing ∙ rw h
 
     pub call-end : (gs : List Given) (c : Cause) (n : ℕ)
-        → handing s st (x - length (s .variables)) 0 (scopeAt book (getD (s .subScopes) (x - length (s .variables)) 0) .variables) ≡ handed gs
-        → enter (getD (s .subScopes) (x - length (s .variables)) 0) gs ≡ ended c n
+        → handsOver book s st x ≡ handed gs
+        → enter (calleeOf s x) gs ≡ ended c n
         → runSteps book enter s given (x ∷ xs) st ≡ ended c (st .count + n)
     call-end gs c n h e = by-handing ∙ rw (h, e)
 
 module _ (book : List Scope) (enter : ℕ → List Given → Entered) (s : Scope) (given : List Given) where
+  module _ (P : Entered → Type 0) (x : ℕ) (xs : List ℕ) (st : State)
+      (variable : x < length (s .variables) → (y : Value) → step (getD given x Absent) (envOf st) (tree s (ownTarget x)) ≡ Gives y
+      → P (runSteps book enter s given xs (withVariable st x y)))
+      (call : length (s .variables) ≤ x → (gs : List Given) (vs : List Value) (n : ℕ)
+      → handsOver book s st x ≡ handed gs
+      → enter (calleeOf s x) gs ≡ values vs n
+      → P (runSteps book enter s given xs (withCall st (x - length (s .variables)) vs n)))
+      (stops : (c : Cause) → P (ended c (st .count)))
+      (ends : length (s .variables) ≤ x → (gs : List Given) (c : Cause) (n : ℕ)
+      → handsOver book s st x ≡ handed gs
+      → enter (calleeOf s x) gs ≡ ended c n → P (ended c (st .count + n))) where
+    abbrev Goal : Type 0
+    Goal = P (runSteps book enter s given (x ∷ xs) st)
+
+    own-step : x < length (s .variables) → (o : Outcome) → step (getD given x Absent) (envOf st) (tree s (ownTarget x)) ≡ o → Goal
+    own-step l (Gives y) e = subst P (sym (variable-turn book enter s given x xs st l y e)) (variable l y e)
+    own-step l (Ends c) e = subst P (sym (variable-end book enter s given x xs st l c e)) (stops c)
+
+    entered-step : length (s .variables) ≤ x → (gs : List Given)
+        → handsOver book s st x ≡ handed gs
+        → (r : Entered) → enter (calleeOf s x) gs ≡ r → Goal
+    entered-step l gs h (values vs n) e = subst P (sym (call-turn book enter s given x xs st l gs vs n h e)) (call l gs vs n h e)
+    entered-step l gs h (ended c n) e = subst P (sym (call-end book enter s given x xs st l gs c n h e)) (ends l gs c n h e)
+
+    call-step : length (s .variables) ≤ x → (o : Handing)
+        → handsOver book s st x ≡ o → Goal
+    call-step l (handed gs) h = entered-step l gs h (enter (calleeOf s x) gs) refl
+    call-step l (failed c) h = subst P (sym (call-failed book enter s given x xs st l c h)) (stops c)
+
+    pub by-step : P (runSteps book enter s given (x ∷ xs) st)
+    by-step =
+        ⊎-elim
+        (λ (q : ltb x (length (s .variables)) ≡ true). own-step (ltb-true x (length (s .variables)) q) _ refl)
+        (λ (q : ltb x (length (s .variables)) ≡ false). call-step (ltb-false x (length (s .variables)) q) _ refl)
+        (decide (ltb x (length (s .variables))))
+
+  pub steps-count : (xs : List ℕ) (st : State) → st .count ≤ countOf (runSteps book enter s given xs st)
+  unfolding runSteps
+  steps-count [] st = omega arith
+  steps-count (x ∷ xs) st =
+      by-step (λ r. st .count ≤ countOf r) x xs st
+      (λ l y e. steps-count xs (withVariable st x y))
+      (λ l gs vs n h e.
+      omega
+      (arith, steps-count xs (withCall st (x - length (s .variables)) vs n)))
+      (λ c. omega arith)
+      (λ l gs c n h e. omega arith)
+
   pub reached-same : (xs : List ℕ) (st : State) → Reached book enter s given xs st
       → runSteps book enter s given (stepOrder s) (begin s) ≡ runSteps book enter s given xs st
   reached-same xs st (Reached.start) = refl

@@ -1,9 +1,9 @@
 -- A term of a type evaluates to a value of the type, or to an end.
---     typed-map           a typing holds under whatever follows from what is said of the variables that the term reads
---     eval-typed          where every variable read holds a value of its type, the outcome is of the term's type
---     ready-typed         the same of a term that is ready in a state of a run
---     held-type           what a set variable holds is of its type
---     same-type           types found equal are equal
+--     typed-map       a typing holds under whatever follows, of the variables that the term reads, from what it says of them
+--     eval-typed      where every variable read holds a value of its type, the outcome is of the term's type
+--     ready-typed     so it is of a term that is ready in a state of a run
+--     held-type       what a set variable holds is of its type
+--     same-type       types found equal are equal
 -- Assumes nothing.
 use Prim.Native.Nat.{ℕ, zero, suc, _+_}
 use mathlib.Core.Path.{_≡_, refl, subst}
@@ -52,50 +52,51 @@ same-type Numeric Numeric e = refl
 
 -- Typings under other facts on the variables
 
-or-left : (a b : Bool) → a ≡ true → (a || b) ≡ true
-or-left a b e = rw e
-
-or-right : (a b : Bool) → b ≡ true → (a || b) ≡ true
-or-right a b e = rw e (or-true a)
-
 module _ (v : ℕ) (P P′ : ℕ → ValueType → Type 0) (Q Q′ : ℕ → ℕ → ValueType → Type 0) where
+  -- of the variables that are read, what is said gives what is to be said; r says which steps are read
+  pub record Passes (r : ℕ → Bool) : Type 0 where
+    pub own : (x : ℕ) (t : ValueType) → r x ≡ true → P x t → P′ x t
+    pub calls : (k x : ℕ) (t : ValueType) → r (v + k) ≡ true → Q k x t → Q′ k x t
+
+  left : (a b : ℕ → Bool) → Passes (λ w. a w || b w) → Passes a
+  left a b p = record { own = λ x t e. p .own x t (rw e); calls = λ k x t e. p .calls k x t (rw e) }
+
+  right : (a b : ℕ → Bool) → Passes (λ w. a w || b w) → Passes b
+  right a b p = record { own = λ x t e. p .own x t (rw e (or-true (a x))); calls = λ k x t e. p .calls k x t (rw e (or-true (a (v + k)))) }
+
   mutual
     unfolding Typed reads
 
-    pub typed-map : (t : Term) (u : ValueType) → ((x : ℕ) (t₁ : ValueType) → reads v x t ≡ true → P x t₁ → P′ x t₁)
-        → ((k x : ℕ) (t₁ : ValueType) → reads v (v + k) t ≡ true → Q k x t₁ → Q′ k x t₁) → Typed P Q t u → Typed P′ Q′ t u
-    typed-map (literal y) u p q h = h
-    typed-map (own x) u p q h = p x u (eq-eqb x x refl) h
-    typed-map (called k x) u p q h = q k x u (eq-eqb (v + k) (v + k) refl) h
-    typed-map (error c) u p q h = h
-    typed-map (unary op a) u p q h = (typed-map a _ p q (h .0), h .1)
-    typed-map (binary op a b) u p q h = (
+    pub typed-map : (t : Term) (u : ValueType) → Passes (λ w. reads v w t) → Typed P Q t u → Typed P′ Q′ t u
+    typed-map (literal y) u p h = h
+    typed-map (own x) u p h = p .own x u (eq-eqb x x refl) h
+    typed-map (called k x) u p h = p .calls k x u (eq-eqb (v + k) (v + k) refl) h
+    typed-map (error c) u p h = h
+    typed-map (unary op a) u p h = (typed-map a _ p (h .0), h .1)
+    typed-map (binary op a b) u p h = (
       h .0,
-      typed-map a _ (λ x t r. p x t (or-left (reads v x a) (reads v x b) r)) (λ k x t r. q k x t (or-left (reads v (v + k) a) (reads v (v + k) b) r)) (h .1),
-      typed-map b _ (λ x t r. p x t (or-right (reads v x a) (reads v x b) r)) (λ k x t r. q k x t (or-right (reads v (v + k) a) (reads v (v + k) b) r)) (h .2),
+      typed-map a _ (left (λ w. reads v w a) (λ w. reads v w b) p) (h .1),
+      typed-map b _ (right (λ w. reads v w a) (λ w. reads v w b) p) (h .2),
       h .3,
     )
-    typed-map (choice c a b) u p q h = (
-      typed-map c YesNo (λ x t r. p x t (or-left (reads v x c) _ r)) (λ k x t r. q k x t (or-left (reads v (v + k) c) _ r)) (h .0),
-      typed-map a u (λ x t r. p x t (or-right (reads v x c) _ (or-left (reads v x a) (reads v x b) r)))
-          (λ k x t r. q k x t (or-right (reads v (v + k) c) _ (or-left (reads v (v + k) a) (reads v (v + k) b) r))) (h .1),
-      typed-map b u (λ x t r. p x t (or-right (reads v x c) _ (or-right (reads v x a) (reads v x b) r)))
-          (λ k x t r. q k x t (or-right (reads v (v + k) c) _ (or-right (reads v (v + k) a) (reads v (v + k) b) r))) (h .2),
-    )
-    typed-map (default es j c) u p q h = (
-      all-typed-map es u (λ x t r. p x t (or-left (readsAny v x es) _ r)) (λ k x t r. q k x t (or-left (readsAny v (v + k) es) _ r)) (h .0),
-      typed-map j YesNo (λ x t r. p x t (or-right (readsAny v x es) _ (or-left (reads v x j) (reads v x c) r)))
-          (λ k x t r. q k x t (or-right (readsAny v (v + k) es) _ (or-left (reads v (v + k) j) (reads v (v + k) c) r))) (h .1),
-      typed-map c u (λ x t r. p x t (or-right (readsAny v x es) _ (or-right (reads v x j) (reads v x c) r)))
-          (λ k x t r. q k x t (or-right (readsAny v (v + k) es) _ (or-right (reads v (v + k) j) (reads v (v + k) c) r))) (h .2),
-    )
+    typed-map (choice c a b) u p h =
+        let p′ : Passes (λ w. reads v w a || reads v w b) = right (λ w. reads v w c) (λ w. reads v w a || reads v w b) p in (
+          typed-map c YesNo (left (λ w. reads v w c) (λ w. reads v w a || reads v w b) p) (h .0),
+          typed-map a u (left (λ w. reads v w a) (λ w. reads v w b) p′) (h .1),
+          typed-map b u (right (λ w. reads v w a) (λ w. reads v w b) p′) (h .2),
+        )
+    typed-map (default es j c) u p h =
+        let p′ : Passes (λ w. reads v w j || reads v w c) = right (λ w. readsAny v w es) (λ w. reads v w j || reads v w c) p in (
+          all-typed-map es u (left (λ w. readsAny v w es) (λ w. reads v w j || reads v w c) p) (h .0),
+          typed-map j YesNo (left (λ w. reads v w j) (λ w. reads v w c) p′) (h .1),
+          typed-map c u (right (λ w. reads v w j) (λ w. reads v w c) p′) (h .2),
+        )
 
-    pub all-typed-map : (es : Terms) (u : ValueType) → ((x : ℕ) (t₁ : ValueType) → readsAny v x es ≡ true → P x t₁ → P′ x t₁)
-        → ((k x : ℕ) (t₁ : ValueType) → readsAny v (v + k) es ≡ true → Q k x t₁ → Q′ k x t₁) → AllTyped P Q es u → AllTyped P′ Q′ es u
-    all-typed-map none u p q h = h
-    all-typed-map (also e es) u p q h = (
-      typed-map e u (λ x t r. p x t (or-left (reads v x e) (readsAny v x es) r)) (λ k x t r. q k x t (or-left (reads v (v + k) e) (readsAny v (v + k) es) r)) (h .0),
-      all-typed-map es u (λ x t r. p x t (or-right (reads v x e) (readsAny v x es) r)) (λ k x t r. q k x t (or-right (reads v (v + k) e) (readsAny v (v + k) es) r)) (h .1),
+    pub all-typed-map : (es : Terms) (u : ValueType) → Passes (λ w. readsAny v w es) → AllTyped P Q es u → AllTyped P′ Q′ es u
+    all-typed-map none u p h = h
+    all-typed-map (also e es) u p h = (
+      typed-map e u (left (λ w. reads v w e) (λ w. readsAny v w es) p) (h .0),
+      all-typed-map es u (right (λ w. reads v w e) (λ w. readsAny v w es) p) (h .1),
     )
 
 -- Outcomes
@@ -181,7 +182,8 @@ module _ (e : Env) where
         (bind-fits (unaryType op) (eval e a) (unaryOf op) (unary-fits op))
     eval-typed (binary op a b) u h =
         subst (λ (t : ValueType). OutcomeFits t (eval e (binary op a b))) (h .3)
-        (bind-fits (binaryType op) (eval e a) (λ y. bind (eval e b) (binaryOf op y)) (λ y. bind-fits (binaryType op) (eval e b) (binaryOf op y) (binary-fits op y)))
+        (bind-fits (binaryType op) (eval e a) (λ y. bind (eval e b) (binaryOf op y))
+        (λ y. bind-fits (binaryType op) (eval e b) (binaryOf op y) (binary-fits op y)))
     eval-typed (choice c a b) u h = choose-fits u (eval e c) (eval e a) (eval e b) (eval-typed a u (h .1)) (eval-typed b u (h .2))
     eval-typed (default es j c) u h =
         settle-fits u (exceptions e (SoFar Nothing) es) (choose (eval e j) (eval e c) (Ends Empty))
@@ -207,5 +209,9 @@ pub ready-typed : (st : State) (t : Term) (u : ValueType) → TermReady st t u �
 ready-typed st t u h =
     eval-typed (envOf st) t u
     (typed-map 0 (λ x t₁. Holds t₁ (getD (st .own) x Absent)) (λ x t₁. HasType t₁ (envOf st .own x))
-    (λ k x t₁. HoldsAt t₁ (getD (st .called) k []) x) (λ k x t₁. HasType t₁ (envOf st .called k x))
-    t u (λ x t₁ r p. held-type t₁ (getD (st .own) x Absent) p) (λ k x t₁ r p. at-type t₁ (getD (st .called) k []) x p) h)
+    (λ k x t₁. HoldsAt t₁ (getD (st .called) k []) x) (λ k x t₁. HasType t₁ (envOf st .called k x)) t u
+    (record {
+      own = λ x t₁ r p. held-type t₁ (getD (st .own) x Absent) p;
+      calls = λ k x t₁ r p. at-type t₁ (getD (st .called) k []) x p;
+    })
+    h)

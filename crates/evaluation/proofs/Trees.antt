@@ -8,9 +8,10 @@ use mathlib.Core.Bool.{Bool, true, false, _&&_, _||_, false≢true}
 use mathlib.Core.List.{List, [], _∷_}
 use mathlib.Core.Logic.{⊎-elim}
 use native.Mathlib.Omega.{arith}
+use native.Mathlib.Nat.{eq-or-lt-of-le}
 use lib.ListN.{length, getD}
 use lib.Dec.{eqb, ltb}
-use borrow.Author.Tests.{eqb-true, eqb-false, ne-eqb, ltb-true, ltb-false}
+use borrow.Author.Tests.{eqb-true, eqb-false, ne-eqb, ltb-true}
 use Rattle.calculus.specs.Terms.{Term, Terms, none, also}
 use Rattle.order.proofs.Booleans.{decide, both, or-cases}
 use Rattle.book.proofs.Searches.{any-true}
@@ -72,7 +73,8 @@ module _ (book : List Scope) (s : Scope) where
         (decide (eqb e 255))
 
     module _ (low : ℕ → ValueType) (agree : (n : ℕ) → n < l → types n ≡ low n) where
-      made-typed : (x : Node) → nodeNames book s l x ≡ true → nodeFits types x ≡ true → WellTyped book s (nodeTerm lower x) (nodeType book s low x)
+      made-typed : (x : Node) → nodeNames book s l x ≡ true → nodeFits types x ≡ true
+          → WellTyped book s (nodeTerm lower x) (nodeType book s low x)
       unfolding Typed nodeNames namesCalled
       made-typed (Constant b) h f = refl
       made-typed (Number z) h f = refl
@@ -131,18 +133,16 @@ module _ (book : List Scope) (s : Scope) where
         (made-typed lower l each (typeBelow book s l) (λ k r. type-below l k r (omega arith)) x
         (formed .nodesNamed l h noNode) (formed .nodesFit l h noNode)))
         (λ (q : eqb n l ≡ false).
-        let ne : n ≡ l → ⊥ = eqb-false n l q in
-        rw q (each n (less n l m ne)))
+        let below : n < l = ⊎-elim (λ (r : n ≡ l). absurd (eqb-false n l q r)) (λ (r : n < l). r) (eq-or-lt-of-le {n = n} {m = l} (omega arith)) in
+        rw q (each n below))
         (decide (eqb n l))
-      where
-        less : (n l : ℕ) → n < suc l → (n ≡ l → ⊥) → n < l
-        less n l m ne = ⊎-elim (λ (t : ltb n l ≡ true). ltb-true n l t) (λ (t : ltb n l ≡ false). absurd (ne (omega (arith, ltb-false n l t)))) (decide (ltb n l))
 
     pub node-typed : (n : ℕ) → n < length (s .nodes) → WellTyped book s (termOf s n) (typeOfNode book s n)
     unfolding termOf
     node-typed n h = below-typed (length (s .nodes)) (omega arith) n h
 
-    condition-typed : (n : ℕ) → namesCondition s n ≡ true → (eqb n 255 || sameType (types n) YesNo) ≡ true → WellTyped book s (conditionTerm s n) YesNo
+    condition-typed : (n : ℕ) → namesCondition s n ≡ true → (eqb n 255 || sameType (types n) YesNo) ≡ true
+        → WellTyped book s (conditionTerm s n) YesNo
     unfolding Typed
     condition-typed n h f =
         ⊎-elim
@@ -211,7 +211,8 @@ module _ (book : List Scope) (s : Scope) where
           (λ (q : eqb (c .parent) 255 ≡ true). absurd (omega (arith, eqb-true (c .parent) 255 q)))
           (λ (q : (ltb (c .parent) m && sameTarget (getD (s .clauses) (c .parent) noClause .target) (c .target)) ≡ true).
           let h = both (ltb (c .parent) m) _ q .1 in
-          ap (λ (k : ℕ). getD (s .clauses) k noClause .target) (sym e) ∙ same-target (getD (s .clauses) (c .parent) noClause .target) (c .target) h)
+          ap (λ (k : ℕ). getD (s .clauses) k noClause .target) (sym e)
+          ∙ same-target (getD (s .clauses) (c .parent) noClause .target) (c .target) h)
           (or-cases (eqb (c .parent) 255) _ (named m l .0))
 
       -- the clauses cs are those from number n on
@@ -222,14 +223,16 @@ module _ (book : List Scope) (s : Scope) where
       clauses-typed (c ∷ cs) n from len =
           let z : n + 0 ≡ n = omega arith in
           let here : getD (s .clauses) n noClause ≡ c = rw z at (from 0 (omega arith)) in
-          let later = clauses-typed cs (suc n) (λ j l. let y : suc n + j ≡ n + suc j = omega arith in rw y (from (suc j) (omega arith))) (omega arith) in
+          let later =
+          clauses-typed cs (suc n) (λ j l. let y : suc n + j ≡ n + suc j = omega arith in rw y (from (suc j) (omega arith))) (omega arith) in
           let inside : n < length (s .clauses) = omega arith in
           let names : Names n c = subst (Names n) here (named n inside) in
           let typed : Fits c = subst Fits here (fits n inside) in (
             (
               select-typed (λ d. eqb (d .parent) n) (targetType book s (c .target)) cs (clauseTerms s (suc n) cs) later (λ j l q.
                   let there : getD (s .clauses) (n + suc j) noClause ≡ getD cs j noClause = from (suc j) (omega arith) in
-                  let parent : getD (s .clauses) (n + suc j) noClause .parent ≡ n = ap (λ (d : Clause). d .parent) there ∙ eqb-true (getD cs j noClause .parent) n q in
+                  let parent : getD (s .clauses) (n + suc j) noClause .parent ≡ n =
+                  ap (λ (d : Clause). d .parent) there ∙ eqb-true (getD cs j noClause .parent) n q in
                   ap (λ (d : Clause). targetType book s (d .target)) (sym there)
                   ∙ ap (targetType book s) (sym (parent-target (n + suc j) n (omega arith) (omega arith) parent))
                   ∙ ap (λ (d : Clause). targetType book s (d .target)) here),
@@ -244,7 +247,9 @@ module _ (book : List Scope) (s : Scope) where
       bases-typed t =
           select-typed (isBase t) (targetType book s t) (s .clauses) (clauseTerms s 0 (s .clauses))
           (clauses-typed (s .clauses) 0 (λ j l. let z : 0 + j ≡ j = omega arith in rw z) (omega arith))
-          (λ j l q. ap (targetType book s) (same-target (getD (s .clauses) j noClause .target) t (both (hasTarget t (getD (s .clauses) j noClause)) _ q .0)))
+          (λ j l q.
+          let c = getD (s .clauses) j noClause in
+          ap (targetType book s) (same-target (c .target) t (both (hasTarget t c) _ q .0)))
 
       rule-type : (c : Consequence) → isRule c ≡ true → consequenceType types c ≡ YesNo
       rule-type (Of n) e = absurd (false≢true e)

@@ -39,7 +39,8 @@ each-fits [] (g ∷ gs) e h = absurd (omega arith)
 each-fits (x ∷ xs) [] e h = absurd (omega arith)
 each-fits (x ∷ xs) (g ∷ gs) e h = (may-hold (x .holds) g (h 0), each-fits xs gs (omega arith) (λ v. h (suc v)))
 
-pub inputs-fitting : (variables : List Variable) (bytes : List ℕ) (given : List Given) → inputs variables bytes ≡ good given → Fitting variables given
+pub inputs-fitting : (variables : List Variable) (bytes : List ℕ) (given : List Given) → inputs variables bytes ≡ good given
+    → Fitting variables given
 inputs-fitting variables bytes given e =
     each-fits variables given (good-number variables bytes given e) (good-typed variables bytes given e)
 

@@ -8,7 +8,7 @@ use Rattle.book.specs.Syntax.{Scope}
 use Rattle.book.specs.References.{scopeAt}
 use Rattle.book.specs.Decode.{scopesOf}
 use Rattle.book.specs.Scopes.{blocks}
-use Rattle.book.specs.Judge.{judge}
+use Rattle.book.specs.Judge.{faultNumber, judge}
 use Rattle.book.specs.declared.Judged.{Judged}
 use Rattle.book.specs.declared.Judged.the-variants as judged
 use Rattle.lists.specs.Inputs.{Inputs, bad, good, inputs}
@@ -18,6 +18,25 @@ use Rattle.evaluation.specs.declared.Refusal.{Refusal}
 use Rattle.evaluation.specs.declared.Refusal.the-variants.{Book, NoSuchScope, BadInput, BufferTooSmall}
 use Rattle.evaluation.specs.declared.Answer.{Answer}
 use Rattle.evaluation.specs.declared.Answer.the-variants.{Values, Ended, Refused}
+
+-- the paper's number of a refusal
+abbrev pub refusalNumber : Refusal → ℕ
+refusalNumber (Book f) = faultNumber f
+refusalNumber NoSuchScope = 13
+refusalNumber BadInput = 14
+refusalNumber BufferTooSmall = 15
+
+-- "A refusal returns its number and the count 0"
+abbrev pub countIn : Answer → ℕ
+countIn (Values n size) = n
+countIn (Ended c n) = n
+countIn (Refused r) = 0
+
+-- "the length of the results (0 without values)"
+abbrev pub lengthIn : Answer → ℕ
+lengthIn (Values n size) = size
+lengthIn (Ended c n) = 0
+lengthIn (Refused r) = 0
 
 -- an answer, and the bytes that it writes
 pub record Reply : Type 0 where

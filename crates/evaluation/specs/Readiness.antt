@@ -48,18 +48,31 @@ abbrev pub onHanding : Handing → ℕ → (List Given → Entered) → Entered
 onHanding (handed gs) count go = go gs
 onHanding (failed c) count go = ended c count
 
+-- the scope that the call of step x enters, and what it hands over
+abbrev pub calleeOf : Scope → ℕ → ℕ
+calleeOf s x = getD (s .subScopes) (x - length (s .variables)) 0
+
+abbrev pub handsOver : List Scope → Scope → State → ℕ → Handing
+handsOver book s st x = handing s st (x - length (s .variables)) 0 (scopeAt book (calleeOf s x) .variables)
+
+-- the state after own variable x has got a value, and after sub-scope k has been entered
+abbrev pub withVariable : State → ℕ → Value → State
+withVariable st x y = record { own = set (st .own) x (Present y); called = st .called; count = st .count }
+
+abbrev pub withCall : State → ℕ → List Value → ℕ → State
+withCall st k vs n = record { own = st .own; called = set (st .called) k vs; count = st .count + n }
+
 -- a run of the scope's steps reaches this state, with these steps left; `enter` is what entering a scope with given variables comes to
 pub data Reached (book : List Scope) (enter : ℕ → List Given → Entered) (s : Scope) (given : List Given) : List ℕ → State → Type 0 where
   start : Reached book enter s given (stepOrder s) (begin s)
   variable : {x : ℕ} {xs : List ℕ} {st : State} (y : Value) → Reached book enter s given (x ∷ xs) st → x < length (s .variables)
       → step (getD given x Absent) (envOf st) (tree s (ownTarget x)) ≡ Gives y
-      → Reached book enter s given xs (record { own = set (st .own) x (Present y); called = st .called; count = st .count })
+      → Reached book enter s given xs (withVariable st x y)
   call : {x : ℕ} {xs : List ℕ} {st : State} (gs : List Given) (vs : List Value) (n : ℕ) → Reached book enter s given (x ∷ xs) st
       → length (s .variables) ≤ x
-      → handing s st (x - length (s .variables)) 0 (scopeAt book (getD (s .subScopes) (x - length (s .variables)) 0) .variables) ≡ handed gs
-      → enter (getD (s .subScopes) (x - length (s .variables)) 0) gs ≡ values vs n
-      → Reached book enter s given xs
-      (record { own = st .own; called = set (st .called) (x - length (s .variables)) vs; count = st .count + n })
+      → handsOver book s st x ≡ handed gs
+      → enter (calleeOf s x) gs ≡ values vs n
+      → Reached book enter s given xs (withCall st (x - length (s .variables)) vs n)
 
 -- all that step x depends on is there: own variables set and of their types, sub-scopes entered with values of their variables' types
 pub record Ready (book : List Scope) (s : Scope) (x : ℕ) (st : State) : Type 0 where

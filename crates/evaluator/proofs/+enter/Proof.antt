@@ -1,0 +1,268 @@
+-- `evaluator::enter` meets its contract. The invariant: the cells hold what the steps so far have set, and the rest of the run comes to what the
+-- whole does.
+-- Assumes nothing.
+use Prim.Native.Nat.{ℕ, _<_, _+_, _-_, _*_}
+use mathlib.Core.Path.{sym, _∙_}
+use native.Mathlib.Omega.{arith}
+use borrow.Author.Needs.{needs}
+use borrow.Fn.Kinds.{In}
+use borrow.Fn.PlainCycle.{Measures, is, falls, and}
+use Rattle.evaluator.proofs.enter.Reads as enter
+use Rattle.evaluator.proofs.enter.Kinds as enter-kinds
+use Rattle.evaluator.proofs.+enter.Lts-enter as enter-lts
+use Rattle.book.proofs.sub_scope_at.Reads as sub-scope-at-reads
+use Rattle.book.proofs.sub_scope_count.Reads as sub-scope-count-reads
+use Rattle.book.proofs.variable_count.Reads as variable-count-reads
+use Rattle.evaluator.proofs.hand_over.Reads as hand-over-reads
+use Rattle.evaluator.proofs.put_cell.Reads as put-cell-reads
+use Rattle.evaluator.proofs.step_value.Reads as step-value-reads
+use Rattle.record.proofs.byte_at.Reads as byte-at-reads
+use Rattle.evaluator.proofs.+enter.{statement}
+use Rattle.evaluator.proofs.+enter.Tie.{close}
+use Rattle.evaluator.proofs.Running.{Running}
+use Rattle.evaluator.proofs.Entering.{scope-few, link-room, row-ready, left-some, callee, part-room, begins, ends, step-few, put-room, turn-variable, end-variable}
+use Rattle.evaluator.proofs.Entering.{number-below, number-few, called-room, end-hand, few-ended, few-values, end-call, turn-call}
+
+abbrev μ-enter : Measures 7 enter-kinds.ps ℕ
+μ-enter κs a = a .1 .1 .1 .1 .1 .1 .0
+
+abbrev enter-at : ℕ → In 7 enter-kinds.ps
+enter-at t = and 7 enter-kinds.ps (is 7 enter-kinds.ps μ-enter t) enter.Pre
+
+abbrev enter-below : ℕ → In 7 enter-kinds.ps
+enter-below t = and 7 enter-kinds.ps (falls 7 enter-kinds.ps _<_ μ-enter t) enter.Pre
+
+abbrev enter-Inv-loop : enter-lts.InvT-loop
+enter-Inv-loop book places counts links orders i left given own₀ a e row variables steps called₀ handed₀ count₀ n₀ own called handed count n =
+    Running book i given own called handed count n
+
+abbrev enter-μ-loop : enter-lts.MeasureT-loop
+enter-μ-loop book places counts links orders i left given own₀ a e row variables steps called₀ handed₀ count₀ n₀ own called handed count n =
+    steps - n
+
+abbrev R : ℕ → enter-lts.Claims
+R t =
+    (variable-count-reads.Asked, variable-count-reads.Learnt, sub-scope-count-reads.Asked, sub-scope-count-reads.Learnt, byte-at-reads.Asked, byte-at-reads.Learnt, step-value-reads.Asked, step-value-reads.Learnt, put-cell-reads.Asked, put-cell-reads.Learnt, hand-over-reads.Asked, hand-over-reads.Learnt, sub-scope-at-reads.Asked, sub-scope-at-reads.Learnt, enter-below t, enter.Post)
+
+enter-mul-a : (t : ℕ) → enter-lts.Need-mul-a (R t) (enter-at t) enter.Post enter-Inv-loop enter-μ-loop
+enter-mul-a t c = omega (arith, scope-few (c .before .before .before .before .before .before .before .pre .1))
+
+enter-add-e : (t : ℕ) → enter-lts.Need-add-e (R t) (enter-at t) enter.Post enter-Inv-loop enter-μ-loop
+enter-add-e t c = omega (arith, scope-few (c .before .before .before .before .before .before .before .pre .1))
+
+enter-sub-row : (t : ℕ) → enter-lts.Need-sub-row (R t) (enter-at t) enter.Post enter-Inv-loop enter-μ-loop
+enter-sub-row t c = search needs
+
+enter-part-row-start : (t : ℕ) → enter-lts.Need-part-row-start (R t) (enter-at t) enter.Post enter-Inv-loop enter-μ-loop
+enter-part-row-start t c = search needs
+
+enter-part-row-end : (t : ℕ) → enter-lts.Need-part-row-end (R t) (enter-at t) enter.Post enter-Inv-loop enter-μ-loop
+enter-part-row-end t c = link-room (c .before .before .before .before .before .before .before .pre .1)
+
+enter-variable-count-requires : (t : ℕ) → enter-lts.Need-variable-count-requires (R t) (enter-at t) enter.Post enter-Inv-loop enter-μ-loop
+enter-variable-count-requires t c κs = (c .before .before .before .before .before .before .before .before .pre .1) .world .sound .laid
+
+enter-sub-scope-count-requires : (t : ℕ) → enter-lts.Need-sub-scope-count-requires (R t) (enter-at t) enter.Post enter-Inv-loop enter-μ-loop
+enter-sub-scope-count-requires t c κs = (c .before .before .before .before .before .before .before .before .before .pre .1) .world .sound .laid
+
+enter-add-steps : (t : ℕ) → enter-lts.Need-add-steps (R t) (enter-at t) enter.Post enter-Inv-loop enter-μ-loop
+enter-add-steps t c = omega (arith, c .before .variable-count .ensures, c .sub-scope-count .ensures, (c .before .before .before .before .before .before .before .before .before .before .pre .1) .world .sound .variables (c .before .before .before .before .before .before .before .before .before .before .args .i), (c .before .before .before .before .before .before .before .before .before .before .pre .1) .world .sound .subScopes (c .before .before .before .before .before .before .before .before .before .before .args .i))
+
+enter-loop-holds : (t : ℕ) → enter-lts.Need-loop-holds (R t) (enter-at t) enter.Post enter-Inv-loop enter-μ-loop
+enter-loop-holds t c = begins (c .before .before .before .before .before .before .before .before .before .before .pre .1) _
+
+enter-mul-byte-at : (t : ℕ) → enter-lts.Need-mul-byte-at (R t) (enter-at t) enter.Post enter-Inv-loop enter-μ-loop
+enter-mul-byte-at t c = omega (arith, scope-few (c .before .before .before .before .before .before .before .before .before .before .before .before .pre .1))
+
+enter-add-byte-at : (t : ℕ) → enter-lts.Need-add-byte-at (R t) (enter-at t) enter.Post enter-Inv-loop enter-μ-loop
+enter-add-byte-at t c = omega (arith, scope-few (c .before .before .before .before .before .before .before .before .before .before .before .before .pre .1), c .loop-test .taken, c .before .before .before .variable-count .ensures, c .before .before .sub-scope-count .ensures, (c .before .before .before .before .before .before .before .before .before .before .before .before .pre .1) .world .sound .variables (c .before .before .before .before .before .before .before .before .before .before .before .before .args .i), (c .before .before .before .before .before .before .before .before .before .before .before .before .pre .1) .world .sound .subScopes (c .before .before .before .before .before .before .before .before .before .before .before .before .args .i))
+
+enter-byte-at-requires : (t : ℕ) → enter-lts.Need-byte-at-requires (R t) (enter-at t) enter.Post enter-Inv-loop enter-μ-loop
+enter-byte-at-requires t c κs = search needs
+
+enter-cast-if1 : (t : ℕ) → enter-lts.Need-cast-if1 (R t) (enter-at t) enter.Post enter-Inv-loop enter-μ-loop
+enter-cast-if1 t c = search needs
+
+enter-slice-aggregate-step-value : (t : ℕ) → enter-lts.Need-slice-aggregate-step-value (R t) (enter-at t) enter.Post enter-Inv-loop enter-μ-loop
+enter-slice-aggregate-step-value t c = search needs
+
+enter-step-value-requires : (t : ℕ) → enter-lts.Need-step-value-requires (R t) (enter-at t) enter.Post enter-Inv-loop enter-μ-loop
+enter-step-value-requires t c κs = row-ready (c .before .before .before .before .before .before .before .before .before .before .before .before .before .before .before .before .pre .1) ((c .before .before .before .before .before .before .before .before .before .before .before .before .before .before .before .before .args .i) * 834 + 834 - (c .before .before .before .before .before .before .before .before .before .before .before .before .before .before .before .before .args .i) * 834) (omega arith)
+
+enter-enum-known-v : (t : ℕ) → enter-lts.Need-enum-known-v (R t) (enter-at t) enter.Post enter-Inv-loop enter-μ-loop
+enter-enum-known-v t c = search needs
+
+enter-cast-put-cell : (t : ℕ) → enter-lts.Need-cast-put-cell (R t) (enter-at t) enter.Post enter-Inv-loop enter-μ-loop
+enter-cast-put-cell t c = search needs
+
+enter-put-cell-requires : (t : ℕ) → enter-lts.Need-put-cell-requires (R t) (enter-at t) enter.Post enter-Inv-loop enter-μ-loop
+enter-put-cell-requires t c κs = put-room (c .before .before .before .before .before .before .before .before .before .before .before .before .before .before .before .before .before .before .before .before .before .pre .1) (c .before .before .before .before .before .before .before .before .before .before .loop .inv) (c .before .before .before .before .before .before .before .before .before .before .before .before .variable-count .ensures) (c .before .before .before .before .before .before .before .before .before .before .before .sub-scope-count .ensures) (c .before .before .before .before .before .before .before .before .before .loop-test .taken) (c .before .before .before .before .before .before .before .before .byte-at .ensures) (c .before .before .before .before .before .before .before .if1 .taken)
+
+enter-add-n : (t : ℕ) → enter-lts.Need-add-n (R t) (enter-at t) enter.Post enter-Inv-loop enter-μ-loop
+enter-add-n t c = omega (arith, step-few (c .before .before .before .before .before .before .before .before .before .before .before .before .before .before .before .before .before .before .before .before .before .before .before .before .pre .1) (c .before .before .before .before .before .before .before .before .before .before .before .before .before .loop .inv) (c .before .before .before .before .before .before .before .before .before .before .before .before .before .before .before .variable-count .ensures) (c .before .before .before .before .before .before .before .before .before .before .before .before .before .before .sub-scope-count .ensures) (c .before .before .before .before .before .before .before .before .before .before .before .before .loop-test .taken) (c .before .before .before .before .before .before .before .before .before .before .before .byte-at .ensures))
+
+enter-loop-less : (t : ℕ) → enter-lts.Need-loop-less (R t) (enter-at t) enter.Post enter-Inv-loop enter-μ-loop
+enter-loop-less t c = omega (arith, c .before .before .before .before .before .before .before .before .before .before .before .before .loop-test .taken)
+
+enter-loop-again : (t : ℕ) → enter-lts.Need-loop-again (R t) (enter-at t) enter.Post enter-Inv-loop enter-μ-loop
+enter-loop-again t c = turn-variable (c .before .before .before .before .before .before .before .before .before .before .before .before .before .before .before .before .before .before .before .before .before .before .before .before .pre .1) (c .before .before .before .before .before .before .before .before .before .before .before .before .before .loop .inv) (c .before .before .before .before .before .before .before .before .before .before .before .before .before .before .before .variable-count .ensures) (c .before .before .before .before .before .before .before .before .before .before .before .before .before .before .sub-scope-count .ensures) (c .before .before .before .before .before .before .before .before .before .before .before .before .loop-test .taken) (c .before .before .before .before .before .before .before .before .before .before .before .byte-at .ensures) (c .before .before .before .before .before .before .before .before .before .before .if1 .taken) (c .before .before .before .before .before .before .before .step-value .ensures) (c .before .before .before .before .before .v .given .1) (c .before .before .put-cell .ensures)
+
+enter-enum-known-c : (t : ℕ) → enter-lts.Need-enum-known-c (R t) (enter-at t) enter.Post enter-Inv-loop enter-μ-loop
+enter-enum-known-c t c = search needs
+
+enter-same-length : (t : ℕ) → enter-lts.Need-same-length (R t) (enter-at t) enter.Post enter-Inv-loop enter-μ-loop
+enter-same-length t c = c .before .before .before .before .before .before .before .before .before .loop .inv .ownRoom ∙ sym ((c .before .before .before .before .before .before .before .before .before .before .before .before .before .before .before .before .before .before .before .before .pre .1) .room)
+
+enter-returns : (t : ℕ) → enter-lts.Need-returns (R t) (enter-at t) enter.Post enter-Inv-loop enter-μ-loop
+enter-returns t c = end-variable (c .before .before .before .before .before .before .before .before .before .before .before .before .before .before .before .before .before .before .before .before .pre .1) (c .before .before .before .before .before .before .before .before .before .loop .inv) (c .before .before .before .before .before .before .before .before .before .before .before .variable-count .ensures) (c .before .before .before .before .before .before .before .before .before .before .sub-scope-count .ensures) (c .before .before .before .before .before .before .before .before .loop-test .taken) (c .before .before .before .before .before .before .before .byte-at .ensures) (c .before .before .before .before .before .before .if1 .taken) (c .before .before .before .step-value .ensures) (c .before .c .given .1)
+
+enter-cast-k : (t : ℕ) → enter-lts.Need-cast-k (R t) (enter-at t) enter.Post enter-Inv-loop enter-μ-loop
+enter-cast-k t c = search needs
+
+enter-sub-k : (t : ℕ) → enter-lts.Need-sub-k (R t) (enter-at t) enter.Post enter-Inv-loop enter-μ-loop
+enter-sub-k t c = search needs
+
+enter-slice-aggregate-hand-over : (t : ℕ) → enter-lts.Need-slice-aggregate-hand-over (R t) (enter-at t) enter.Post enter-Inv-loop enter-μ-loop
+enter-slice-aggregate-hand-over t c = search needs
+
+enter-slice-aggregate-hand-over-2 : (t : ℕ) → enter-lts.Need-slice-aggregate-hand-over-2 (R t) (enter-at t) enter.Post enter-Inv-loop enter-μ-loop
+enter-slice-aggregate-hand-over-2 t c = search needs
+
+enter-hand-over-requires : (t : ℕ) → enter-lts.Need-hand-over-requires (R t) (enter-at t) enter.Post enter-Inv-loop enter-μ-loop
+enter-hand-over-requires t c κs = record { ready = row-ready (c .before .before .before .before .before .before .before .before .before .before .before .before .before .before .before .before .before .pre .1) ((c .before .before .before .before .before .before .before .before .before .before .before .before .before .before .before .before .before .args .i) * 834 + 834 - (c .before .before .before .before .before .before .before .before .before .before .before .before .before .before .before .before .before .args .i) * 834) (omega arith); number = number-few (c .before .before .before .before .before .before .before .before .before .before .before .before .before .before .before .before .before .pre .1) (c .before .before .before .before .before .before .loop .inv) (c .before .before .before .before .before .before .before .before .variable-count .ensures) (c .before .before .before .before .before .before .before .sub-scope-count .ensures) (c .before .before .before .before .before .loop-test .taken) (c .before .before .before .before .byte-at .ensures) (c .before .before .before .if1 .left); room = c .before .before .before .before .before .before .loop .inv .handedRoom }
+
+enter-enum-told : (t : ℕ) → enter-lts.Need-enum-told (R t) (enter-at t) enter.Post enter-Inv-loop enter-μ-loop
+enter-enum-told t c = search needs
+
+enter-enum-known-c-2 : (t : ℕ) → enter-lts.Need-enum-known-c-2 (R t) (enter-at t) enter.Post enter-Inv-loop enter-μ-loop
+enter-enum-known-c-2 t c = search needs
+
+enter-same-length-2 : (t : ℕ) → enter-lts.Need-same-length-2 (R t) (enter-at t) enter.Post enter-Inv-loop enter-μ-loop
+enter-same-length-2 t c = c .before .before .before .before .before .before .before .before .before .before .before .loop .inv .ownRoom ∙ sym ((c .before .before .before .before .before .before .before .before .before .before .before .before .before .before .before .before .before .before .before .before .before .before .pre .1) .room)
+
+enter-returns-2 : (t : ℕ) → enter-lts.Need-returns-2 (R t) (enter-at t) enter.Post enter-Inv-loop enter-μ-loop
+enter-returns-2 t c = end-hand (c .before .before .before .before .before .before .before .before .before .before .before .before .before .before .before .before .before .before .before .before .before .before .pre .1) (c .before .before .before .before .before .before .before .before .before .before .before .loop .inv) (c .before .before .before .before .before .before .before .before .before .before .before .before .before .variable-count .ensures) (c .before .before .before .before .before .before .before .before .before .before .before .before .sub-scope-count .ensures) (c .before .before .before .before .before .before .before .before .before .before .loop-test .taken) (c .before .before .before .before .before .before .before .before .before .byte-at .ensures) (c .before .before .before .before .before .before .before .before .if1 .left) (c .before .before .before .before .hand-over .ensures) (c .before .c2 .given .1)
+
+enter-sub-scope-at-requires : (t : ℕ) → enter-lts.Need-sub-scope-at-requires (R t) (enter-at t) enter.Post enter-Inv-loop enter-μ-loop
+enter-sub-scope-at-requires t c κs = (c .before .before .before .before .before .before .before .before .before .before .before .before .before .before .before .before .before .before .before .before .before .pre .1) .world .sound .laid
+
+enter-mul-from : (t : ℕ) → enter-lts.Need-mul-from (R t) (enter-at t) enter.Post enter-Inv-loop enter-μ-loop
+enter-mul-from t c = omega (arith, number-few (c .before .before .before .before .before .before .before .before .before .before .before .before .before .before .before .before .before .before .before .before .before .before .pre .1) (c .before .before .before .before .before .before .before .before .before .before .before .loop .inv) (c .before .before .before .before .before .before .before .before .before .before .before .before .before .variable-count .ensures) (c .before .before .before .before .before .before .before .before .before .before .before .before .sub-scope-count .ensures) (c .before .before .before .before .before .before .before .before .before .before .loop-test .taken) (c .before .before .before .before .before .before .before .before .before .byte-at .ensures) (c .before .before .before .before .before .before .before .before .if1 .left))
+
+enter-add-part : (t : ℕ) → enter-lts.Need-add-part (R t) (enter-at t) enter.Post enter-Inv-loop enter-μ-loop
+enter-add-part t c = search needs
+
+enter-mul-called : (t : ℕ) → enter-lts.Need-mul-called (R t) (enter-at t) enter.Post enter-Inv-loop enter-μ-loop
+enter-mul-called t c = search needs
+
+enter-sub-part : (t : ℕ) → enter-lts.Need-sub-part (R t) (enter-at t) enter.Post enter-Inv-loop enter-μ-loop
+enter-sub-part t c = search needs
+
+enter-part-called-start : (t : ℕ) → enter-lts.Need-part-called-start (R t) (enter-at t) enter.Post enter-Inv-loop enter-μ-loop
+enter-part-called-start t c = search needs
+
+enter-part-called-end : (t : ℕ) → enter-lts.Need-part-called-end (R t) (enter-at t) enter.Post enter-Inv-loop enter-μ-loop
+enter-part-called-end t c = called-room (c .before .before .before .before .before .before .before .before .before .before .before .before .before .before .before .before .before .before .before .before .before .before .pre .1) (c .before .before .before .before .before .before .before .before .before .before .before .loop .inv) (c .before .before .before .before .before .before .before .before .before .before .before .before .before .variable-count .ensures) (c .before .before .before .before .before .before .before .before .before .before .before .before .sub-scope-count .ensures) (c .before .before .before .before .before .before .before .before .before .before .loop-test .taken) (c .before .before .before .before .before .before .before .before .before .byte-at .ensures) (c .before .before .before .before .before .before .before .before .if1 .left)
+
+enter-sub-enter : (t : ℕ) → enter-lts.Need-sub-enter (R t) (enter-at t) enter.Post enter-Inv-loop enter-μ-loop
+enter-sub-enter t c = left-some (c .before .before .before .before .before .before .before .before .before .before .before .before .before .before .before .before .before .before .before .before .before .before .before .pre .1)
+
+enter-slice-aggregate-enter : (t : ℕ) → enter-lts.Need-slice-aggregate-enter (R t) (enter-at t) enter.Post enter-Inv-loop enter-μ-loop
+enter-slice-aggregate-enter t c = search needs
+
+enter-enter-requires : (t : ℕ) → enter-lts.Need-enter-requires (R t) (enter-at t) enter.Post enter-Inv-loop enter-μ-loop
+enter-enter-requires t c κs = (omega (arith, left-some (c .before .before .before .before .before .before .before .before .before .before .before .before .before .before .before .before .before .before .before .before .before .before .before .before .pre .1), c .before .before .before .before .before .before .before .before .before .before .before .before .before .before .before .before .before .before .before .before .before .before .before .before .pre .0), callee (c .before .before .before .before .before .before .before .before .before .before .before .before .before .before .before .before .before .before .before .before .before .before .before .before .pre .1) _ _ _ (number-below (c .before .before .before .before .before .before .before .before .before .before .before .before .before .before .before .before .before .before .before .before .before .before .before .before .pre .1) (c .before .before .before .before .before .before .before .before .before .before .before .before .before .loop .inv) (c .before .before .before .before .before .before .before .before .before .before .before .before .before .before .before .variable-count .ensures) (c .before .before .before .before .before .before .before .before .before .before .before .before .before .before .sub-scope-count .ensures) (c .before .before .before .before .before .before .before .before .before .before .before .before .loop-test .taken) (c .before .before .before .before .before .before .before .before .before .before .before .byte-at .ensures) (c .before .before .before .before .before .before .before .before .before .before .if1 .left)) (c .before .before .sub-scope-at .ensures) (part-room _ _ ((c .before .before .before .before .before .before .before .before .before .before .before .byte-at .result - c .before .before .before .before .before .before .before .before .before .before .before .before .before .before .before .variable-count .result) * 32 + 32 - (c .before .before .before .before .before .before .before .before .before .before .before .byte-at .result - c .before .before .before .before .before .before .before .before .before .before .before .before .before .before .before .variable-count .result) * 32) (called-room (c .before .before .before .before .before .before .before .before .before .before .before .before .before .before .before .before .before .before .before .before .before .before .before .before .pre .1) (c .before .before .before .before .before .before .before .before .before .before .before .before .before .loop .inv) (c .before .before .before .before .before .before .before .before .before .before .before .before .before .before .before .variable-count .ensures) (c .before .before .before .before .before .before .before .before .before .before .before .before .before .before .sub-scope-count .ensures) (c .before .before .before .before .before .before .before .before .before .before .before .before .loop-test .taken) (c .before .before .before .before .before .before .before .before .before .before .before .byte-at .ensures) (c .before .before .before .before .before .before .before .before .before .before .if1 .left)) (omega arith)))
+
+enter-enum-known-m : (t : ℕ) → enter-lts.Need-enum-known-m (R t) (enter-at t) enter.Post enter-Inv-loop enter-μ-loop
+enter-enum-known-m t c = search needs
+
+enter-add-count : (t : ℕ) → enter-lts.Need-add-count (R t) (enter-at t) enter.Post enter-Inv-loop enter-μ-loop
+enter-add-count t c = omega (arith, few-values (c .before .before .before .before .before .before .before .before .before .before .before .before .before .before .before .before .before .before .before .before .before .before .before .before .before .before .before .before .before .pre .1) (c .before .before .before .before .before .before .before .before .before .before .before .before .before .before .before .before .before .before .loop .inv) (c .before .before .before .before .before .before .before .before .before .before .before .before .before .before .before .before .before .before .before .before .variable-count .ensures) (c .before .before .before .before .before .before .before .before .before .before .before .before .before .before .before .before .before .before .before .sub-scope-count .ensures) (c .before .before .before .before .before .before .before .before .before .before .before .before .before .before .before .before .before .loop-test .taken) (c .before .before .before .before .before .before .before .before .before .before .before .before .before .before .before .before .byte-at .ensures) (c .before .before .before .before .before .before .before .before .before .before .before .before .before .before .before .if1 .left) (c .before .before .before .before .before .before .before .before .before .before .before .hand-over .ensures) (c .before .before .before .before .before .before .before .before .enum-told .given .1) (c .before .before .before .before .before .before .before .sub-scope-at .ensures) (c .before .before .before .before .enter .ensures) (c .before .m .given .1))
+
+enter-add-n-2 : (t : ℕ) → enter-lts.Need-add-n-2 (R t) (enter-at t) enter.Post enter-Inv-loop enter-μ-loop
+enter-add-n-2 t c = omega (arith, step-few (c .before .before .before .before .before .before .before .before .before .before .before .before .before .before .before .before .before .before .before .before .before .before .before .before .before .before .before .before .before .pre .1) (c .before .before .before .before .before .before .before .before .before .before .before .before .before .before .before .before .before .before .loop .inv) (c .before .before .before .before .before .before .before .before .before .before .before .before .before .before .before .before .before .before .before .before .variable-count .ensures) (c .before .before .before .before .before .before .before .before .before .before .before .before .before .before .before .before .before .before .before .sub-scope-count .ensures) (c .before .before .before .before .before .before .before .before .before .before .before .before .before .before .before .before .before .loop-test .taken) (c .before .before .before .before .before .before .before .before .before .before .before .before .before .before .before .before .byte-at .ensures))
+
+enter-loop-less-2 : (t : ℕ) → enter-lts.Need-loop-less-2 (R t) (enter-at t) enter.Post enter-Inv-loop enter-μ-loop
+enter-loop-less-2 t c = omega (arith, c .before .before .before .before .before .before .before .before .before .before .before .before .before .before .before .before .before .loop-test .taken)
+
+enter-loop-again-2 : (t : ℕ) → enter-lts.Need-loop-again-2 (R t) (enter-at t) enter.Post enter-Inv-loop enter-μ-loop
+enter-loop-again-2 t c = turn-call (c .before .before .before .before .before .before .before .before .before .before .before .before .before .before .before .before .before .before .before .before .before .before .before .before .before .before .before .before .before .pre .1) (c .before .before .before .before .before .before .before .before .before .before .before .before .before .before .before .before .before .before .loop .inv) (c .before .before .before .before .before .before .before .before .before .before .before .before .before .before .before .before .before .before .before .before .variable-count .ensures) (c .before .before .before .before .before .before .before .before .before .before .before .before .before .before .before .before .before .before .before .sub-scope-count .ensures) (c .before .before .before .before .before .before .before .before .before .before .before .before .before .before .before .before .before .loop-test .taken) (c .before .before .before .before .before .before .before .before .before .before .before .before .before .before .before .before .byte-at .ensures) (c .before .before .before .before .before .before .before .before .before .before .before .before .before .before .before .if1 .left) (c .before .before .before .before .before .before .before .before .before .before .before .hand-over .ensures) (c .before .before .before .before .before .before .before .before .enum-told .given .1) (c .before .before .before .before .before .before .before .sub-scope-at .ensures) (c .before .before .before .before .enter .ensures) ((c .before .before .before .before .before .before .before .before .before .before .before .before .before .before .before .before .byte-at .result - c .before .before .before .before .before .before .before .before .before .before .before .before .before .before .before .before .before .before .before .before .variable-count .result) * 32 + 32 - (c .before .before .before .before .before .before .before .before .before .before .before .before .before .before .before .before .byte-at .result - c .before .before .before .before .before .before .before .before .before .before .before .before .before .before .before .before .before .before .before .before .variable-count .result) * 32) (omega arith) (c .before .m .given .1)
+
+enter-enum-known-c-3 : (t : ℕ) → enter-lts.Need-enum-known-c-3 (R t) (enter-at t) enter.Post enter-Inv-loop enter-μ-loop
+enter-enum-known-c-3 t c = search needs
+
+enter-add-t63 : (t : ℕ) → enter-lts.Need-add-t63 (R t) (enter-at t) enter.Post enter-Inv-loop enter-μ-loop
+enter-add-t63 t c = omega (arith, few-ended (c .before .before .before .before .before .before .before .before .before .before .before .before .before .before .before .before .before .before .before .before .before .before .before .before .before .before .before .before .before .pre .1) (c .before .before .before .before .before .before .before .before .before .before .before .before .before .before .before .before .before .before .loop .inv) (c .before .before .before .before .before .before .before .before .before .before .before .before .before .before .before .before .before .before .before .before .variable-count .ensures) (c .before .before .before .before .before .before .before .before .before .before .before .before .before .before .before .before .before .before .before .sub-scope-count .ensures) (c .before .before .before .before .before .before .before .before .before .before .before .before .before .before .before .before .before .loop-test .taken) (c .before .before .before .before .before .before .before .before .before .before .before .before .before .before .before .before .byte-at .ensures) (c .before .before .before .before .before .before .before .before .before .before .before .before .before .before .before .if1 .left) (c .before .before .before .before .before .before .before .before .before .before .before .hand-over .ensures) (c .before .before .before .before .before .before .before .before .enum-told .given .1) (c .before .before .before .before .before .before .before .sub-scope-at .ensures) (c .before .before .before .before .enter .ensures) (c .before .c3 .given .1))
+
+enter-same-length-3 : (t : ℕ) → enter-lts.Need-same-length-3 (R t) (enter-at t) enter.Post enter-Inv-loop enter-μ-loop
+enter-same-length-3 t c = c .before .before .before .before .before .before .before .before .before .before .before .before .before .before .before .before .before .before .loop .inv .ownRoom ∙ sym ((c .before .before .before .before .before .before .before .before .before .before .before .before .before .before .before .before .before .before .before .before .before .before .before .before .before .before .before .before .before .pre .1) .room)
+
+enter-returns-3 : (t : ℕ) → enter-lts.Need-returns-3 (R t) (enter-at t) enter.Post enter-Inv-loop enter-μ-loop
+enter-returns-3 t c = end-call (c .before .before .before .before .before .before .before .before .before .before .before .before .before .before .before .before .before .before .before .before .before .before .before .before .before .before .before .before .before .pre .1) (c .before .before .before .before .before .before .before .before .before .before .before .before .before .before .before .before .before .before .loop .inv) (c .before .before .before .before .before .before .before .before .before .before .before .before .before .before .before .before .before .before .before .before .variable-count .ensures) (c .before .before .before .before .before .before .before .before .before .before .before .before .before .before .before .before .before .before .before .sub-scope-count .ensures) (c .before .before .before .before .before .before .before .before .before .before .before .before .before .before .before .before .before .loop-test .taken) (c .before .before .before .before .before .before .before .before .before .before .before .before .before .before .before .before .byte-at .ensures) (c .before .before .before .before .before .before .before .before .before .before .before .before .before .before .before .if1 .left) (c .before .before .before .before .before .before .before .before .before .before .before .hand-over .ensures) (c .before .before .before .before .before .before .before .before .enum-told .given .1) (c .before .before .before .before .before .before .before .sub-scope-at .ensures) (c .before .before .before .before .enter .ensures) (c .before .c3 .given .1)
+
+enter-same-length-4 : (t : ℕ) → enter-lts.Need-same-length-4 (R t) (enter-at t) enter.Post enter-Inv-loop enter-μ-loop
+enter-same-length-4 t c = c .before .loop .inv .ownRoom ∙ sym ((c .before .before .before .before .before .before .before .before .before .before .before .before .pre .1) .room)
+
+enter-returns-4 : (t : ℕ) → enter-lts.Need-returns-4 (R t) (enter-at t) enter.Post enter-Inv-loop enter-μ-loop
+enter-returns-4 t c = ends (c .before .before .before .before .before .before .before .before .before .before .before .before .pre .1) (c .before .loop .inv) (c .before .before .before .variable-count .ensures) (c .before .before .sub-scope-count .ensures) (c .loop-test .left)
+
+pub +enter-spec : {M : Type 1} → statement M
++enter-spec = close μ-enter λ t. enter-lts.spec (R t)
+    (enter-at t)
+    enter.Post
+    enter-Inv-loop
+    enter-μ-loop
+    (enter-mul-a t)
+    (enter-add-e t)
+    (enter-sub-row t)
+    (enter-part-row-start t)
+    (enter-part-row-end t)
+    (enter-variable-count-requires t)
+    (enter-sub-scope-count-requires t)
+    (enter-add-steps t)
+    (enter-loop-holds t)
+    (enter-mul-byte-at t)
+    (enter-add-byte-at t)
+    (enter-byte-at-requires t)
+    (enter-cast-if1 t)
+    (enter-slice-aggregate-step-value t)
+    (enter-step-value-requires t)
+    (enter-enum-known-v t)
+    (enter-cast-put-cell t)
+    (enter-put-cell-requires t)
+    (enter-add-n t)
+    (enter-loop-less t)
+    (enter-loop-again t)
+    (enter-enum-known-c t)
+    (enter-same-length t)
+    (enter-returns t)
+    (enter-cast-k t)
+    (enter-sub-k t)
+    (enter-slice-aggregate-hand-over t)
+    (enter-slice-aggregate-hand-over-2 t)
+    (enter-hand-over-requires t)
+    (enter-enum-told t)
+    (enter-enum-known-c-2 t)
+    (enter-same-length-2 t)
+    (enter-returns-2 t)
+    (enter-sub-scope-at-requires t)
+    (enter-mul-from t)
+    (enter-add-part t)
+    (enter-mul-called t)
+    (enter-sub-part t)
+    (enter-part-called-start t)
+    (enter-part-called-end t)
+    (enter-sub-enter t)
+    (enter-slice-aggregate-enter t)
+    (enter-enter-requires t)
+    (enter-enum-known-m t)
+    (enter-add-count t)
+    (enter-add-n-2 t)
+    (enter-loop-less-2 t)
+    (enter-loop-again-2 t)
+    (enter-enum-known-c-3 t)
+    (enter-add-t63 t)
+    (enter-same-length-3 t)
+    (enter-returns-3 t)
+    (enter-same-length-4 t)
+    (enter-returns-4 t)

@@ -1,0 +1,5 @@
+mod Cells
+mod Hands
+mod Running
+mod Entering
+mod Service

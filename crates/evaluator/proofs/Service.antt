@@ -1,0 +1,218 @@
+-- What the service answers, by the tests that it makes.
+--     refused-book, refused-scope, refused-input, refused-room      1 to 12, 13, 14, 15
+--     evaluated                           a good list and enough room: what the run comes to
+--     blank-links, entry, typed           what the functions called ask for
+--     values-so, ends-so                  the answer of a run
+-- Assumes nothing.
+use Prim.Native.Nat.{ℕ, zero, suc, _+_, _<_, _≤_}
+use mathlib.Core.Path.{_≡_, refl, sym, ap, subst, _∙_}
+use mathlib.Core.Bool.{true, false≢true}
+use mathlib.Core.List.{List, [], _∷_, reverse}
+use native.Mathlib.Omega.{arith}
+use lib.ListN.{length, getD, replicate, length-replicate, getD-replicate}
+use lib.Seq.{take-all}
+use borrow.Author.Tests.{lt-ltb, le-ltb, le-leb, lt-leb}
+use Rattle.calculus.specs.declared.Cause.{Cause}
+use Rattle.calculus.specs.declared.Given.{Given}
+use Rattle.calculus.specs.declared.Given.the-variants.{Absent, Present}
+use Rattle.order.specs.Order.{among}
+use Rattle.cells.specs.Cells.{givenAt, held}
+use Rattle.book.specs.Syntax.{sameType}
+use Rattle.book.specs.Decode.{scopesOf}
+use Rattle.book.specs.References.{scopeAt}
+use Rattle.book.specs.Scopes.{blocks}
+use Rattle.book.specs.Judge.{judge}
+use Rattle.book.specs.declared.ValueType.{ValueType}
+use Rattle.book.specs.declared.ValueType.the-variants.{YesNo, Numeric}
+use Rattle.book.specs.declared.Variable.{Variable}
+use Rattle.book.specs.declared.Fault.{Fault}
+use Rattle.book.specs.declared.Judged.{Judged}
+use Rattle.book.specs.declared.Judged.the-variants as judged
+use Rattle.acceptance.proofs.Acceptance.{accepted-faultless, accepted-count}
+use Rattle.acceptance.proofs.Limits.{accepted-within, accepted-scopes}
+use Rattle.lists.specs.Inputs.{bad, inputs, isGiven}
+use Rattle.lists.specs.Reading.{Taken}
+use Rattle.lists.specs.Results.{resultLength, results}
+use Rattle.lists.specs.Writing.{valuesFrom, valuesOf, valueType, isOf, resultLengthAt, resultMemory}
+use Rattle.lists.specs.Writing as writing
+use Rattle.trees.specs.Links.{Sound, Blanks, AllLinked}
+use Rattle.evaluation.specs.Run.{Entered, values, ended, enter}
+use Rattle.evaluation.specs.Types.{Fitting, ValuesFit}
+use Rattle.evaluation.specs.Evaluate.{Reply, replyOf, evaluate, asked, memoryAfter, refuse, onJudged}
+use Rattle.evaluation.specs.declared.Refusal.{Refusal}
+use Rattle.evaluation.specs.declared.Refusal.the-variants.{Book, NoSuchScope, BadInput, BufferTooSmall}
+use Rattle.evaluation.specs.declared.Answer.{Answer}
+use Rattle.evaluation.specs.declared.Answer.the-variants.{Values, Ended, Refused}
+use Rattle.evaluation.proofs.Entering.{accepted-complete}
+use Rattle.evaluation.proofs.Types.{inputs-fitting, values-typed, values-length}
+use Rattle.evaluator.specs.Steps.{givensFrom, enteredAt, Entry, ranView, Came}
+use Rattle.evaluator.specs.Service.{Asked, Replied, Evaluated}
+use Rattle.evaluator.specs.declared.Ran.{Ran}
+use Rattle.evaluator.specs.declared.Ran.the-variants as ran
+use Rattle.evaluator.proofs.Cells.{givens-list}
+
+-- a reply, by what it is equal to
+replies : {bytes : List ℕ} {i : ℕ} {list memory : List ℕ} (p : Reply) → evaluate bytes i list (length memory) ≡ p
+    → Evaluated bytes i list memory (p .answer) (memoryAfter p memory)
+replies {bytes} {i} {list} {memory} p e =
+    record { answer = sym (ap (λ (q : Reply). q .answer) e); memory = sym (ap (λ (q : Reply). memoryAfter q memory) e) }
+
+refuses : {bytes : List ℕ} {i : ℕ} {list memory : List ℕ} (r : Refusal) → evaluate bytes i list (length memory) ≡ refuse r
+    → Evaluated bytes i list memory (Refused r) memory
+unfolding memoryAfter
+refuses r e = replies (refuse r) e
+
+pub refused-book : {bytes : List ℕ} {i : ℕ} {list memory : List ℕ} {f : Fault} → judge bytes ≡ judged.Refused f
+    → Evaluated bytes i list memory (Refused (Book f)) memory
+unfolding evaluate
+refused-book {bytes} {i} {list} {memory} {f} e = refuses (Book f) (ap (λ (j : Judged). onJudged j (asked (scopesOf bytes) i list (length memory))) e)
+
+module _ (bytes : List ℕ) (n i : ℕ) (ok : judge bytes ≡ judged.Accepted n) where
+  is-asked : (list : List ℕ) (room : ℕ) → evaluate bytes i list room ≡ asked (scopesOf bytes) i list room
+  unfolding evaluate
+  is-asked list room = ap (λ (j : Judged). onJudged j (asked (scopesOf bytes) i list room)) ok
+
+  count : n ≡ length (scopesOf bytes)
+  count = accepted-count bytes n ok
+
+  pub refused-scope : {list memory : List ℕ} → n ≤ i → Evaluated bytes i list memory (Refused NoSuchScope) memory
+  unfolding asked
+  refused-scope {list} {memory} l = refuses NoSuchScope (is-asked list (length memory) ∙ none)
+    where
+      none : asked (scopesOf bytes) i list (length memory) ≡ refuse NoSuchScope
+      none = rw (le-ltb i (length (scopesOf bytes)) (omega (arith, count)))
+
+  module _ (here : i < n) where
+    pub refused-input : {list memory : List ℕ} → inputs (scopeAt (scopesOf bytes) i .variables) list ≡ bad → Evaluated bytes i list memory (Refused BadInput) memory
+    unfolding asked
+    refused-input {list} {memory} e = refuses BadInput (is-asked list (length memory) ∙ none)
+      where
+        none : asked (scopesOf bytes) i list (length memory) ≡ refuse BadInput
+        none = rw (lt-ltb i (length (scopesOf bytes)) (omega (arith, count)), e)
+
+    module _ {list given : List ℕ} (taken : Taken (scopeAt (scopesOf bytes) i .variables) list given) where
+      pub refused-room : {memory : List ℕ} → length memory < resultLengthAt (scopesOf bytes) i → Evaluated bytes i list memory (Refused BufferTooSmall) memory
+      unfolding resultLengthAt asked
+      refused-room {memory} l = refuses BufferTooSmall (is-asked list (length memory) ∙ none)
+        where
+          none : asked (scopesOf bytes) i list (length memory) ≡ refuse BufferTooSmall
+          none = rw (lt-ltb i (length (scopesOf bytes)) (omega (arith, count)), taken .list, lt-leb (resultLength (scopeAt (scopesOf bytes) i .variables)) (length memory) l)
+
+      same-givens : givensFrom given 0 (length (scopeAt (scopesOf bytes) i .variables)) ≡ taken .givens
+      same-givens =
+          ap (givensFrom given 0) (sym (taken .number))
+          ∙ givens-list given 0 (taken .givens) (λ x. let z : 0 + x ≡ x = omega arith in ap (givenAt given) z ∙ taken .decoded x)
+
+      pub given-fitting : Fitting (scopeAt (scopesOf bytes) i .variables) (givensFrom given 0 (length (scopeAt (scopesOf bytes) i .variables)))
+      given-fitting = subst (Fitting (scopeAt (scopesOf bytes) i .variables)) (sym same-givens) (inputs-fitting (scopeAt (scopesOf bytes) i .variables) list (taken .givens) (taken .list))
+
+      pub evaluated : {memory after : List ℕ} {r : Answer} → resultLengthAt (scopesOf bytes) i ≤ length memory → Replied bytes i given memory r after
+          → Evaluated bytes i list memory r after
+      unfolding resultLengthAt enteredAt asked
+      evaluated {memory} {after} {r} l q =
+          let e : evaluate bytes i list (length memory) ≡ replyOf (enter (scopesOf bytes) (reverse (blocks (scopesOf bytes))) i (givensFrom given 0 (length (scopeAt (scopesOf bytes) i .variables)))) =
+          is-asked list (length memory) ∙ there ∙ ap (λ (gs : List Given). replyOf (enter (scopesOf bytes) (reverse (blocks (scopesOf bytes))) i gs)) (sym same-givens) in
+          record {
+            answer = q .answer ∙ sym (ap (λ (p : Reply). p .answer) e);
+            memory = q .memory ∙ sym (ap (λ (p : Reply). memoryAfter p memory) e);
+          }
+        where
+          there : asked (scopesOf bytes) i list (length memory) ≡ replyOf (enter (scopesOf bytes) (reverse (blocks (scopesOf bytes))) i (taken .givens))
+          there = rw (lt-ltb i (length (scopesOf bytes)) (omega (arith, count)), taken .list, le-leb (resultLength (scopeAt (scopesOf bytes) i .variables)) (length memory) l)
+
+-- values of the variables' types
+same-refl : (t : ValueType) → sameType t t ≡ true
+same-refl YesNo = refl
+same-refl Numeric = refl
+
+is-of : (t : ValueType) (g : Given) → isGiven g ≡ true → valueType (held g) ≡ t → isOf t g ≡ true
+is-of t Absent p e = absurd (false≢true p)
+is-of t (Present v) p e = ap (sameType t) e ∙ same-refl t
+
+fits-at : (xs : List Variable) (cells : List ℕ) (k : ℕ) → ValuesFit xs (valuesFrom cells k (length xs)) → (v : ℕ) → v < length xs
+    → valueType (held (givenAt cells (k + v))) ≡ getD xs v (record { holds = YesNo }) .holds
+unfolding valuesFrom
+fits-at [] cells k h v l = absurd (omega arith)
+fits-at (x ∷ xs) cells k h zero l = let e : k + 0 ≡ k = omega arith in ap (λ (n : ℕ). valueType (held (givenAt cells n))) e ∙ h .0
+fits-at (x ∷ xs) cells k h (suc v) l =
+    let e : k + suc v ≡ suc k + v = omega arith in
+    ap (λ (n : ℕ). valueType (held (givenAt cells n))) e ∙ fits-at xs cells (suc k) (h .1) v (omega arith)
+
+module _ {bytes places counts orders : List ℕ} {n i : ℕ} {given memory : List ℕ} (a : Asked bytes places counts orders n i given memory) where
+  total : n ≡ length (scopesOf bytes)
+  total = accepted-count bytes n (a .tabled .accepted)
+
+  pub sound : Sound bytes places counts
+  sound =
+      record {
+        laid = a .tabled .laid;
+        variables = λ j. accepted-within bytes n (a .tabled .accepted) j .variables;
+        subScopes = λ j. accepted-within bytes n (a .tabled .accepted) j .subScopes;
+        clauses = λ j. accepted-within bytes n (a .tabled .accepted) j .clauses;
+        named = accepted-faultless bytes n (a .tabled .accepted) .named;
+      }
+
+  pub blank-links : Blanks bytes places counts n (replicate 26688 255)
+  blank-links =
+      let few = accepted-scopes bytes n (a .tabled .accepted) in
+      let long : length {A = ℕ} (replicate 26688 255) ≡ 26688 = length-replicate {A = ℕ} 26688 255 in
+      record {
+        sound = sound;
+        size = omega (arith, few, long);
+        blank = λ k l. getD-replicate {A = ℕ} 26688 k 255 0 (omega (arith, few, l));
+      }
+
+  pub entry : {links own : List ℕ} → length links ≡ 26688 → AllLinked bytes n links → length own ≡ 32 → Entry bytes places counts links orders i n own
+  entry {links} {own} long linked size =
+      let few = accepted-scopes bytes n (a .tabled .accepted) in
+      let c = accepted-complete bytes n (a .tabled .accepted) in
+      record {
+        world = record {
+          accepted = a .tabled .accepted ∙ ap judged.Accepted total;
+          sound = sound;
+          linkRoom = omega (arith, few, long, total);
+          linked = record { rows = λ j l. linked .rows j (omega (arith, total)) };
+          stepOrders = a .tabled .stepOrders;
+        };
+        scope = omega (arith, a .scope, total);
+        early = ap (λ (xs : List ℕ). among xs i) (take-all n (blocks (scopesOf bytes)) (omega (arith, c .count, total))) ∙ c .every i (omega (arith, a .scope, total));
+        room = size;
+      }
+
+  module _ {r : Ran} {own : List ℕ} (came : Came bytes i given r own) where
+    pub ends-so : {c : Cause} {m : ℕ} → r ≡ ran.Ended c m → Replied bytes i given memory (Ended c m) memory
+    unfolding memoryAfter
+    ends-so {c} {m} e =
+        let same : enteredAt bytes i given ≡ ended c m = sym (came .same) ∙ ap (λ (z : Ran). ranView z own (length (scopeAt (scopesOf bytes) i .variables))) e in
+        record { answer = ap (λ (z : Entered). replyOf z .answer) (sym same); memory = ap (λ (z : Entered). memoryAfter (replyOf z) memory) (sym same) }
+
+    module _ {m : ℕ} (e : r ≡ ran.Values m) where
+      same : enteredAt bytes i given ≡ values (valuesOf own (length (scopeAt (scopesOf bytes) i .variables))) m
+      same = sym (came .same) ∙ ap (λ (z : Ran). ranView z own (length (scopeAt (scopesOf bytes) i .variables))) e
+
+      fit : ValuesFit (scopeAt (scopesOf bytes) i .variables) (valuesOf own (length (scopeAt (scopesOf bytes) i .variables)))
+      unfolding enteredAt
+      fit = values-typed bytes n (a .tabled .accepted) i (a .scope) _ (a .fitting) _ m same
+
+      size-known : resultLength (scopeAt (scopesOf bytes) i .variables) ≡ length (results (valuesOf own (length (scopeAt (scopesOf bytes) i .variables))))
+      unfolding enteredAt
+      size-known = values-length bytes n (a .tabled .accepted) i (a .scope) _ (a .fitting) _ m same
+
+      pub typed : writing.Typed (scopeAt (scopesOf bytes) i .variables) own
+      unfolding valuesOf
+      typed =
+          record {
+            typed = λ v l.
+                let z : 0 + v ≡ v = omega arith in
+                is-of _ (givenAt own v) (came .present m e v l)
+                (ap (λ (k : ℕ). valueType (held (givenAt own k))) (sym z) ∙ fits-at (scopeAt (scopesOf bytes) i .variables) own 0 fit v l);
+          }
+
+      pub values-so : {size : ℕ} {after : List ℕ} → size ≡ resultLengthAt (scopesOf bytes) i → after ≡ resultMemory (scopesOf bytes) i own memory
+          → Replied bytes i given memory (Values m size) after
+      unfolding resultLengthAt resultMemory memoryAfter
+      values-so {size} {after} s q =
+          record {
+            answer = ap (Values m) (s ∙ size-known) ∙ ap (λ (z : Entered). replyOf z .answer) (sym same);
+            memory = q ∙ ap (λ (z : Entered). memoryAfter (replyOf z) memory) (sym same);
+          }

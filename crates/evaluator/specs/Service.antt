@@ -1,0 +1,40 @@
+-- The service over its tables.
+use Prim.Native.Nat.{ℕ, _*_, _<_, _≤_}
+use mathlib.Core.Path.{_≡_}
+use mathlib.Core.List.{List}
+use lib.ListN.{length, take, drop}
+use Rattle.book.specs.Decode.{scopesOf}
+use Rattle.book.specs.References.{scopeAt}
+use Rattle.book.specs.Steps.{stepCount, stepOrder}
+use Rattle.book.specs.Judge.{judge}
+use Rattle.book.specs.Tables.{Laid}
+use Rattle.book.specs.declared.Judged.the-variants.{Accepted}
+use Rattle.lists.specs.Writing.{resultLengthAt}
+use Rattle.evaluation.specs.Types.{Fitting}
+use Rattle.evaluation.specs.Evaluate.{replyOf, evaluate, memoryAfter}
+use Rattle.evaluation.specs.declared.Answer.{Answer}
+use Rattle.evaluator.specs.Steps.{givensFrom, enteredAt}
+
+-- the tables of an accepted book of n scopes
+pub record Tabled (bytes places counts orders : List ℕ) (n : ℕ) : Type 0 where
+  pub accepted : judge bytes ≡ Accepted n
+  pub laid : Laid bytes places counts
+  pub stepOrders : (i : ℕ) → i < length (scopesOf bytes)
+      → take (stepCount (scopeAt (scopesOf bytes) i)) (drop (i * 40) orders) ≡ stepOrder (scopeAt (scopesOf bytes) i)
+
+-- scope i is there, what is given fits its variables, and its results have room
+pub record Asked (bytes places counts orders : List ℕ) (n i : ℕ) (given memory : List ℕ) : Type 0 where
+  pub tabled : Tabled bytes places counts orders n
+  pub scope : i < n
+  pub fitting : Fitting (scopeAt (scopesOf bytes) i .variables) (givensFrom given 0 (length (scopeAt (scopesOf bytes) i .variables)))
+  pub room : resultLengthAt (scopesOf bytes) i ≤ length memory
+
+-- the answer and the memory are those of a run with what the cells give
+pub record Replied (bytes : List ℕ) (i : ℕ) (given before : List ℕ) (r : Answer) (after : List ℕ) : Type 0 where
+  pub answer : r ≡ replyOf (enteredAt bytes i given) .answer
+  pub memory : after ≡ memoryAfter (replyOf (enteredAt bytes i given)) before
+
+-- the answer and the memory are those of evaluating
+pub record Evaluated (bytes : List ℕ) (i : ℕ) (list before : List ℕ) (r : Answer) (after : List ℕ) : Type 0 where
+  pub answer : r ≡ evaluate bytes i list (length before) .answer
+  pub memory : after ≡ memoryAfter (evaluate bytes i list (length before)) before

@@ -1,0 +1,287 @@
+// Evaluating a scope of a book: its steps are run in their order, each call in cells of its own.
+use book::Judged;
+use book::sub_scope_at;
+use book::sub_scope_count;
+use book::variable_count;
+use calculus::Cause;
+use calculus::Given;
+use calculus::Outcome;
+use calculus::Value;
+use cells::cell_of;
+use cells::given_at;
+use evaluation::Answer;
+use evaluation::Refusal;
+use judge::judge_into;
+use lists::read_inputs;
+use lists::result_length;
+use lists::write_results;
+use record::byte_at;
+use trees::eval_tree;
+use trees::fill_all_links;
+use trees::has_clause;
+ghost use mathlib.Core.Path.{_≡_};
+ghost use Prim.Native.Nat.{_<_};
+ghost use lib.ListN.{length};
+ghost use Rattle.trees.specs.Chains.{Ready};
+ghost use Rattle.evaluator.specs.Service.{Tabled, Asked, Replied, Evaluated};
+ghost use Rattle.evaluator.specs.Steps.{stepOutcome, Stored, Handing, HandedOne, HandsAll, HandedAll, Entry, Came};
+
+// The links of a scope, the order of its steps, and the cells of a scope's variables.
+const LINKS: usize = 834;
+
+const STEPS: usize = 40;
+
+const VARIABLES: usize = 32;
+
+// How a run ended, with the count of scopes entered: in values, or by a cause.
+pub enum Ran {
+    Values(usize),
+    Ended(Cause, usize),
+}
+
+// Puts a value into a cell.
+fn put_cell(cells: &mut [u64], at: usize, v: Value)
+    requires { ⌜ at < length (now cells) ⌝ }
+    ensures { λ _. ⌜ Stored (now (cells .entry)) at v (now (cells .exit)) ⌝ }
+{
+    cells[at] = cell_of(v);
+}
+
+// The value of own variable x of scope i: what is given, or what its default tree comes to.
+fn step_value(
+    book: &[u8],
+    places: &[u16],
+    counts: &[u8],
+    links: &[u8],
+    given: &[u64],
+    own: &[u64],
+    called: &[u64],
+    i: usize,
+    x: u8,
+) -> Outcome
+    requires { ⌜ Ready (now book) (now places) (now counts) (now links) i ⌝ }
+    ensures { λ r. ⌜ r ≡ stepOutcome (now (book .entry)) (now (given .entry)) (now (own .entry)) (now (called .entry)) i x ⌝ }
+{
+    let g = given_at(given, x as usize);
+    match g {
+        Given::Absent => eval_tree(book, places, counts, links, own, called, i, 255, x),
+        Given::Present(v) => Outcome::Gives(v),
+    }
+}
+
+// Hands over variable v of sub-scope k of scope i: the value of its override tree, nothing where it has no clauses. The cause where the
+// tree has no value.
+fn hand_one(
+    book: &[u8],
+    places: &[u16],
+    counts: &[u8],
+    links: &[u8],
+    own: &[u64],
+    called: &[u64],
+    i: usize,
+    k: u8,
+    v: u8,
+    handed: &mut [u64],
+) -> Outcome
+    requires { ⌜ Handing (now book) (now places) (now counts) (now links) i (now handed) v ⌝ }
+    ensures { λ r.
+        ⌜ HandedOne (now (book .entry)) (now (own .entry)) (now (called .entry)) i k v (now (handed .entry)) r (now (handed .exit)) ⌝ }
+{
+    if !has_clause(book, places, counts, links, i, k, v) {
+        handed[v as usize] = 0;
+        return Outcome::Gives(Value::Truth(true));
+    }
+    let o = eval_tree(book, places, counts, links, own, called, i, k, v);
+    match o {
+        Outcome::Gives(y) => {
+            put_cell(handed, v as usize, y);
+            o
+        }
+        Outcome::Ends(_) => o,
+    }
+}
+
+// Hands over the variables of sub-scope k of scope i in their order, up to the first whose override tree has no value.
+fn hand_over(
+    book: &[u8],
+    places: &[u16],
+    counts: &[u8],
+    links: &[u8],
+    own: &[u64],
+    called: &[u64],
+    i: usize,
+    k: usize,
+    handed: &mut [u64],
+) -> Outcome
+    requires { ⌜ HandsAll (now book) (now places) (now counts) (now links) i k (now handed) ⌝ }
+    ensures { λ r.
+        ⌜ HandedAll (now (book .entry)) (now (own .entry)) (now (called .entry)) i k r (now (handed .exit)) ⌝ }
+{
+    let j = sub_scope_at(book, places, counts, i, k);
+    let count = variable_count(book, places, counts, j);
+    let mut v: usize = 0;
+    while v < count {
+        let o = hand_one(
+            book,
+            places,
+            counts,
+            links,
+            own,
+            called,
+            i,
+            k as u8,
+            v as u8,
+            handed,
+        );
+        match o {
+            Outcome::Gives(_) => {}
+            Outcome::Ends(_) => return o,
+        }
+        v += 1;
+    }
+    Outcome::Gives(Value::Truth(true))
+}
+
+// Enters scope i, whose block is one of the first `left`: runs its steps in their order, and leaves the values of its variables in `own`.
+fn enter(
+    book: &[u8],
+    places: &[u16],
+    counts: &[u8],
+    links: &[u8],
+    orders: &[u8],
+    i: usize,
+    left: usize,
+    given: &[u64],
+    own: &mut [u64],
+) -> Ran
+    requires { ⌜ Entry (now book) (now places) (now counts) (now links) (now orders) i left (now own) ⌝ }
+    ensures { λ r. ⌜ Came (now (book .entry)) i (now (given .entry)) r (now (own .exit)) ⌝ }
+{
+    let a = i * LINKS;
+    let e = a + LINKS;
+    let row = &links[a..e];
+    let variables = variable_count(book, places, counts, i);
+    let steps = variables + sub_scope_count(book, places, counts, i);
+    let mut called = [0u64; 256];
+    let mut handed = [0u64; 32];
+    let mut count: usize = 1;
+    let mut n: usize = 0;
+    while n < steps {
+        let x = byte_at(orders, i * STEPS + n);
+        if (x as usize) < variables {
+            match step_value(book, places, counts, row, given, own, &called, i, x) {
+                Outcome::Gives(v) => {
+                    put_cell(own, x as usize, v);
+                    n += 1;
+                }
+                Outcome::Ends(c) => return Ran::Ended(c, count),
+            }
+        } else {
+            let k = (x as usize) - variables;
+            match hand_over(book, places, counts, row, own, &called, i, k, &mut handed) {
+                Outcome::Gives(_) => {}
+                Outcome::Ends(c) => return Ran::Ended(c, count),
+            }
+            let j = sub_scope_at(book, places, counts, i, k);
+            let from = k * VARIABLES;
+            let part = &mut called[from..from + VARIABLES];
+            match enter(
+                book,
+                places,
+                counts,
+                links,
+                orders,
+                j,
+                left - 1,
+                &handed,
+                part,
+            ) {
+                Ran::Values(m) => {
+                    count += m;
+                    n += 1;
+                }
+                Ran::Ended(c, m) => return Ran::Ended(c, count + m),
+            }
+        }
+    }
+    Ran::Values(count)
+}
+
+// Runs scope i of an accepted book of n scopes with what is given, and writes the results.
+fn run(
+    book: &[u8],
+    places: &[u16],
+    counts: &[u8],
+    orders: &[u8],
+    n: usize,
+    i: usize,
+    given: &[u64],
+    results: &mut [u8],
+) -> Answer
+    requires { ⌜ Asked (now book) (now places) (now counts) (now orders) n i (now given) (now results) ⌝ }
+    ensures { λ r. ⌜ Replied (now (book .entry)) i (now (given .entry)) (now (results .entry)) r (now (results .exit)) ⌝ }
+{
+    let mut links = [255u8; 26688];
+    fill_all_links(book, places, counts, n, &mut links);
+    let mut own = [0u64; 32];
+    match enter(book, places, counts, &links, orders, i, n, given, &mut own) {
+        Ran::Values(count) => {
+            let length = result_length(book, places, counts, i);
+            write_results(book, places, counts, i, &own, results);
+            Answer::Values(count, length)
+        }
+        Ran::Ended(c, count) => Answer::Ended(c, count),
+    }
+}
+
+// Evaluates scope i of an accepted book of n scopes.
+fn evaluate_accepted(
+    book: &[u8],
+    places: &[u16],
+    counts: &[u8],
+    orders: &[u8],
+    n: usize,
+    i: usize,
+    inputs: &[u8],
+    results: &mut [u8],
+) -> Answer
+    requires { ⌜ Tabled (now book) (now places) (now counts) (now orders) n ⌝ }
+    ensures { λ r. ⌜ Evaluated (now (book .entry)) i (now (inputs .entry)) (now (results .entry)) r (now (results .exit)) ⌝ }
+{
+    if n <= i {
+        return Answer::Refused(Refusal::NoSuchScope);
+    }
+    let mut given = [0u64; 32];
+    if !read_inputs(book, places, counts, i, inputs, &mut given) {
+        return Answer::Refused(Refusal::BadInput);
+    }
+    if results.len() < result_length(book, places, counts, i) {
+        return Answer::Refused(Refusal::BufferTooSmall);
+    }
+    run(book, places, counts, orders, n, i, &given, results)
+}
+
+// Evaluates a scope of a book with an input list. The results are written only where the run ends in values.
+pub fn evaluate(book: &[u8], scope: usize, inputs: &[u8], results: &mut [u8]) -> Answer
+    ensures { λ r. ⌜ Evaluated (now (book .entry)) scope (now (inputs .entry)) (now (results .entry)) r (now (results .exit)) ⌝ }
+{
+    let mut places = [0u16; 13376];
+    let mut counts = [0u8; 128];
+    let mut blocks = [0u8; 32];
+    let mut weights = [0u16; 32];
+    let mut orders = [0u8; 1280];
+    let judged = judge_into(
+        book,
+        &mut places,
+        &mut counts,
+        &mut blocks,
+        &mut weights,
+        &mut orders,
+    );
+    match judged {
+        Judged::Accepted(n) => {
+            evaluate_accepted(book, &places, &counts, &orders, n, scope, inputs, results)
+        }
+        Judged::Refused(f) => Answer::Refused(Refusal::Book(f)),
+    }
+}
