@@ -24,11 +24,11 @@ fn line(service: &str, book: &str, engine: f64, second: f64) {
 }
 
 /// The smallest worked example of the specification, and fixed cases by name.
-fn books() -> Vec<(String, Vec<u8>)> {
+fn books() -> Vec<(String, Vec<u8>, usize)> {
     let text = "010202020105004593C00601050022C9E013FF00FFFF0013FF00000102";
     let byte = |at: usize| u8::from_str_radix(&text[at..at + 2], 16).expect("hexadecimal");
     let paper = (0..text.len()).step_by(2).map(byte).collect();
-    let mut books = vec![("the paper's 29 bytes".to_string(), paper)];
+    let mut books = vec![("the paper's 29 bytes".to_string(), paper, 0)];
     for name in [
         "wide scope",
         "32,768 bytes",
@@ -37,7 +37,8 @@ fn books() -> Vec<(String, Vec<u8>)> {
     ] {
         let all = cases::fixed();
         let case = all.iter().find(|case| case.label == name);
-        books.push((name.to_string(), case.expect("a fixed case").bytes.clone()));
+        let case = case.expect("a fixed case");
+        books.push((name.to_string(), case.bytes.clone(), case.scope));
     }
     books
 }
@@ -47,7 +48,7 @@ pub fn run() -> bool {
         "{:<10} {:<40} {:>10} {:>10} {:>8}",
         "service", "book", "engine us", "second us", "ratio"
     );
-    for (name, book) in books() {
+    for (name, book, scope) in books() {
         let ours = time(|| {
             let _ = black_box(engine::judge(black_box(&book)));
         });
@@ -55,6 +56,14 @@ pub fn run() -> bool {
             let _ = black_box(second::judge(black_box(&book)));
         });
         line("judge", &name, ours, theirs);
+        let mut memory = [0; 192];
+        let ours = time(|| {
+            let _ = black_box(engine::evaluate(black_box(&book), scope, &[], &mut memory));
+        });
+        let theirs = time(|| {
+            let _ = black_box(second::evaluate(black_box(&book), scope, &[], &mut memory));
+        });
+        line("evaluate", &name, ours, theirs);
     }
     true
 }

@@ -1,17 +1,69 @@
 //! The proved engine, through its exported functions. Nothing checks these
 //! declarations against its source: they are few and plain.
 
+use second::{Answer, Outcome};
+
 extern "C" {
     fn engine_judge(book: *const u8, length: usize) -> u64;
+    fn engine_evaluate(
+        book: *const u8,
+        book_length: usize,
+        scope: usize,
+        inputs: *const u8,
+        inputs_length: usize,
+        results: *mut u8,
+        results_length: usize,
+    ) -> u64;
 }
 
 const REFUSAL: u32 = 56;
+const OUTCOME: u32 = 48;
+const COUNT: u32 = 32;
+
+/// What is left of a packed answer, or the refusal in its highest byte.
+fn unpack(packed: u64) -> Result<u64, u8> {
+    match (packed >> REFUSAL) as u8 {
+        0 => Ok(packed),
+        refusal => Err(refusal),
+    }
+}
 
 /// Number of scopes, or the refusal.
 pub fn judge(book: &[u8]) -> Result<usize, u8> {
     let packed = unsafe { engine_judge(book.as_ptr(), book.len()) };
-    match (packed >> REFUSAL) as u8 {
-        0 => Ok(packed as usize),
-        refusal => Err(refusal),
+    unpack(packed).map(|scopes| scopes as usize)
+}
+
+fn answer(packed: u64) -> Answer {
+    Answer {
+        outcome: match (packed >> OUTCOME) as u8 {
+            0 => Outcome::Values,
+            1 => Outcome::Empty,
+            2 => Outcome::Conflict,
+            _ => Outcome::OutOfRange,
+        },
+        count: (packed >> COUNT & 0xffff) as usize,
+        length: (packed & 0xffff_ffff) as usize,
     }
+}
+
+/// Outcome, count and length, or the refusal; the results are written to the memory lent.
+pub fn evaluate(
+    book: &[u8],
+    scope: usize,
+    inputs: &[u8],
+    results: &mut [u8],
+) -> Result<Answer, u8> {
+    let packed = unsafe {
+        engine_evaluate(
+            book.as_ptr(),
+            book.len(),
+            scope,
+            inputs.as_ptr(),
+            inputs.len(),
+            results.as_mut_ptr(),
+            results.len(),
+        )
+    };
+    unpack(packed).map(answer)
 }

@@ -2,19 +2,21 @@
 
 mod bench;
 mod engine;
+mod evaluating;
 mod judging;
 mod runs;
 mod tally;
 
 use std::process::ExitCode;
 
-const USAGE: &str = "compare judge CASES | compare runs PROGRAM STACK_KIB FILE | compare bench";
+const USAGE: &str = "compare judge CASES | compare evaluate CASES | compare runs PROGRAM STACK_KIB FILE | compare bench";
 
 fn main() -> ExitCode {
     let words: Vec<String> = std::env::args().skip(1).collect();
     let words: Vec<&str> = words.iter().map(String::as_str).collect();
     let agreed = match words[..] {
         ["judge", cases] => judging::run(cases.parse().expect(USAGE)),
+        ["evaluate", cases] => evaluating::run(cases.parse().expect(USAGE)),
         ["runs", program, stack, file] => runs::run(program, stack.parse().expect(USAGE), file),
         ["bench"] => bench::run(),
         _ => {

@@ -1,26 +1,50 @@
-//! Stored runs of a program: a file of lines `input = output`, the input in
-//! hexadecimal or a name of the second program's fixed cases in quotes. Lines of
-//! the output are joined by ` / `. A line that begins with `#` is a comment.
+//! Stored runs of a program: a file of lines `input = output`. The input is in
+//! hexadecimal, or a name of the second program's fixed cases in quotes: its book, or
+//! after `rulerun` its book as rulerun reads it. Lines of the output are joined by
+//! ` / `; `second` stands for what the second program's rulerun prints. A line that
+//! begins with `#` is a comment.
 
 use crate::tally::Tally;
 use second::cases;
 use std::io::Write;
 use std::process::{Command, Stdio};
 
+fn fixed(label: &str) -> cases::Case {
+    let all = cases::fixed();
+    let case = all.iter().find(|case| case.label == label);
+    case.unwrap_or_else(|| panic!("no fixed case {label}"))
+        .clone()
+}
+
+/// Standard input of rulerun: length, book, scope and inputs.
+fn announced(case: &cases::Case) -> Vec<u8> {
+    let mut input = (case.bytes.len() as u16).to_be_bytes().to_vec();
+    input.extend(&case.bytes);
+    input.push(case.scope as u8);
+    input.extend(&case.inputs);
+    input
+}
+
+fn quoted(text: &str) -> Option<&str> {
+    text.strip_prefix('"').and_then(|t| t.strip_suffix('"'))
+}
+
 fn bytes(text: &str) -> Vec<u8> {
-    if let Some(label) = text.strip_prefix('"').and_then(|t| t.strip_suffix('"')) {
-        let all = cases::fixed();
-        let case = all.iter().find(|case| case.label == label);
-        return case
-            .unwrap_or_else(|| panic!("no fixed case {label}"))
-            .bytes
-            .clone();
+    if let Some(label) = quoted(text) {
+        return fixed(label).bytes;
+    }
+    if let Some(label) = text.strip_prefix("rulerun ").and_then(quoted) {
+        return announced(&fixed(label));
     }
     let digits: Vec<u8> = text.bytes().filter(|b| *b != b' ' && *b != b'-').collect();
     digits
         .chunks(2)
         .map(|pair| u8::from_str_radix(&String::from_utf8_lossy(pair), 16).expect("hexadecimal"))
         .collect()
+}
+
+fn joined(text: &str) -> String {
+    text.trim_end().replace('\n', " / ")
 }
 
 /// What the program writes, run in at most `stack` KiB of stack.
@@ -42,7 +66,7 @@ fn output(program: &str, stack: usize, input: &[u8]) -> String {
     if !output.status.success() {
         return format!("{} with {text}", output.status);
     }
-    text.trim_end().replace('\n', " / ")
+    joined(&text)
 }
 
 /// Every line of the file, with that much stack.
@@ -54,10 +78,15 @@ pub fn run(program: &str, stack: usize, file: &str) -> bool {
         .filter(|l| !l.is_empty() && !l.starts_with('#'))
     {
         let (input, expected) = line.split_once(" = ").expect("input = output");
-        let found = output(program, stack, &bytes(input.trim()));
+        let input_bytes = bytes(input.trim());
+        let expected = match expected {
+            "second" => joined(&second::rulerun::rulerun(&input_bytes)),
+            text => text.to_string(),
+        };
+        let found = output(program, stack, &input_bytes);
         let difference = || format!("{input}: {expected} expected, {found} written");
         tally.count(
-            expected,
+            &expected,
             (found == expected).then_some(()).ok_or_else(difference),
         );
     }

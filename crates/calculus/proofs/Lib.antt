@@ -1,3 +1,4 @@
 -- Laws that the proofs of several functions use, and those that other crates cite.
 pub mod Numbers
 pub mod Exceptions
+mod Sign

@@ -1,5 +1,6 @@
 // The values and outcomes of the calculus, and the operations on them. Each result equals a definition of specs/.
 ghost use mathlib.Core.Path.{_≡_};
+ghost use lib.IntN.{natAbs};
 ghost use Rattle.calculus.specs.Values.{truthOf, numberOf, ranged};
 ghost use Rattle.calculus.specs.Values.{equal as Values·equal};
 ghost use Rattle.calculus.specs.Operators.{unaryOf, binaryOf};
@@ -78,6 +79,14 @@ pub fn number_of(v: Value) -> i64
         Value::Truth(_) => 0,
         Value::Number(n) => n as i64,
     }
+}
+
+// How far a number is from 0.
+pub fn magnitude(n: i32) -> u64
+    ensures { λ r. ⌜ r ≡ natAbs n ⌝ }
+{
+    let z = n as i64;
+    if z < 0 { (-z) as u64 } else { z as u64 }
 }
 
 // The number, or out of range.

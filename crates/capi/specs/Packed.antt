@@ -1,10 +1,27 @@
 -- Answers as one number of 64 bits: the refusal in the highest byte.
-use Prim.Native.Nat.{ℕ, _*_}
+use Prim.Native.Nat.{ℕ, _+_, _*_, _%_}
+use Rattle.calculus.specs.declared.Cause.{Cause}
+use Rattle.calculus.specs.declared.Cause.the-variants.{Empty, Conflict, OutOfRange}
 use Rattle.book.specs.Judge.{faultNumber}
 use Rattle.book.specs.declared.Judged.{Judged}
-use Rattle.book.specs.declared.Judged.the-variants.{Accepted, Refused}
+use Rattle.book.specs.declared.Judged.the-variants as judged
+use Rattle.evaluation.specs.Evaluate.{refusalNumber}
+use Rattle.evaluation.specs.declared.Answer.{Answer}
+use Rattle.evaluation.specs.declared.Answer.the-variants.{Values, Ended, Refused}
 
 -- refusal * 2^56 + number of scopes
 abbrev pub packedJudged : Judged → ℕ
-packedJudged (Accepted n) = n
-packedJudged (Refused f) = faultNumber f * 72057594037927936
+packedJudged (judged.Accepted n) = n
+packedJudged (judged.Refused f) = faultNumber f * 72057594037927936
+
+-- outcome 0 values, 1 empty, 2 conflict, 3 out of range
+abbrev pub causeNumber : Cause → ℕ
+causeNumber Empty = 1
+causeNumber Conflict = 2
+causeNumber OutOfRange = 3
+
+-- refusal * 2^56 + outcome * 2^48 + count * 2^32 + length; a count is at most 4,096 and a length at most 192
+abbrev pub packedAnswer : Answer → ℕ
+packedAnswer (Values n l) = n % 65536 * 4294967296 + l % 65536
+packedAnswer (Ended c n) = causeNumber c * 281474976710656 + n % 65536 * 4294967296
+packedAnswer (Refused r) = refusalNumber r * 72057594037927936

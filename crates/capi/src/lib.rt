@@ -1,10 +1,17 @@
 // The services as functions that C and Rust can call. A slice is passed as a pointer and a length.
 use book::Judged;
+use calculus::Cause;
+use evaluation::Answer;
+use evaluation::Refusal;
+use evaluator::evaluate;
 use judge::fault_number;
 use judge::judge;
 ghost use mathlib.Core.Path.{_≡_};
+ghost use lib.ListN.{length};
 ghost use Rattle.book.specs.Judge.{judge as Judge·judge};
-ghost use Rattle.capi.specs.Packed.{packedJudged};
+ghost use Rattle.evaluation.specs.Evaluate.{refusalNumber};
+ghost use Rattle.capi.specs.Packed.{packedJudged, packedAnswer, causeNumber};
+ghost use Rattle.capi.specs.Evaluated.{PackedEvaluation};
 
 fn wide(b: u8) -> u64
     ensures { λ r. ⌜ r ≡ b ⌝ }
@@ -21,4 +28,54 @@ pub extern "C" fn engine_judge(book: &[u8]) -> u64
         Judged::Accepted(n) => n as u64,
         Judged::Refused(f) => wide(fault_number(f)) * 72057594037927936,
     }
+}
+
+// The paper's number of a refusal.
+pub fn refusal_number(r: Refusal) -> u8
+    ensures { λ n. ⌜ n ≡ refusalNumber r ⌝ }
+{
+    match r {
+        Refusal::Book(f) => fault_number(f),
+        Refusal::NoSuchScope => 13,
+        Refusal::BadInput => 14,
+        Refusal::BufferTooSmall => 15,
+    }
+}
+
+// The number of an outcome without values.
+fn cause_number(c: Cause) -> u8
+    ensures { λ n. ⌜ n ≡ causeNumber c ⌝ }
+{
+    match c {
+        Cause::Empty => 1,
+        Cause::Conflict => 2,
+        Cause::OutOfRange => 3,
+    }
+}
+
+// An answer as one number.
+fn pack(a: Answer) -> u64
+    ensures { λ r. ⌜ r ≡ packedAnswer a ⌝ }
+{
+    match a {
+        Answer::Values(n, l) => ((n % 65536) as u64) * 4294967296 + ((l % 65536) as u64),
+        Answer::Ended(c, n) => {
+            wide(cause_number(c)) * 281474976710656 + ((n % 65536) as u64) * 4294967296
+        }
+        Answer::Refused(r) => wide(refusal_number(r)) * 72057594037927936,
+    }
+}
+
+// Evaluates a scope: refusal * 2^56 + outcome * 2^48 + count * 2^32 + length; results are written where the run ends in values.
+#[no_mangle]
+pub extern "C" fn engine_evaluate(
+    book: &[u8],
+    scope: usize,
+    inputs: &[u8],
+    results: &mut [u8],
+) -> u64
+    ensures { λ r.
+        ⌜ PackedEvaluation (now (book .entry)) scope (now (inputs .entry)) (now (results .entry)) r (now (results .exit)) ⌝ }
+{
+    pack(evaluate(book, scope, inputs, results))
 }

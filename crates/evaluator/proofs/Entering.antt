@@ -66,13 +66,8 @@ module _ {bytes places counts links orders : List ℕ} {i left : ℕ} {own₀ : 
   pub scope-few : i < 32
   scope-few = omega (arith, e .scope, accepted .scopes)
 
-  pub link-room : i * 834 + 834 ≤ length links
-  link-room = let a = e .scope in let b = e .world .linkRoom in omega (arith, a, b)
-
-  pub row-ready : (w : ℕ) → w ≡ 834 → Ready bytes places counts (take w (drop (i * 834) links)) i
-  row-ready w h =
-      subst (λ (z : ℕ). Ready bytes places counts (take z (drop (i * 834) links)) i) (sym h)
-      (record { sound = e .world .sound; linked = e .world .linked .rows i (e .scope) })
+  pub row-ready : Ready bytes places counts (take 834 (drop (i * 834) links)) i
+  row-ready = record { sound = e .world .sound; linked = e .world .linked .rows i (e .scope) }
 
   step-at : (n : ℕ) → n < stepCount s → getD orders (i * 40 + n) 0 ≡ getD (stepOrder s) n 0
   step-at n l =

@@ -162,15 +162,13 @@ module _ {bytes places counts orders : List ℕ} {n i : ℕ} {given memory : Lis
         blank = λ k l. getD-replicate {A = ℕ} 26688 k 255 0 (omega (arith, few, l));
       }
 
-  pub entry : {links own : List ℕ} → length links ≡ 26688 → AllLinked bytes n links → length own ≡ 32 → Entry bytes places counts links orders i n own
-  entry {links} {own} long linked size =
-      let few = accepted-scopes bytes n (a .tabled .accepted) in
+  pub entry : {links own : List ℕ} → AllLinked bytes n links → length own ≡ 32 → Entry bytes places counts links orders i n own
+  entry {links} {own} linked size =
       let c = accepted-complete bytes n (a .tabled .accepted) in
       record {
         world = record {
           accepted = a .tabled .accepted ∙ ap judged.Accepted total;
           sound = sound;
-          linkRoom = omega (arith, few, long, total);
           linked = record { rows = λ j l. linked .rows j (omega (arith, total)) };
           stepOrders = a .tabled .stepOrders;
         };

@@ -112,7 +112,6 @@ pub record HandedAll (bytes own called : List ℕ) (i k : ℕ) (r : Outcome) (ha
 pub record World (bytes places counts links orders : List ℕ) : Type 0 where
   pub accepted : judge bytes ≡ Accepted (length (scopesOf bytes))
   pub sound : Sound bytes places counts
-  pub linkRoom : length (scopesOf bytes) * 834 ≤ length links
   pub linked : AllLinked bytes (length (scopesOf bytes)) links
   pub stepOrders : (i : ℕ) → i < length (scopesOf bytes)
       → take (stepCount (scopeAt (scopesOf bytes) i)) (drop (i * 40) orders) ≡ stepOrder (scopeAt (scopesOf bytes) i)

@@ -16,6 +16,7 @@ use lists::read_inputs;
 use lists::result_length;
 use lists::write_results;
 use record::byte_at;
+use record::part_of;
 use trees::eval_tree;
 use trees::fill_all_links;
 use trees::has_clause;
@@ -157,9 +158,7 @@ fn enter(
     requires { ⌜ Entry (now book) (now places) (now counts) (now links) (now orders) i left (now own) ⌝ }
     ensures { λ r. ⌜ Came (now (book .entry)) i (now (given .entry)) r (now (own .exit)) ⌝ }
 {
-    let a = i * LINKS;
-    let e = a + LINKS;
-    let row = &links[a..e];
+    let row = part_of(links, i * LINKS, LINKS);
     let variables = variable_count(book, places, counts, i);
     let steps = variables + sub_scope_count(book, places, counts, i);
     let mut called = [0u64; 256];
@@ -183,19 +182,10 @@ fn enter(
                 Outcome::Ends(c) => return Ran::Ended(c, count),
             }
             let j = sub_scope_at(book, places, counts, i, k);
+            let less = left - 1;
             let from = k * VARIABLES;
             let part = &mut called[from..from + VARIABLES];
-            match enter(
-                book,
-                places,
-                counts,
-                links,
-                orders,
-                j,
-                left - 1,
-                &handed,
-                part,
-            ) {
+            match enter(book, places, counts, links, orders, j, less, &handed, part) {
                 Ran::Values(m) => {
                     count += m;
                     n += 1;

@@ -11,6 +11,7 @@ use calculus::choose;
 use calculus::eval_binary;
 use calculus::eval_unary;
 use calculus::gather;
+use calculus::magnitude;
 use calculus::settle;
 use calculus::step;
 use libc::STDOUT_FILENO;
@@ -60,13 +61,10 @@ fn write(text: &[u8]) {
 
 // In decimal, with a sign where it is negative.
 fn write_number(n: i32) {
-    let z = n as i64;
-    if z < 0 {
+    if n < 0 {
         write(b"-");
-        io::print_decimal(STDOUT_FILENO, (-z) as u64);
-    } else {
-        io::print_decimal(STDOUT_FILENO, z as u64);
     }
+    io::print_decimal(STDOUT_FILENO, magnitude(n));
 }
 
 fn write_cause(c: Cause) {

@@ -1,41 +1,30 @@
+-- `capi::engine_judge` meets its contract.
+-- Assumes nothing.
 use borrow.Author.Needs.{needs}
 use Rattle.capi.proofs.engine_judge.Statement.{statement}
 use Rattle.capi.proofs.engine_judge.Tie as tie
-use Rattle.capi.proofs.engine_judge.Reads as reads
-use Rattle.capi.proofs.engine_judge.Lts as lts
-use Rattle.capi.proofs.wide.Reads as wide-reads
-use Rattle.judge.proofs.fault_number.Reads as fault-number-reads
-use Rattle.judge.proofs.judge.Reads as judge-reads
 
--- src/lib.rt:20:11
 judge-requires : tie.Need-judge-requires
 judge-requires c κs = search needs
 
--- src/lib.rt:21:26
 enum-known-n : tie.Need-enum-known-n
 enum-known-n c = search needs
 
--- src/lib.rt:22:25
 enum-known-f : tie.Need-enum-known-f
 enum-known-f c = search needs
 
--- src/lib.rt:22:36
 fault-number-requires : tie.Need-fault-number-requires
 fault-number-requires c κs = search needs
 
--- src/lib.rt:22:31
 wide-requires : tie.Need-wide-requires
 wide-requires c κs = search needs
 
--- src/lib.rt:22:31
 mul-result : tie.Need-mul-result
 mul-result c = search needs
 
--- src/lib.rt:16:1
 returns : tie.Need-returns
 returns c = rw (← c .before .before .before .judge .ensures, c .before .n .given .1)
 
--- src/lib.rt:16:1
 returns-2 : tie.Need-returns-2
 returns-2 c = rw (← c .before .before .before .before .before .judge .ensures, c .before .before .before .f .given .1, c .wide .ensures, c .before .fault-number .ensures)
 

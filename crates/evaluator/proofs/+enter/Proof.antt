@@ -17,10 +17,11 @@ use Rattle.evaluator.proofs.hand_over.Reads as hand-over-reads
 use Rattle.evaluator.proofs.put_cell.Reads as put-cell-reads
 use Rattle.evaluator.proofs.step_value.Reads as step-value-reads
 use Rattle.record.proofs.byte_at.Reads as byte-at-reads
+use Rattle.record.proofs.part_of.Reads as part-of-reads
 use Rattle.evaluator.proofs.+enter.{statement}
 use Rattle.evaluator.proofs.+enter.Tie.{close}
 use Rattle.evaluator.proofs.Running.{Running}
-use Rattle.evaluator.proofs.Entering.{scope-few, link-room, row-ready, left-some, callee, part-room, begins, ends, step-few, put-room, turn-variable, end-variable}
+use Rattle.evaluator.proofs.Entering.{scope-few, row-ready, left-some, callee, part-room, begins, ends, step-few, put-room, turn-variable, end-variable}
 use Rattle.evaluator.proofs.Entering.{number-below, number-few, called-room, end-hand, few-ended, few-values, end-call, turn-call}
 
 abbrev μ-enter : Measures 7 enter-kinds.ps ℕ
@@ -33,31 +34,22 @@ abbrev enter-below : ℕ → In 7 enter-kinds.ps
 enter-below t = and 7 enter-kinds.ps (falls 7 enter-kinds.ps _<_ μ-enter t) enter.Pre
 
 abbrev enter-Inv-loop : enter-lts.InvT-loop
-enter-Inv-loop book places counts links orders i left given own₀ a e row variables steps called₀ handed₀ count₀ n₀ own called handed count n =
+enter-Inv-loop book places counts links orders i left given own₀ row variables steps called₀ handed₀ count₀ n₀ own called handed count n =
     Running book i given own called handed count n
 
 abbrev enter-μ-loop : enter-lts.MeasureT-loop
-enter-μ-loop book places counts links orders i left given own₀ a e row variables steps called₀ handed₀ count₀ n₀ own called handed count n =
+enter-μ-loop book places counts links orders i left given own₀ row variables steps called₀ handed₀ count₀ n₀ own called handed count n =
     steps - n
 
 abbrev R : ℕ → enter-lts.Claims
 R t =
-    (variable-count-reads.Asked, variable-count-reads.Learnt, sub-scope-count-reads.Asked, sub-scope-count-reads.Learnt, byte-at-reads.Asked, byte-at-reads.Learnt, step-value-reads.Asked, step-value-reads.Learnt, put-cell-reads.Asked, put-cell-reads.Learnt, hand-over-reads.Asked, hand-over-reads.Learnt, sub-scope-at-reads.Asked, sub-scope-at-reads.Learnt, enter-below t, enter.Post)
+    (part-of-reads.Asked, part-of-reads.Learnt, variable-count-reads.Asked, variable-count-reads.Learnt, sub-scope-count-reads.Asked, sub-scope-count-reads.Learnt, byte-at-reads.Asked, byte-at-reads.Learnt, step-value-reads.Asked, step-value-reads.Learnt, put-cell-reads.Asked, put-cell-reads.Learnt, hand-over-reads.Asked, hand-over-reads.Learnt, sub-scope-at-reads.Asked, sub-scope-at-reads.Learnt, enter-below t, enter.Post)
 
-enter-mul-a : (t : ℕ) → enter-lts.Need-mul-a (R t) (enter-at t) enter.Post enter-Inv-loop enter-μ-loop
-enter-mul-a t c = omega (arith, scope-few (c .before .before .before .before .before .before .before .pre .1))
+enter-mul-part-of : (t : ℕ) → enter-lts.Need-mul-part-of (R t) (enter-at t) enter.Post enter-Inv-loop enter-μ-loop
+enter-mul-part-of t c = omega (arith, scope-few (c .before .before .before .before .before .before .before .pre .1))
 
-enter-add-e : (t : ℕ) → enter-lts.Need-add-e (R t) (enter-at t) enter.Post enter-Inv-loop enter-μ-loop
-enter-add-e t c = omega (arith, scope-few (c .before .before .before .before .before .before .before .pre .1))
-
-enter-sub-row : (t : ℕ) → enter-lts.Need-sub-row (R t) (enter-at t) enter.Post enter-Inv-loop enter-μ-loop
-enter-sub-row t c = search needs
-
-enter-part-row-start : (t : ℕ) → enter-lts.Need-part-row-start (R t) (enter-at t) enter.Post enter-Inv-loop enter-μ-loop
-enter-part-row-start t c = search needs
-
-enter-part-row-end : (t : ℕ) → enter-lts.Need-part-row-end (R t) (enter-at t) enter.Post enter-Inv-loop enter-μ-loop
-enter-part-row-end t c = link-room (c .before .before .before .before .before .before .before .pre .1)
+enter-part-of-requires : (t : ℕ) → enter-lts.Need-part-of-requires (R t) (enter-at t) enter.Post enter-Inv-loop enter-μ-loop
+enter-part-of-requires t c κs = search needs
 
 enter-variable-count-requires : (t : ℕ) → enter-lts.Need-variable-count-requires (R t) (enter-at t) enter.Post enter-Inv-loop enter-μ-loop
 enter-variable-count-requires t c κs = (c .before .before .before .before .before .before .before .before .pre .1) .world .sound .laid
@@ -87,7 +79,7 @@ enter-slice-aggregate-step-value : (t : ℕ) → enter-lts.Need-slice-aggregate-
 enter-slice-aggregate-step-value t c = search needs
 
 enter-step-value-requires : (t : ℕ) → enter-lts.Need-step-value-requires (R t) (enter-at t) enter.Post enter-Inv-loop enter-μ-loop
-enter-step-value-requires t c κs = row-ready (c .before .before .before .before .before .before .before .before .before .before .before .before .before .before .before .before .pre .1) ((c .before .before .before .before .before .before .before .before .before .before .before .before .before .before .before .before .args .i) * 834 + 834 - (c .before .before .before .before .before .before .before .before .before .before .before .before .before .before .before .before .args .i) * 834) (omega arith)
+enter-step-value-requires t c κs = rw (c .before .before .before .before .before .before .before .before .part-of .ensures) (row-ready (c .before .before .before .before .before .before .before .before .before .before .before .before .before .before .before .before .pre .1))
 
 enter-enum-known-v : (t : ℕ) → enter-lts.Need-enum-known-v (R t) (enter-at t) enter.Post enter-Inv-loop enter-μ-loop
 enter-enum-known-v t c = search needs
@@ -129,7 +121,7 @@ enter-slice-aggregate-hand-over-2 : (t : ℕ) → enter-lts.Need-slice-aggregate
 enter-slice-aggregate-hand-over-2 t c = search needs
 
 enter-hand-over-requires : (t : ℕ) → enter-lts.Need-hand-over-requires (R t) (enter-at t) enter.Post enter-Inv-loop enter-μ-loop
-enter-hand-over-requires t c κs = record { ready = row-ready (c .before .before .before .before .before .before .before .before .before .before .before .before .before .before .before .before .before .pre .1) ((c .before .before .before .before .before .before .before .before .before .before .before .before .before .before .before .before .before .args .i) * 834 + 834 - (c .before .before .before .before .before .before .before .before .before .before .before .before .before .before .before .before .before .args .i) * 834) (omega arith); number = number-few (c .before .before .before .before .before .before .before .before .before .before .before .before .before .before .before .before .before .pre .1) (c .before .before .before .before .before .before .loop .inv) (c .before .before .before .before .before .before .before .before .variable-count .ensures) (c .before .before .before .before .before .before .before .sub-scope-count .ensures) (c .before .before .before .before .before .loop-test .taken) (c .before .before .before .before .byte-at .ensures) (c .before .before .before .if1 .left); room = c .before .before .before .before .before .before .loop .inv .handedRoom }
+enter-hand-over-requires t c κs = record { ready = rw (c .before .before .before .before .before .before .before .before .before .part-of .ensures) (row-ready (c .before .before .before .before .before .before .before .before .before .before .before .before .before .before .before .before .before .pre .1)); number = number-few (c .before .before .before .before .before .before .before .before .before .before .before .before .before .before .before .before .before .pre .1) (c .before .before .before .before .before .before .loop .inv) (c .before .before .before .before .before .before .before .before .variable-count .ensures) (c .before .before .before .before .before .before .before .sub-scope-count .ensures) (c .before .before .before .before .before .loop-test .taken) (c .before .before .before .before .byte-at .ensures) (c .before .before .before .if1 .left); room = c .before .before .before .before .before .before .loop .inv .handedRoom }
 
 enter-enum-told : (t : ℕ) → enter-lts.Need-enum-told (R t) (enter-at t) enter.Post enter-Inv-loop enter-μ-loop
 enter-enum-told t c = search needs
@@ -145,6 +137,9 @@ enter-returns-2 t c = end-hand (c .before .before .before .before .before .befor
 
 enter-sub-scope-at-requires : (t : ℕ) → enter-lts.Need-sub-scope-at-requires (R t) (enter-at t) enter.Post enter-Inv-loop enter-μ-loop
 enter-sub-scope-at-requires t c κs = (c .before .before .before .before .before .before .before .before .before .before .before .before .before .before .before .before .before .before .before .before .before .pre .1) .world .sound .laid
+
+enter-sub-less : (t : ℕ) → enter-lts.Need-sub-less (R t) (enter-at t) enter.Post enter-Inv-loop enter-μ-loop
+enter-sub-less t c = left-some (c .before .before .before .before .before .before .before .before .before .before .before .before .before .before .before .before .before .before .before .before .before .before .pre .1)
 
 enter-mul-from : (t : ℕ) → enter-lts.Need-mul-from (R t) (enter-at t) enter.Post enter-Inv-loop enter-μ-loop
 enter-mul-from t c = omega (arith, number-few (c .before .before .before .before .before .before .before .before .before .before .before .before .before .before .before .before .before .before .before .before .before .before .pre .1) (c .before .before .before .before .before .before .before .before .before .before .before .loop .inv) (c .before .before .before .before .before .before .before .before .before .before .before .before .before .variable-count .ensures) (c .before .before .before .before .before .before .before .before .before .before .before .before .sub-scope-count .ensures) (c .before .before .before .before .before .before .before .before .before .before .loop-test .taken) (c .before .before .before .before .before .before .before .before .before .byte-at .ensures) (c .before .before .before .before .before .before .before .before .if1 .left))
@@ -163,9 +158,6 @@ enter-part-called-start t c = search needs
 
 enter-part-called-end : (t : ℕ) → enter-lts.Need-part-called-end (R t) (enter-at t) enter.Post enter-Inv-loop enter-μ-loop
 enter-part-called-end t c = called-room (c .before .before .before .before .before .before .before .before .before .before .before .before .before .before .before .before .before .before .before .before .before .before .pre .1) (c .before .before .before .before .before .before .before .before .before .before .before .loop .inv) (c .before .before .before .before .before .before .before .before .before .before .before .before .before .variable-count .ensures) (c .before .before .before .before .before .before .before .before .before .before .before .before .sub-scope-count .ensures) (c .before .before .before .before .before .before .before .before .before .before .loop-test .taken) (c .before .before .before .before .before .before .before .before .before .byte-at .ensures) (c .before .before .before .before .before .before .before .before .if1 .left)
-
-enter-sub-enter : (t : ℕ) → enter-lts.Need-sub-enter (R t) (enter-at t) enter.Post enter-Inv-loop enter-μ-loop
-enter-sub-enter t c = left-some (c .before .before .before .before .before .before .before .before .before .before .before .before .before .before .before .before .before .before .before .before .before .before .before .pre .1)
 
 enter-slice-aggregate-enter : (t : ℕ) → enter-lts.Need-slice-aggregate-enter (R t) (enter-at t) enter.Post enter-Inv-loop enter-μ-loop
 enter-slice-aggregate-enter t c = search needs
@@ -191,8 +183,8 @@ enter-loop-again-2 t c = turn-call (c .before .before .before .before .before .b
 enter-enum-known-c-3 : (t : ℕ) → enter-lts.Need-enum-known-c-3 (R t) (enter-at t) enter.Post enter-Inv-loop enter-μ-loop
 enter-enum-known-c-3 t c = search needs
 
-enter-add-t63 : (t : ℕ) → enter-lts.Need-add-t63 (R t) (enter-at t) enter.Post enter-Inv-loop enter-μ-loop
-enter-add-t63 t c = omega (arith, few-ended (c .before .before .before .before .before .before .before .before .before .before .before .before .before .before .before .before .before .before .before .before .before .before .before .before .before .before .before .before .before .pre .1) (c .before .before .before .before .before .before .before .before .before .before .before .before .before .before .before .before .before .before .loop .inv) (c .before .before .before .before .before .before .before .before .before .before .before .before .before .before .before .before .before .before .before .before .variable-count .ensures) (c .before .before .before .before .before .before .before .before .before .before .before .before .before .before .before .before .before .before .before .sub-scope-count .ensures) (c .before .before .before .before .before .before .before .before .before .before .before .before .before .before .before .before .before .loop-test .taken) (c .before .before .before .before .before .before .before .before .before .before .before .before .before .before .before .before .byte-at .ensures) (c .before .before .before .before .before .before .before .before .before .before .before .before .before .before .before .if1 .left) (c .before .before .before .before .before .before .before .before .before .before .before .hand-over .ensures) (c .before .before .before .before .before .before .before .before .enum-told .given .1) (c .before .before .before .before .before .before .before .sub-scope-at .ensures) (c .before .before .before .before .enter .ensures) (c .before .c3 .given .1))
+enter-add-t60 : (t : ℕ) → enter-lts.Need-add-t60 (R t) (enter-at t) enter.Post enter-Inv-loop enter-μ-loop
+enter-add-t60 t c = omega (arith, few-ended (c .before .before .before .before .before .before .before .before .before .before .before .before .before .before .before .before .before .before .before .before .before .before .before .before .before .before .before .before .before .pre .1) (c .before .before .before .before .before .before .before .before .before .before .before .before .before .before .before .before .before .before .loop .inv) (c .before .before .before .before .before .before .before .before .before .before .before .before .before .before .before .before .before .before .before .before .variable-count .ensures) (c .before .before .before .before .before .before .before .before .before .before .before .before .before .before .before .before .before .before .before .sub-scope-count .ensures) (c .before .before .before .before .before .before .before .before .before .before .before .before .before .before .before .before .before .loop-test .taken) (c .before .before .before .before .before .before .before .before .before .before .before .before .before .before .before .before .byte-at .ensures) (c .before .before .before .before .before .before .before .before .before .before .before .before .before .before .before .if1 .left) (c .before .before .before .before .before .before .before .before .before .before .before .hand-over .ensures) (c .before .before .before .before .before .before .before .before .enum-told .given .1) (c .before .before .before .before .before .before .before .sub-scope-at .ensures) (c .before .before .before .before .enter .ensures) (c .before .c3 .given .1))
 
 enter-same-length-3 : (t : ℕ) → enter-lts.Need-same-length-3 (R t) (enter-at t) enter.Post enter-Inv-loop enter-μ-loop
 enter-same-length-3 t c = c .before .before .before .before .before .before .before .before .before .before .before .before .before .before .before .before .before .before .loop .inv .ownRoom ∙ sym ((c .before .before .before .before .before .before .before .before .before .before .before .before .before .before .before .before .before .before .before .before .before .before .before .before .before .before .before .before .before .pre .1) .room)
@@ -212,11 +204,8 @@ pub +enter-spec : {M : Type 1} → statement M
     enter.Post
     enter-Inv-loop
     enter-μ-loop
-    (enter-mul-a t)
-    (enter-add-e t)
-    (enter-sub-row t)
-    (enter-part-row-start t)
-    (enter-part-row-end t)
+    (enter-mul-part-of t)
+    (enter-part-of-requires t)
     (enter-variable-count-requires t)
     (enter-sub-scope-count-requires t)
     (enter-add-steps t)
@@ -246,13 +235,13 @@ pub +enter-spec : {M : Type 1} → statement M
     (enter-same-length-2 t)
     (enter-returns-2 t)
     (enter-sub-scope-at-requires t)
+    (enter-sub-less t)
     (enter-mul-from t)
     (enter-add-part t)
     (enter-mul-called t)
     (enter-sub-part t)
     (enter-part-called-start t)
     (enter-part-called-end t)
-    (enter-sub-enter t)
     (enter-slice-aggregate-enter t)
     (enter-enter-requires t)
     (enter-enum-known-m t)
@@ -261,7 +250,7 @@ pub +enter-spec : {M : Type 1} → statement M
     (enter-loop-less-2 t)
     (enter-loop-again-2 t)
     (enter-enum-known-c-3 t)
-    (enter-add-t63 t)
+    (enter-add-t60 t)
     (enter-same-length-3 t)
     (enter-returns-3 t)
     (enter-same-length-4 t)

@@ -1,8 +1,6 @@
 -- `evaluator::run` meets its contract.
 -- Assumes nothing.
-use Prim.Native.Nat.{ℕ}
-use mathlib.Core.Path.{refl, _∙_}
-use lib.ListN.{length-replicate}
+use mathlib.Core.Path.{refl}
 use Rattle.acceptance.proofs.Limits.{accepted-within}
 use Rattle.evaluator.proofs.Service.{blank-links, entry, typed, values-so, ends-so}
 use borrow.Author.Needs.{needs}
@@ -22,7 +20,7 @@ slice-aggregate-enter-2 : tie.Need-slice-aggregate-enter-2
 slice-aggregate-enter-2 c = search needs
 
 enter-requires : tie.Need-enter-requires
-enter-requires c κs = entry (c .before .before .before .before .before .before .before .before .before .before .before .pre) ((c .before .before .before .fill-all-links .kept .1 .1 .1 .1 .0) ∙ length-replicate {A = ℕ} 26688 255) (c .before .before .before .fill-all-links .ensures) refl
+enter-requires c κs = entry (c .before .before .before .before .before .before .before .before .before .before .before .pre) (c .before .before .before .fill-all-links .ensures) refl
 
 enum-known-count : tie.Need-enum-known-count
 enum-known-count c = search needs

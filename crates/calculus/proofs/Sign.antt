@@ -13,6 +13,10 @@ pub of-negative : (z : ℤ) → SFits w32 z → ltZ z (pos 0) ≡ true → T (no
 of-negative (pos n) p e = let none : ⊥ = omega (arith, ltb-true n 0 e) in absurd none
 of-negative (negsuc n) p e = (tt, record { fits = omega (arith, p .sfits) })
 
+pub negated : (z : ℤ) → ltZ z (pos 0) ≡ true → natAbs (pos 0 -ℤ z) ≡ natAbs z
+negated (pos n) e = let none : ⊥ = omega (arith, ltb-true n 0 e) in absurd none
+negated (negsuc n) e = omega arith
+
 pub of-positive : (z : ℤ) → SFits w32 z → ltZ z (pos 0) ≡ false → T (nonNeg z) × Fits w64 (natAbs z)
 of-positive (pos n) p e = (tt, record { fits = omega (arith, p .sfits) })
 of-positive (negsuc n) p e = absurd (true≢false e)

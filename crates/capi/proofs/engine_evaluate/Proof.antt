@@ -1,0 +1,23 @@
+-- `capi::engine_evaluate` meets its contract.
+-- Assumes nothing.
+use Rattle.capi.specs.Packed.{packedAnswer}
+use mathlib.Core.Path.{_∙_, ap}
+use borrow.Author.Needs.{needs}
+use Rattle.capi.proofs.engine_evaluate.Statement.{statement}
+use Rattle.capi.proofs.engine_evaluate.Tie as tie
+
+evaluate-requires : tie.Need-evaluate-requires
+evaluate-requires c κs = search needs
+
+pack-requires : tie.Need-pack-requires
+pack-requires c κs = search needs
+
+same-length : tie.Need-same-length
+same-length c = search needs
+
+returns : tie.Need-returns
+returns c =
+    record { answer = c .pack .ensures ∙ ap packedAnswer (c .before .before .before .evaluate .ensures .answer); memory = c .before .before .before .evaluate .ensures .memory }
+
+pub engine-evaluate-spec : {M : Type 1} → statement M
+engine-evaluate-spec = tie.close (tie.spec evaluate-requires pack-requires same-length returns)

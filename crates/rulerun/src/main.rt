@@ -1,0 +1,116 @@
+// Evaluates standard input: book length (2 bytes, high first), book, scope byte, inputs. Prints the outcome and the count of scopes
+// entered, then number and value of each variable.
+use calculus::Cause;
+use calculus::magnitude;
+use capi::refusal_number;
+use evaluation::Answer;
+use evaluator::evaluate;
+use libc::STDIN_FILENO;
+use libc::STDOUT_FILENO;
+use record::byte_at;
+use record::distance_at;
+use record::number_at;
+use record::part_of;
+
+fn write(text: &[u8]) {
+    io::write_all(STDOUT_FILENO, text);
+}
+
+fn write_count(n: usize) {
+    io::print_decimal(STDOUT_FILENO, n as u64);
+    write(b"\n");
+}
+
+fn write_refused(number: u8) {
+    write(b"refused ");
+    io::print_decimal(STDOUT_FILENO, number as u64);
+    write(b"\n");
+}
+
+fn write_cause(c: Cause) {
+    match c {
+        Cause::Empty => write(b"empty "),
+        Cause::Conflict => write(b"conflict "),
+        Cause::OutOfRange => write(b"range "),
+    }
+}
+
+// In decimal, with a sign where it is negative.
+fn write_number(n: i32) {
+    if n < 0 {
+        write(b"-");
+    }
+    io::print_decimal(STDOUT_FILENO, magnitude(n));
+}
+
+// The result record at a position: the variable's number and its value.
+fn write_result(results: &[u8], at: usize) {
+    let record = part_of(results, at, 6);
+    io::print_decimal(STDOUT_FILENO, byte_at(record, 1) as u64);
+    write(b" ");
+    if byte_at(record, 0) == 2 {
+        write_number(number_at(record, 2));
+    } else if byte_at(record, 2) == 1 {
+        write(b"yes");
+    } else {
+        write(b"no");
+    }
+    write(b"\n");
+}
+
+// The result records of the first length bytes.
+fn write_results(results: &[u8], length: usize) {
+    let mut at: usize = 0;
+    while at < length {
+        write_result(results, at);
+        if 200 < at {
+            return;
+        }
+        if byte_at(results, at) == 2 {
+            at += 6;
+        } else {
+            at += 3;
+        }
+    }
+}
+
+fn write_answer(a: Answer, results: &[u8]) {
+    match a {
+        Answer::Values(count, length) => {
+            write(b"value ");
+            write_count(count);
+            write_results(results, length);
+        }
+        Answer::Ended(c, count) => {
+            write_cause(c);
+            write_count(count);
+        }
+        Answer::Refused(r) => write_refused(refusal_number(r)),
+    }
+}
+
+// Missing bytes of length, book or scope are refused with 1.
+fn run(input: &[u8]) {
+    let length = distance_at(input, 0);
+    if input.len() < 3 {
+        write_refused(1);
+        return;
+    }
+    if input.len() - 3 < length {
+        write_refused(1);
+        return;
+    }
+    let book = part_of(input, 2, length);
+    let scope = byte_at(input, length + 2) as usize;
+    let inputs = part_of(input, length + 3, 193);
+    let mut results = [0u8; 192];
+    let answer = evaluate(book, scope, inputs, &mut results);
+    write_answer(answer, &results);
+}
+
+// The longest book that two bytes can announce, the scope, and one byte more of inputs than a good list can have.
+fn main() {
+    let mut buffer = [0u8; 65731];
+    let n = io::read_full(STDIN_FILENO, &mut buffer);
+    run(&buffer[..n]);
+}

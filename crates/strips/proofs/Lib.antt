@@ -1,2 +1,0 @@
--- What the proof of `write_number` uses.
-mod Magnitude
