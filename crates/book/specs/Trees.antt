@@ -72,6 +72,10 @@ clauseTerms s n (c ∷ cs) =
 abbrev pub hasTarget : Target → Clause → Bool
 hasTarget t c = sameTarget (c .target) t
 
+-- some clause has the target
+abbrev pub hasClause : Scope → Target → Bool
+hasClause s t = any (hasTarget t) (s .clauses)
+
 -- "Clauses without parent are bases"
 abbrev pub isBase : Target → Clause → Bool
 isBase t c = hasTarget t c && eqb (c .parent) 255

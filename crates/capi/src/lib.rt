@@ -39,6 +39,8 @@ pub fn refusal_number(r: Refusal) -> u8
         Refusal::NoSuchScope => 13,
         Refusal::BadInput => 14,
         Refusal::BufferTooSmall => 15,
+        Refusal::BadCode => 16,
+        Refusal::Stuck => 17,
     }
 }
 

@@ -34,7 +34,7 @@ use Rattle.book.specs.Syntax.{Scope}
 use Rattle.book.specs.Decode.{scopesOf}
 use Rattle.book.specs.References.{scopeAt}
 use Rattle.book.specs.Typing.{typeAt, calledTypeAt}
-use Rattle.book.specs.Trees.{tree, ownTarget, calledTarget}
+use Rattle.book.specs.Trees.{tree, hasClause, ownTarget, calledTarget}
 use Rattle.book.specs.Steps.{reads, dependsOn, stepCount, stepOrder}
 use Rattle.book.specs.Judge.{judge}
 use Rattle.book.specs.declared.ValueType.{ValueType}
@@ -44,7 +44,7 @@ use Rattle.book.specs.declared.Judged.the-variants.{Accepted}
 use Rattle.acceptance.specs.Accepted.{WithinLimits, WellFormed, CompleteOrder}
 use Rattle.acceptance.proofs.Orders.{accepted-book}
 use Rattle.acceptance.proofs.Reading.{variable-depends, call-depends}
-use Rattle.evaluation.specs.Run.{Entered, values, State, envOf, hasClause, begin, runSteps, runScope}
+use Rattle.evaluation.specs.Run.{Entered, values, State, envOf, begin, runSteps, runScope}
 use Rattle.evaluation.specs.Types.{HasType, Holds, MayHold, HoldsAt, Fitting, ValuesFit, OutcomeFits, EnteredFits, OwnNamed, CalledNamed, WellTyped}
 use Rattle.evaluation.specs.Readiness.{Handing, handed, failed, inFront, evaluated, handing, Reached, Ready, TermReady, TreesReady, Progress, calleeOf, handsOver, withVariable, withCall}
 use Rattle.evaluation.proofs.Running.{by-step}

@@ -26,10 +26,10 @@ use Rattle.calculus.specs.declared.Given.the-variants.{Absent, Present}
 use Rattle.order.proofs.Booleans.{decide}
 use Rattle.book.specs.Syntax.{Scope}
 use Rattle.book.specs.References.{scopeAt}
-use Rattle.book.specs.Trees.{tree, ownTarget, calledTarget}
+use Rattle.book.specs.Trees.{tree, hasClause, ownTarget, calledTarget}
 use Rattle.book.specs.Steps.{stepCount, stepOrder}
 use Rattle.book.specs.declared.Variable.{Variable}
-use Rattle.evaluation.specs.Run.{Entered, values, ended, State, envOf, onValue, onEntered, hasClause, overrides, begin, runSteps}
+use Rattle.evaluation.specs.Run.{Entered, values, ended, State, envOf, onValue, onEntered, overrides, begin, runSteps}
 use Rattle.evaluation.specs.Readiness.{Handing, handed, failed, inFront, evaluated, handing, onHanding, Reached, calleeOf, handsOver, withVariable, withCall}
 
 -- the scopes entered

@@ -15,7 +15,7 @@ use Rattle.lists.specs.Inputs.{Inputs, bad, good, inputs}
 use Rattle.lists.specs.Results.{resultLength, results}
 use Rattle.evaluation.specs.Run.{Entered, values, ended, enter}
 use Rattle.evaluation.specs.declared.Refusal.{Refusal}
-use Rattle.evaluation.specs.declared.Refusal.the-variants.{Book, NoSuchScope, BadInput, BufferTooSmall}
+use Rattle.evaluation.specs.declared.Refusal.the-variants.{Book, NoSuchScope, BadInput, BufferTooSmall, BadCode, Stuck}
 use Rattle.evaluation.specs.declared.Answer.{Answer}
 use Rattle.evaluation.specs.declared.Answer.the-variants.{Values, Ended, Refused}
 
@@ -25,6 +25,8 @@ refusalNumber (Book f) = faultNumber f
 refusalNumber NoSuchScope = 13
 refusalNumber BadInput = 14
 refusalNumber BufferTooSmall = 15
+refusalNumber BadCode = 16
+refusalNumber Stuck = 17
 
 -- "A refusal returns its number and the count 0"
 abbrev pub countIn : Answer → ℕ

@@ -16,11 +16,11 @@ use Rattle.order.specs.Order.{among}
 use Rattle.book.specs.Syntax.{Scope}
 use Rattle.book.specs.References.{scopeAt}
 use Rattle.book.specs.Typing.{typeAt, calledTypeAt}
-use Rattle.book.specs.Trees.{tree, ownTarget, calledTarget}
+use Rattle.book.specs.Trees.{tree, hasClause, ownTarget, calledTarget}
 use Rattle.book.specs.Steps.{dependsOn, stepOrder}
 use Rattle.book.specs.declared.ValueType.{ValueType}
 use Rattle.book.specs.declared.Variable.{Variable}
-use Rattle.evaluation.specs.Run.{Entered, values, ended, State, envOf, hasClause, begin}
+use Rattle.evaluation.specs.Run.{Entered, values, ended, State, envOf, begin}
 use Rattle.evaluation.specs.Types.{Holds, HoldsAt, ValuesFit, Typed}
 
 -- the override trees of a call: the values handed over, or the cause of an end

@@ -1,6 +1,6 @@
 -- Running the steps of a scope, and entering scopes.
 use Prim.Native.Nat.{ℕ, suc, _+_, _-_}
-use mathlib.Core.Bool.{Bool, false, cond}
+use mathlib.Core.Bool.{false, cond}
 use mathlib.Core.List.{List, [], _∷_, map, reverse}
 use lib.ListN.{length, getD, set}
 use lib.Dec.{eqb, ltb}
@@ -14,14 +14,12 @@ use Rattle.calculus.specs.declared.Outcome.the-variants.{Gives, Ends}
 use Rattle.calculus.specs.declared.Given.{Given}
 use Rattle.calculus.specs.declared.Given.the-variants.{Absent, Present}
 use Rattle.cells.specs.Cells.{held}
-use Rattle.book.specs.Lists.{any}
 use Rattle.book.specs.Syntax.{Scope}
 use Rattle.book.specs.References.{scopeAt}
-use Rattle.book.specs.Trees.{tree, hasTarget, ownTarget, calledTarget}
+use Rattle.book.specs.Trees.{tree, hasClause, ownTarget, calledTarget}
 use Rattle.book.specs.Scopes.{blocks}
 use Rattle.book.specs.Steps.{stepOrder}
 use Rattle.book.specs.declared.Variable.{Variable}
-use Rattle.book.specs.declared.Target.{Target}
 
 -- what a run of a scope comes to: the values of its variables, or the cause of its end; each with the scopes entered
 pub data Entered : Type 0 where
@@ -45,9 +43,6 @@ onValue (Ends c) count go = ended c count
 abbrev pub onEntered : Entered → ℕ → (List Value → ℕ → Entered) → Entered
 onEntered (values vs n) count go = go vs (count + n)
 onEntered (ended c n) count go = ended c (count + n)
-
-abbrev pub hasClause : Scope → Target → Bool
-hasClause s t = any (hasTarget t) (s .clauses)
 
 -- "A call evaluates its override trees in variable order, hands over those values"; "A target of an override without clauses is simply
 -- not given": for the variables from v on of the scope that sub-scope k names

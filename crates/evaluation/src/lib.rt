@@ -2,12 +2,14 @@
 use book::Fault;
 use calculus::Cause;
 
-// Why a service refuses.
+// Why a service refuses: the numbers 1 to 17.
 pub enum Refusal {
     Book(Fault),
     NoSuchScope,
     BadInput,
     BufferTooSmall,
+    BadCode,
+    Stuck,
 }
 
 // What evaluating answers: the count of scopes entered and, where the run ends in values, the length of the results.

@@ -26,11 +26,11 @@ use Rattle.cells.specs.Cells.{givenOf, givenAt}
 use Rattle.book.specs.Syntax.{Scope}
 use Rattle.book.specs.Decode.{scopesOf}
 use Rattle.book.specs.References.{scopeAt}
-use Rattle.book.specs.Trees.{tree, calledTarget}
+use Rattle.book.specs.Trees.{tree, hasClause, calledTarget}
 use Rattle.book.specs.declared.Variable.{Variable}
 use Rattle.terms.specs.Outcomes as cells
 use Rattle.trees.specs.Chains.{treeOutcome, clauseFor}
-use Rattle.evaluation.specs.Run.{Entered, ended, State, envOf, onValue, hasClause, overrides}
+use Rattle.evaluation.specs.Run.{Entered, ended, State, envOf, onValue, overrides}
 use Rattle.evaluator.specs.Steps.{Stored, Handed, hands, stops, handOf, override, overrideAt, handView, HandedOne, givensFrom, Over, all, stopped, also, overAll, calledCount, overView, HandedAll}
 
 abbrev pub onOver : Over → ℕ → (List Given → Entered) → Entered

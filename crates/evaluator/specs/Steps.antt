@@ -17,7 +17,7 @@ use Rattle.book.specs.Syntax.{Scope}
 use Rattle.book.specs.Decode.{scopesOf}
 use Rattle.book.specs.References.{scopeAt}
 use Rattle.book.specs.Scopes.{blocks}
-use Rattle.book.specs.Trees.{tree, calledTarget, ownTarget}
+use Rattle.book.specs.Trees.{tree, hasClause, calledTarget, ownTarget}
 use Rattle.book.specs.Steps.{stepCount, stepOrder}
 use Rattle.book.specs.Judge.{judge}
 use Rattle.book.specs.declared.Judged.the-variants.{Accepted}
@@ -26,7 +26,7 @@ use Rattle.lists.specs.Inputs.{isGiven}
 use Rattle.lists.specs.Writing.{valuesOf}
 use Rattle.trees.specs.Links.{Sound, AllLinked}
 use Rattle.trees.specs.Chains.{Ready}
-use Rattle.evaluation.specs.Run.{Entered, values, ended, hasClause, enter}
+use Rattle.evaluation.specs.Run.{Entered, values, ended, enter}
 use Rattle.evaluator.specs.declared.Ran.{Ran}
 use Rattle.evaluator.specs.declared.Ran.the-variants.{Values, Ended}
 
