@@ -2,3 +2,5 @@
 pub mod Numbers
 pub mod Exceptions
 mod Sign
+pub mod ReductionExceptions
+pub mod Reduction

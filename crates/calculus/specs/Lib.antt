@@ -5,3 +5,4 @@ pub mod Defaults
 pub mod Terms
 pub mod Evaluation
 pub mod Strips
+pub mod Reduction
