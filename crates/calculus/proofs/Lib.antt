@@ -2,5 +2,6 @@
 pub mod Numbers
 pub mod Exceptions
 mod Sign
-pub mod ReductionExceptions
+mod ReductionExceptions
+mod ReductionHalts
 pub mod Reduction

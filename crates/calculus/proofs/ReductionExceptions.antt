@@ -1,13 +1,13 @@
 -- Exceptions that are values, as the reduction rules write them: what they come to, and which of the rules fits.
 -- Assumes nothing.
 use Prim.Native.Nat.{ℕ, zero, suc}
-use mathlib.Core.Path.{_≡_, refl, sym, ap, subst, _∙_}
+use mathlib.Core.Path.{_≡_, refl, ap, subst, _∙_}
 use mathlib.Core.Option.{Option, some}
 use mathlib.Core.Option as option
 use mathlib.Core.List.{List, [], _∷_, _++_}
 use Rattle.calculus.specs.Defaults.{join}
-use Rattle.calculus.specs.Terms.{Term, Terms, literal, error, none, also}
-use Rattle.calculus.specs.Evaluation.{Env, eval, exceptions}
+use Rattle.calculus.specs.Terms.{Terms, literal, error, none, also}
+use Rattle.calculus.specs.Evaluation.{Env, exceptions}
 use Rattle.calculus.specs.Reduction.{settledTerm, behind, empties}
 use Rattle.calculus.specs.declared.Value.{Value}
 use Rattle.calculus.specs.declared.Cause.the-variants.{Empty}
@@ -44,7 +44,8 @@ two-join (One u) k l v w = refl
 two-join Many k l v w = refl
 
 -- one more exception that is a value
-pub behind-one-more : (vs : List (Option Value)) (v : Option Value) (es : Terms) → behind (vs ++ (v ∷ [])) es ≡ behind vs (also (settledTerm v) es)
+pub behind-one-more : (vs : List (Option Value)) (v : Option Value) (es : Terms)
+    → behind (vs ++ (v ∷ [])) es ≡ behind vs (also (settledTerm v) es)
 unfolding behind
 behind-one-more [] v es = refl
 behind-one-more (u ∷ vs) v es = ap (also (settledTerm u)) (behind-one-more vs v es)

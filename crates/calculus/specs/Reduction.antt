@@ -22,30 +22,30 @@ abbrev pub result : Outcome → Term
 result (Gives v) = literal v
 result (Ends c) = error c
 
--- a regular context whose hole has become t: D-CONTEXTCONFLICTERROR and D-CONTEXTEMPTYERROR where t is an error (ours: out of range
--- behaves like conflict), else D-CONTEXT
-abbrev pub regular : (Term → Term) → Term → Term
-regular context (literal v) = context (literal v)
-regular context (own x) = context (own x)
-regular context (called k x) = context (called k x)
-regular context (error c) = error c
-regular context (unary op a) = context (unary op a)
-regular context (binary op a b) = context (binary op a b)
-regular context (choice c a b) = context (choice c a b)
-regular context (default es j c) = context (default es j c)
+-- an error with one of these causes
+abbrev pub isError : (Cause → Bool) → Term → Bool
+isError which (literal v) = false
+isError which (own x) = false
+isError which (called k x) = false
+isError which (error x) = which x
+isError which (unary op a) = false
+isError which (binary op a b) = false
+isError which (choice c a b) = false
+isError which (default es j c) = false
 
--- the place of an exception, whose term has become t: D-CONTEXTCONFLICTERROR, else D-CONTEXT; an empty exception stays in its place
+-- a cause that ends a default wherever it arises; ours: out of range, like conflict
+abbrev pub fatal : Cause → Bool
+fatal Empty = false
+fatal Conflict = true
+fatal OutOfRange = true
+
+-- a regular context whose hole has become t: D-CONTEXTCONFLICTERROR and D-CONTEXTEMPTYERROR where t is an error, else D-CONTEXT
+abbrev pub regular : (Term → Term) → Term → Term
+regular context t = cond (isError (λ x. true) t) t (context t)
+
+-- a default in which an exception has become t: D-CONTEXTCONFLICTERROR, else D-CONTEXT; an empty exception stays in its place
 abbrev pub amongExceptions : (Term → Term) → Term → Term
-amongExceptions context (literal v) = context (literal v)
-amongExceptions context (own x) = context (own x)
-amongExceptions context (called k x) = context (called k x)
-amongExceptions context (error Empty) = context (error Empty)
-amongExceptions context (error Conflict) = error Conflict
-amongExceptions context (error OutOfRange) = error OutOfRange
-amongExceptions context (unary op a) = context (unary op a)
-amongExceptions context (binary op a b) = context (binary op a b)
-amongExceptions context (choice c a b) = context (choice c a b)
-amongExceptions context (default es j c) = context (default es j c)
+amongExceptions context t = cond (isError fatal t) t (context t)
 
 -- an exception that is a value and does not end the whole: empty, or a literal
 abbrev pub settledTerm : Option Value → Term
@@ -61,12 +61,6 @@ behind (v ∷ vs) es = also (settledTerm v) (behind vs es)
 unfoldable pub empties : ℕ → Terms → Terms
 empties zero es = es
 empties (suc n) es = also (error Empty) (empties n es)
-
--- a cause that ends a default wherever it arises
-abbrev pub fatal : Cause → Bool
-fatal Empty = false
-fatal Conflict = true
-fatal OutOfRange = true
 
 -- e → e′, in an environment
 pub data Reduces (e : Env) : Term → Term → Type 0 where
@@ -85,7 +79,7 @@ pub data Reduces (e : Env) : Term → Term → Type 0 where
   default-false : (n : ℕ) (w : Value) (c : Term) → truthOf w ≡ false → Reduces e (default (empties n none) (literal w) c) (error Empty)
   -- D-DEFAULTONEEXCEPTION
   one-exception : (m n : ℕ) (v : Value) (j c : Term) → Reduces e (default (empties m (also (literal v) (empties n none))) j c) (literal v)
-  -- D-DEFAULTEXCEPTIONSCONFLICT, ours: only once every exception is a value, since the text of 4.1 decides
+  -- D-DEFAULTEXCEPTIONSCONFLICT; ours: only once every exception is a value, as 4.1 has it: "Each of the exceptions is evaluated"
   two-exceptions : (us vs ws : List (Option Value)) (v w : Value) (j c : Term)
       → Reduces e (default (behind us (also (literal v) (behind vs (also (literal w) (behind ws none))))) j c) (error Conflict)
   -- the regular contexts of figure 5; ours: those of operators and of "if", as of application
@@ -94,7 +88,7 @@ pub data Reduces (e : Env) : Term → Term → Type 0 where
   in-right : (op : Binary) (v : Value) {b b′ : Term} → Reduces e b b′
       → Reduces e (binary op (literal v) b) (regular (binary op (literal v)) b′)
   in-condition : (a b : Term) {c c′ : Term} → Reduces e c c′ → Reduces e (choice c a b) (regular (λ x. choice x a b) c′)
-  -- "If no exception is valid, .. and if after further evaluation, the justification is true"
+  -- ours: only once every exception is empty, since else "we evaluate neither the justification or the consequence"
   in-justification : (n : ℕ) (c : Term) {j j′ : Term} → Reduces e j j′
       → Reduces e (default (empties n none) j c) (regular (λ x. default (empties n none) x c) j′)
   in-consequence : (n : ℕ) (w : Value) {c c′ : Term} → truthOf w ≡ true → Reduces e c c′
