@@ -1,0 +1,5 @@
+pub mod Parts
+pub mod Sums
+pub mod Bounds
+pub mod Sayable
+pub mod Runnable

@@ -1,0 +1,196 @@
+-- The trees of a well-formed scope have few parts: each node stands in them once at most, since no node is named twice, and each clause too,
+-- since each has one parent at most.
+--     node-parts      a node's term has one part more than the terms of its operands together
+--     named-parts     the nodes that clauses name have together no more parts than there are nodes
+--     clause-parts    the clauses that are selected, together: three for each clause, and those of the nodes that clauses name
+--     tree-parts      a tree has 637 parts at most
+-- Assumes nothing.
+use Prim.Native.Nat.{ℕ, zero, suc, _+_, _*_, _≤_, _<_}
+use mathlib.Core.Path.{_≡_, refl, sym, ap, _∙_}
+use mathlib.Core.Bool.{Bool, true, false, cond, _&&_, _||_}
+use mathlib.Core.List.{List, [], _∷_, _++_}
+use mathlib.Core.Logic.{⊎-elim}
+use native.Mathlib.Omega.{arith}
+use lib.ListN.{length, getD}
+use lib.Dec.{eqb}
+use borrow.Author.Tests.{eqb-true}
+use Rattle.calculus.specs.Terms.{Term, Terms, literal, default, none, also}
+use Rattle.calculus.specs.declared.Value.the-variants.{Truth}
+use Rattle.order.proofs.Booleans.{both, or-cases}
+use Rattle.book.specs.Syntax.{Scope, noNode}
+use Rattle.book.specs.References.{noClause}
+use Rattle.book.specs.Sharing.{unless255, operands, consequenceNode, clauseNodes, gathered, namings}
+use Rattle.book.specs.Scopes.{sum}
+use Rattle.book.specs.Trees.{exception, nodeTerm, termBelow, termOf, conditionTerm, consequenceTerm, select, clauseTerms, hasTarget, isBase, bases, hasRule, withRules, withoutRules, tree}
+use Rattle.book.specs.declared.Node.{Node}
+use Rattle.book.specs.declared.Node.the-variants.{Constant, Number, Own, Called, Empty, Conflict, Unary, Binary, Choice, Default}
+use Rattle.book.specs.declared.Consequence.{Consequence}
+use Rattle.book.specs.declared.Consequence.the-variants.{Of, Fixed}
+use Rattle.book.specs.declared.Target.{Target}
+use Rattle.book.specs.declared.Clause.{Clause}
+use Rattle.book.proofs.Terms.{term-here}
+use Rattle.acceptance.specs.Accepted.{WithinLimits, WellFormed}
+use Rattle.acceptance.proofs.Namings.{operands-lower, clause-nodes}
+use Rattle.translation.proofs.Parts.{parts, allParts}
+use Rattle.translation.proofs.Sums.{range, Below, append-below, gathered-below, sum-append, sum-same, sum-below, range-gathered}
+
+-- Nodes
+
+module _ (lower : ℕ → Term) where
+  abbrev low : ℕ → ℕ
+  low a = parts (lower a)
+
+  -- exceptions, k parts after them
+  exception-parts : (e : ℕ) (ts : Terms) (xs : List ℕ) (k : ℕ) → allParts ts + k ≡ sum low xs
+      → allParts (exception lower e ts) + k ≡ sum low (unless255 e xs)
+  unfolding parts sum
+  exception-parts e ts xs k h = go (eqb e 255)
+    where
+      go : (b : Bool) → allParts (cond b ts (also (lower e) ts)) + k ≡ sum low (cond b xs (e ∷ xs))
+      go true = h
+      go false = omega arith
+
+  made-parts : (x : Node) → parts (nodeTerm lower x) ≡ suc (sum low (operands x))
+  unfolding parts sum
+  made-parts (Constant b) = omega arith
+  made-parts (Number z) = omega arith
+  made-parts (Own v) = omega arith
+  made-parts (Called k v) = omega arith
+  made-parts (Empty t) = omega arith
+  made-parts (Conflict t) = omega arith
+  made-parts (Unary op a) = omega arith
+  made-parts (Binary op a b) = omega arith
+  made-parts (Choice c a b) = omega arith
+  made-parts (Default x y z j c) =
+      let k = low j + low c in
+      let zs = exception lower z none in
+      let ys = exception lower y zs in
+      let e =
+      exception-parts x ys (unless255 y (unless255 z (j ∷ c ∷ []))) k
+      (exception-parts y zs (unless255 z (j ∷ c ∷ [])) k
+      (exception-parts z none (j ∷ c ∷ []) k (omega arith))) in
+      omega (arith, e)
+
+module _ (book : List Scope) (s : Scope) (formed : WellFormed book s) where
+  -- the parts of a node's term
+  abbrev partsOf : ℕ → ℕ
+  partsOf n = parts (termOf s n)
+
+  operands-below : (n : ℕ) → n < length (s .nodes) → Below n (operands (getD (s .nodes) n noNode))
+  operands-below n l = operands-lower book s n (getD (s .nodes) n noNode) (formed .nodesNamed n l noNode)
+
+  node-parts : (n : ℕ) → n < length (s .nodes) → partsOf n ≡ suc (sum partsOf (operands (getD (s .nodes) n noNode)))
+  unfolding termOf
+  node-parts n l =
+      let nodes = s .nodes in
+      let x = getD nodes n noNode in
+      let same : sum (λ a. parts (termBelow nodes n a)) (operands x) ≡ sum partsOf (operands x) =
+      sum-same (λ a. parts (termBelow nodes n a)) partsOf (operands x)
+      (λ a e.
+      let below : a < n = operands-below n l a e in
+      ap parts (term-here nodes n a below ∙ sym (term-here nodes (length nodes) a (omega arith)))) in
+      ap parts (term-here nodes (length nodes) n l) ∙ made-parts (termBelow nodes n) x ∙ ap suc same
+
+  named-below : Below (length (s .nodes)) (namings s)
+  unfolding namings
+  named-below =
+      let l = length (s .nodes) in
+      append-below l (gathered operands (s .nodes)) (gathered clauseNodes (s .clauses))
+      (gathered-below l operands (s .nodes) noNode (λ i h a e. let r = operands-below i h a e in omega arith))
+      (gathered-below l clauseNodes (s .clauses) noClause
+      (λ i h. clause-nodes book s i (getD (s .clauses) i noClause) (formed .clausesNamed i h noClause)))
+
+  pub named-parts : sum partsOf (gathered clauseNodes (s .clauses)) ≤ length (s .nodes)
+  unfolding namings
+  named-parts =
+      let all = range-gathered partsOf operands (s .nodes) 0 noNode
+          (λ i l. let z : 0 + i ≡ i = omega arith in rw z (node-parts i l)) in
+      let once = sum-below (length (s .nodes)) (namings s) (formed .unshared) named-below partsOf in
+      omega (arith, all, once, sum-append partsOf (gathered operands (s .nodes)) (gathered clauseNodes (s .clauses)))
+
+-- Clauses
+
+-- what is selected, the first clause's term apart
+first-parts : (p : Clause → Bool) (c : Clause) (cs : List Clause) (t : Term) (ts : List Term)
+    → allParts (select p (c ∷ cs) (t ∷ ts)) ≤ parts t + allParts (select p cs ts)
+unfolding select parts
+first-parts p c cs t ts = go (p c)
+  where
+    go : (b : Bool) → allParts (cond b (also t (select p cs ts)) (select p cs ts)) ≤ parts t + allParts (select p cs ts)
+    go true = omega arith
+    go false = omega arith
+
+-- two selections without a clause in common
+joint-parts : (p q : Clause → Bool) → ((c : Clause) → p c ≡ true → q c ≡ true → ⊥) → (cs : List Clause) (ts : List Term)
+    → allParts (select p cs ts) + allParts (select q cs ts) ≡ allParts (select (λ c. p c || q c) cs ts)
+unfolding select parts
+joint-parts p q apart [] ts = omega arith
+joint-parts p q apart (c ∷ cs) [] = omega arith
+joint-parts p q apart (c ∷ cs) (t ∷ ts) = 
+    go (p c) (q c) (apart c) (select p cs ts) (select q cs ts) (select (λ c. p c || q c) cs ts) (joint-parts p q apart cs ts)
+  where
+    go : (a b : Bool) → (a ≡ true → b ≡ true → ⊥) → (k l m : Terms) → allParts k + allParts l ≡ allParts m
+        → allParts (cond a (also t k) k) + allParts (cond b (also t l) l) ≡ allParts (cond (a || b) (also t m) m)
+    go true true h k l m e = absurd (h refl refl)
+    go true false h k l m e = omega arith
+    go false true h k l m e = omega arith
+    go false false h k l m e = e
+
+module _ (s : Scope) where
+  abbrev partsAt : ℕ → ℕ
+  partsAt n = parts (termOf s n)
+
+  consequence-parts : (c : Consequence) → parts (consequenceTerm s c) ≤ 1 + sum partsAt (consequenceNode c)
+  unfolding parts sum
+  consequence-parts (Of n) = omega arith
+  consequence-parts (Fixed b) = omega arith
+
+  own-parts : (c : Clause)
+      → parts (conditionTerm s (c .condition)) + parts (consequenceTerm s (c .consequence)) ≤ 2 + sum partsAt (clauseNodes c)
+  unfolding parts sum
+  own-parts c = go (eqb (c .condition) 255) (consequenceNode (c .consequence)) (consequence-parts (c .consequence))
+    where
+      go : (b : Bool) (xs : List ℕ) {k : ℕ} → k ≤ 1 + sum partsAt xs
+          → parts (cond b (literal (Truth true)) (termOf s (c .condition))) + k ≤ 2 + sum partsAt (cond b xs (c .condition ∷ xs))
+      go true xs h = omega arith
+      go false xs h = omega arith
+
+  -- of the clauses from number n on, those selected, none of which has one of them as parent
+  pub clause-parts : (cs : List Clause) (n : ℕ) (p : Clause → Bool)
+      → ((c : Clause) → p c ≡ true → n ≤ c .parent → n + length cs ≤ c .parent)
+      → allParts (select p cs (clauseTerms s n cs)) ≤ 3 * length cs + sum partsAt (gathered clauseNodes cs)
+  unfolding select clauseTerms parts sum gathered
+  clause-parts [] n p outer = omega arith
+  clause-parts (c ∷ cs) n p outer =
+      let later = clauseTerms s (suc n) cs in
+      let q : Clause → Bool = λ d. eqb (d .parent) n in
+      let t = default (select q cs later) (conditionTerm s (c .condition)) (consequenceTerm s (c .consequence)) in
+      let joint = joint-parts p q (λ d a b. omega (arith, eqb-true (d .parent) n b, outer d a (omega (arith, eqb-true (d .parent) n b)))) cs later in
+      let more = clause-parts cs (suc n) (λ d. p d || q d)
+          (λ d e l. ⊎-elim (λ a. omega (arith, outer d a (omega arith))) (λ b. omega (arith, eqb-true (d .parent) n b)) (or-cases (p d) (q d) e)) in
+      omega (arith, first-parts p c cs t later, own-parts c, joint, more, sum-append partsAt (clauseNodes c) (gathered clauseNodes cs))
+
+  bases-parts : length (s .clauses) ≤ 255 → (t : Target)
+      → allParts (bases s t) ≤ 3 * length (s .clauses) + sum partsAt (gathered clauseNodes (s .clauses))
+  unfolding bases
+  bases-parts few t =
+      clause-parts (s .clauses) 0 (isBase t)
+      (λ c e l. omega (arith, eqb-true (c .parent) 255 (both (hasTarget t c) (eqb (c .parent) 255) e .1)))
+
+  without-parts : (ts : Terms) → parts (withoutRules ts) ≤ 3 + allParts ts
+  unfolding parts
+  without-parts none = omega arith
+  without-parts (also t none) = omega arith
+  without-parts (also t (also u us)) = omega arith
+
+  around-bases : (t : Target) → parts (tree s t) ≤ 3 + allParts (bases s t)
+  unfolding tree parts
+  around-bases t = go (hasRule s t)
+    where
+      go : (b : Bool) → parts (cond b (withRules (bases s t)) (withoutRules (bases s t))) ≤ 3 + allParts (bases s t)
+      go true = omega arith
+      go false = without-parts (bases s t)
+
+pub tree-parts : (book : List Scope) (s : Scope) → WithinLimits s → WellFormed book s → (t : Target) → parts (tree s t) ≤ 637
+tree-parts book s within formed t =
+    omega (arith, around-bases s t, bases-parts s (omega (arith, within .clauses)) t, named-parts book s formed, within .nodes, within .clauses)
