@@ -5,10 +5,10 @@
 --     clause-parts    the clauses that are selected, together: three for each clause, and those of the nodes that clauses name
 --     tree-parts      a tree has 637 parts at most
 -- Assumes nothing.
-use Prim.Native.Nat.{ℕ, zero, suc, _+_, _*_, _≤_, _<_}
+use Prim.Native.Nat.{ℕ, suc, _+_, _*_, _≤_, _<_}
 use mathlib.Core.Path.{_≡_, refl, sym, ap, _∙_}
-use mathlib.Core.Bool.{Bool, true, false, cond, _&&_, _||_}
-use mathlib.Core.List.{List, [], _∷_, _++_}
+use mathlib.Core.Bool.{Bool, true, false, cond, _||_}
+use mathlib.Core.List.{List, [], _∷_}
 use mathlib.Core.Logic.{⊎-elim}
 use native.Mathlib.Omega.{arith}
 use lib.ListN.{length, getD}
@@ -32,7 +32,7 @@ use Rattle.book.proofs.Terms.{term-here}
 use Rattle.acceptance.specs.Accepted.{WithinLimits, WellFormed}
 use Rattle.acceptance.proofs.Namings.{operands-lower, clause-nodes}
 use Rattle.translation.proofs.Parts.{parts, allParts}
-use Rattle.translation.proofs.Sums.{range, Below, append-below, gathered-below, sum-append, sum-same, sum-below, range-gathered}
+use Rattle.translation.proofs.Sums.{Below, append-below, gathered-below, sum-append, sum-same, sum-below, range-gathered}
 
 -- Nodes
 
@@ -71,21 +71,21 @@ module _ (lower : ℕ → Term) where
       (exception-parts z none (j ∷ c ∷ []) k (omega arith))) in
       omega (arith, e)
 
-module _ (book : List Scope) (s : Scope) (formed : WellFormed book s) where
-  -- the parts of a node's term
-  abbrev partsOf : ℕ → ℕ
-  partsOf n = parts (termOf s n)
+-- the parts of a node's term
+abbrev partsOf : Scope → ℕ → ℕ
+partsOf s n = parts (termOf s n)
 
+module _ (book : List Scope) (s : Scope) (formed : WellFormed book s) where
   operands-below : (n : ℕ) → n < length (s .nodes) → Below n (operands (getD (s .nodes) n noNode))
   operands-below n l = operands-lower book s n (getD (s .nodes) n noNode) (formed .nodesNamed n l noNode)
 
-  node-parts : (n : ℕ) → n < length (s .nodes) → partsOf n ≡ suc (sum partsOf (operands (getD (s .nodes) n noNode)))
+  node-parts : (n : ℕ) → n < length (s .nodes) → partsOf s n ≡ suc (sum (partsOf s) (operands (getD (s .nodes) n noNode)))
   unfolding termOf
   node-parts n l =
       let nodes = s .nodes in
       let x = getD nodes n noNode in
-      let same : sum (λ a. parts (termBelow nodes n a)) (operands x) ≡ sum partsOf (operands x) =
-      sum-same (λ a. parts (termBelow nodes n a)) partsOf (operands x)
+      let same : sum (λ a. parts (termBelow nodes n a)) (operands x) ≡ sum (partsOf s) (operands x) =
+      sum-same (λ a. parts (termBelow nodes n a)) (partsOf s) (operands x)
       (λ a e.
       let below : a < n = operands-below n l a e in
       ap parts (term-here nodes n a below ∙ sym (term-here nodes (length nodes) a (omega arith)))) in
@@ -100,13 +100,13 @@ module _ (book : List Scope) (s : Scope) (formed : WellFormed book s) where
       (gathered-below l clauseNodes (s .clauses) noClause
       (λ i h. clause-nodes book s i (getD (s .clauses) i noClause) (formed .clausesNamed i h noClause)))
 
-  pub named-parts : sum partsOf (gathered clauseNodes (s .clauses)) ≤ length (s .nodes)
+  pub named-parts : sum (partsOf s) (gathered clauseNodes (s .clauses)) ≤ length (s .nodes)
   unfolding namings
   named-parts =
-      let all = range-gathered partsOf operands (s .nodes) 0 noNode
-          (λ i l. let z : 0 + i ≡ i = omega arith in rw z (node-parts i l)) in
-      let once = sum-below (length (s .nodes)) (namings s) (formed .unshared) named-below partsOf in
-      omega (arith, all, once, sum-append partsOf (gathered operands (s .nodes)) (gathered clauseNodes (s .clauses)))
+      let all = range-gathered (partsOf s) operands (s .nodes) 0 noNode
+      (λ i l. let z : 0 + i ≡ i = omega arith in rw z (node-parts i l)) in
+      let once = sum-below (length (s .nodes)) (namings s) (formed .unshared) named-below (partsOf s) in
+      omega (arith, all, once, sum-append (partsOf s) (gathered operands (s .nodes)) (gathered clauseNodes (s .clauses)))
 
 -- Clauses
 
@@ -126,7 +126,7 @@ joint-parts : (p q : Clause → Bool) → ((c : Clause) → p c ≡ true → q c
 unfolding select parts
 joint-parts p q apart [] ts = omega arith
 joint-parts p q apart (c ∷ cs) [] = omega arith
-joint-parts p q apart (c ∷ cs) (t ∷ ts) = 
+joint-parts p q apart (c ∷ cs) (t ∷ ts) =
     go (p c) (q c) (apart c) (select p cs ts) (select q cs ts) (select (λ c. p c || q c) cs ts) (joint-parts p q apart cs ts)
   where
     go : (a b : Bool) → (a ≡ true → b ≡ true → ⊥) → (k l m : Terms) → allParts k + allParts l ≡ allParts m
@@ -137,28 +137,25 @@ joint-parts p q apart (c ∷ cs) (t ∷ ts) =
     go false false h k l m e = e
 
 module _ (s : Scope) where
-  abbrev partsAt : ℕ → ℕ
-  partsAt n = parts (termOf s n)
-
-  consequence-parts : (c : Consequence) → parts (consequenceTerm s c) ≤ 1 + sum partsAt (consequenceNode c)
+  consequence-parts : (c : Consequence) → parts (consequenceTerm s c) ≤ 1 + sum (partsOf s) (consequenceNode c)
   unfolding parts sum
   consequence-parts (Of n) = omega arith
   consequence-parts (Fixed b) = omega arith
 
   own-parts : (c : Clause)
-      → parts (conditionTerm s (c .condition)) + parts (consequenceTerm s (c .consequence)) ≤ 2 + sum partsAt (clauseNodes c)
+      → parts (conditionTerm s (c .condition)) + parts (consequenceTerm s (c .consequence)) ≤ 2 + sum (partsOf s) (clauseNodes c)
   unfolding parts sum
   own-parts c = go (eqb (c .condition) 255) (consequenceNode (c .consequence)) (consequence-parts (c .consequence))
     where
-      go : (b : Bool) (xs : List ℕ) {k : ℕ} → k ≤ 1 + sum partsAt xs
-          → parts (cond b (literal (Truth true)) (termOf s (c .condition))) + k ≤ 2 + sum partsAt (cond b xs (c .condition ∷ xs))
+      go : (b : Bool) (xs : List ℕ) {k : ℕ} → k ≤ 1 + sum (partsOf s) xs
+          → parts (cond b (literal (Truth true)) (termOf s (c .condition))) + k ≤ 2 + sum (partsOf s) (cond b xs (c .condition ∷ xs))
       go true xs h = omega arith
       go false xs h = omega arith
 
   -- of the clauses from number n on, those selected, none of which has one of them as parent
   pub clause-parts : (cs : List Clause) (n : ℕ) (p : Clause → Bool)
       → ((c : Clause) → p c ≡ true → n ≤ c .parent → n + length cs ≤ c .parent)
-      → allParts (select p cs (clauseTerms s n cs)) ≤ 3 * length cs + sum partsAt (gathered clauseNodes cs)
+      → allParts (select p cs (clauseTerms s n cs)) ≤ 3 * length cs + sum (partsOf s) (gathered clauseNodes cs)
   unfolding select clauseTerms parts sum gathered
   clause-parts [] n p outer = omega arith
   clause-parts (c ∷ cs) n p outer =
@@ -167,11 +164,11 @@ module _ (s : Scope) where
       let t = default (select q cs later) (conditionTerm s (c .condition)) (consequenceTerm s (c .consequence)) in
       let joint = joint-parts p q (λ d a b. omega (arith, eqb-true (d .parent) n b, outer d a (omega (arith, eqb-true (d .parent) n b)))) cs later in
       let more = clause-parts cs (suc n) (λ d. p d || q d)
-          (λ d e l. ⊎-elim (λ a. omega (arith, outer d a (omega arith))) (λ b. omega (arith, eqb-true (d .parent) n b)) (or-cases (p d) (q d) e)) in
-      omega (arith, first-parts p c cs t later, own-parts c, joint, more, sum-append partsAt (clauseNodes c) (gathered clauseNodes cs))
+      (λ d e l. ⊎-elim (λ a. omega (arith, outer d a (omega arith))) (λ b. omega (arith, eqb-true (d .parent) n b)) (or-cases (p d) (q d) e)) in
+      omega (arith, first-parts p c cs t later, own-parts c, joint, more, sum-append (partsOf s) (clauseNodes c) (gathered clauseNodes cs))
 
   bases-parts : length (s .clauses) ≤ 255 → (t : Target)
-      → allParts (bases s t) ≤ 3 * length (s .clauses) + sum partsAt (gathered clauseNodes (s .clauses))
+      → allParts (bases s t) ≤ 3 * length (s .clauses) + sum (partsOf s) (gathered clauseNodes (s .clauses))
   unfolding bases
   bases-parts few t =
       clause-parts (s .clauses) 0 (isBase t)

@@ -4,7 +4,7 @@
 --     book-sayable     the nodes of every scope that is read from bytes
 --     tree-sayable     a tree of such nodes
 -- Assumes nothing.
-use Prim.Native.Nat.{ℕ, zero, suc, _^_, _-_, _<_}
+use Prim.Native.Nat.{ℕ, zero, suc, _^_, _-_}
 use mathlib.Core.Path.{_≡_, refl}
 use mathlib.Core.Bool.{Bool, true, false, cond}
 use mathlib.Core.List.{List, [], _∷_}
@@ -19,11 +19,11 @@ use Rattle.record.specs.Bytes.{bigEndian, numberAt}
 use Rattle.calculus.specs.Terms.{Term, Terms, none, also}
 use Rattle.calculus.specs.declared.Unary.{Unary}
 use Rattle.calculus.specs.declared.Binary.{Binary}
-use Rattle.book.specs.Syntax.{Scope, emptyScope, nodeOf, noNode}
+use Rattle.book.specs.Syntax.{Scope, nodeOf, noNode}
 use Rattle.book.specs.Records.{Met, stageOf, bodyOf, records}
 use Rattle.book.specs.Decode.{Parsed, inFront, parse, scopesOf}
 use Rattle.book.specs.References.{scopeAt}
-use Rattle.book.specs.Trees.{exception, nodeTerm, termBelow, termOf, conditionTerm, consequenceTerm, select, clauseTerms, isBase, bases, hasRule, withRules, withoutRules, tree}
+use Rattle.book.specs.Trees.{exception, nodeTerm, termBelow, termOf, conditionTerm, consequenceTerm, select, clauseTerms, isBase, bases, hasRule, withoutRules, tree}
 use Rattle.book.specs.declared.Node.{Node}
 use Rattle.book.specs.declared.Node.the-variants as node
 use Rattle.book.specs.declared.Consequence.{Consequence}
