@@ -100,7 +100,7 @@ module _ (book : List Scope) (s : Scope) (formed : WellFormed book s) where
       (gathered-below l clauseNodes (s .clauses) noClause
       (λ i h. clause-nodes book s i (getD (s .clauses) i noClause) (formed .clausesNamed i h noClause)))
 
-  pub named-parts : sum (partsOf s) (gathered clauseNodes (s .clauses)) ≤ length (s .nodes)
+  named-parts : sum (partsOf s) (gathered clauseNodes (s .clauses)) ≤ length (s .nodes)
   unfolding namings
   named-parts =
       let all = range-gathered (partsOf s) operands (s .nodes) 0 noNode
@@ -153,7 +153,7 @@ module _ (s : Scope) where
       go false xs h = omega arith
 
   -- of the clauses from number n on, those selected, none of which has one of them as parent
-  pub clause-parts : (cs : List Clause) (n : ℕ) (p : Clause → Bool)
+  clause-parts : (cs : List Clause) (n : ℕ) (p : Clause → Bool)
       → ((c : Clause) → p c ≡ true → n ≤ c .parent → n + length cs ≤ c .parent)
       → allParts (select p cs (clauseTerms s n cs)) ≤ 3 * length cs + sum (partsOf s) (gathered clauseNodes cs)
   unfolding select clauseTerms parts sum gathered

@@ -37,7 +37,7 @@ either : {A : Type 0} (P : A → Type 0) (b : Bool) {x y : A} → P x → P y �
 either P true h k = h
 either P false h k = k
 
-pub number-fits : (xs : List ℕ) (at : ℕ) → SFits w32 (numberAt xs at)
+number-fits : (xs : List ℕ) (at : ℕ) → SFits w32 (numberAt xs at)
 unfolding numberAt
 number-fits xs at = go (bigEndian 4 xs at)
   where
@@ -78,7 +78,7 @@ default-sayable x y z j c =
           );
     }
 
-pub node-sayable : (k : ℕ) (body : List ℕ) → Says (nodeOf k body)
+node-sayable : (k : ℕ) (body : List ℕ) → Says (nodeOf k body)
 unfolding nodeOf Sayable
 node-sayable k body =
     either Says (eqb k 4) (record { made = λ lower h. tt })
