@@ -1,1 +1,12 @@
 pub mod Examples
+pub mod Sequences
+pub mod Parsing
+pub mod Fitting
+pub mod Sound
+pub mod Accepting
+pub mod Instructions
+pub mod Terms
+pub mod Memory
+pub mod Steps
+pub mod Blocks
+pub mod Agreement

@@ -1,1 +1,4 @@
 pub mod Compiled
+pub mod Meets
+pub mod Related
+pub mod Agreement

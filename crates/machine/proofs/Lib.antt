@@ -1,0 +1,3 @@
+pub mod Steps
+mod Refused
+pub mod Examples
