@@ -134,14 +134,14 @@ module _ (book : List Scope) where
           let called : any (λ j. not (hasBlock earlier j)) (s .subScopes) ≡ false =
           any-none (λ j. not (hasBlock earlier j)) (s .subScopes) 0
           (λ k l. ap not (has-block is (getD (s .subScopes) k 0) ∙ there k l)) in
-          let heavy : weightIn (compiledBlock book i ∷ earlier) i ≤ 4096 =
+          let weighs : weightIn (compiledBlock book i ∷ earlier) i ≤ 4096 =
           subst (λ (n : ℕ). n ≤ 4096) (sym (weight-of (i ∷ is) o i (rw (eq-eqb i i refl)))) (light i (o .0)) in
           rw (
             lt-ltb i 32 (omega (arith, o .0)),
             has-block is i ∙ o .1,
             called,
             fit,
-            le-leb (weightIn (compiledBlock book i ∷ earlier) i) 4096 heavy,
+            le-leb (weightIn (compiledBlock book i ∷ earlier) i) 4096 weighs,
           )
 
       all-well-formed : (is : List ℕ) → Ordered is → allWellFormed (compiledIn book is) ≡ true

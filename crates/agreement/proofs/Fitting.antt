@@ -171,19 +171,19 @@ module _ (book : List Scope) (i : ℕ) (earlier : List Block)
       ∙ next (jump e) (h k) (near′, lands-over t k e 0 (omega arith) (lands-here k))
       ∙ r k
 
+  tail-fits : (j c : Term) → Passes (code j) → Passes (code c) → size c + 3 < 65536 → Passes (tail j c)
+  tail-fits j c p q near = branches j c (λ k. 32 ∷ k) 1 p q (λ k. next (raise Empty) k tt) (one (raise Empty)) refl near (omega arith)
+
   default-fits : (es : Terms) (j c : Term) → Passes (codes es) → Passes (code j) → Passes (code c) → size (default es j c) < 65536
       → Passes (code (default es j c))
   unfolding code size
-  default-fits none j c p q r near k =
-      branches j c (λ k. 32 ∷ k) 1 q r (λ k. next (raise Empty) k tt) (one (raise Empty)) refl (omega arith) (omega arith) k
+  default-fits none j c p q r near k = tail-fits j c q r (omega arith) k
   default-fits (also e es) j c p q r near k =
       let d = tailSize j c in
-      let rest : Passes (tail j c) = branches j c (λ k. 32 ∷ k) 1 q r (λ k. next (raise Empty) k tt) (one (raise Empty)) refl (omega arith) (omega arith) in
       next pushNothing (codes (also e es) (far 40 d (tail j c k))) tt
       ∙ p (far 40 d (tail j c k))
-      ∙ next (settle d) (tail j c k)
-      (omega arith, lands-code (default none j c) k d 0 (omega arith) (lands-here k))
-      ∙ rest k
+      ∙ next (settle d) (tail j c k) (omega arith, lands-code (default none j c) k d 0 (omega arith) (lands-here k))
+      ∙ tail-fits j c q r (omega arith) k
 
   mutual
     unfolding code size Typed

@@ -23,6 +23,7 @@ use Rattle.book.specs.declared.ValueType.the-variants.{YesNo, Numeric}
 use Rattle.book.specs.declared.Variable.{Variable}
 use Rattle.translation.specs.Code.{far, size, code, codes}
 use Rattle.translation.specs.Blocks.{variableCode, overridesCode, callCode, stepCode, stepsCode, typeByte, variablesCode, subScopesCode, blockCode, blocksCode, codeOf}
+use Rattle.translation.proofs.Sizes.{tail, tailSize}
 use Rattle.machine.specs.Blocks.{Block, Parsed, inFront, parse, blocksOf}
 use Rattle.agreement.specs.Compiled.{compiledBlock, compiledIn, compiled}
 use Rattle.agreement.proofs.Sequences as ops
@@ -41,13 +42,13 @@ unfolding code
 literal-sequence (Truth b) = one (truth b)
 literal-sequence (Number z) = one (number z)
 
+tail-sequence : (j c : Term) → Sequence (code j) → Sequence (code c) → Sequence (tail j c)
+tail-sequence j c s t = branches (size c + 3) 1 s t (one (raise Empty))
+
 default-sequence : (es : Terms) (j c : Term) → Sequence (codes es) → Sequence (code j) → Sequence (code c) → Sequence (code (default es j c))
 unfolding code
-default-sequence none j c s t u = branches (size c + 3) 1 t u (one (raise Empty))
-default-sequence (also e es) j c s t u =
-    more pushNothing
-    (followed s
-    (more (settle (size j + 3 + (size c + 3) + 1)) (branches (size c + 3) 1 t u (one (raise Empty)))))
+default-sequence none j c s t u = tail-sequence j c t u
+default-sequence (also e es) j c s t u = more pushNothing (followed s (more (settle (tailSize j c)) (tail-sequence j c t u)))
 
 mutual
   unfolding code

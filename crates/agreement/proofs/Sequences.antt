@@ -1,8 +1,8 @@
 -- Sequences of whole instructions in front of other bytes.
---     Whole               a kind of instruction with as many bytes as it takes, none of them invalid
+--     Whole               a record with as many bytes as its kind takes, none of them invalid
 --     Written             the instructions that the translation writes; written-whole: they are whole
 --     Sequence            what puts such instructions in front of other bytes
---     one, followed, either   one instruction; two sequences one after the other; one of two
+--     one, followed, either    one instruction; two sequences one after the other; one of two
 --     parse-sequence      parsed, a sequence belongs to the body of the block begun before it
 --     lands-sequence      a distance passes over a sequence to what follows it
 --     fits-whole          whether an instruction and those after it fit
