@@ -1,1 +1,69 @@
--- Examples.
+-- Examples, in one table: what running code answers, and what is expected; and the code of the paper's book.
+use Prim.Native.Nat.{ℕ}
+use mathlib.Core.Path.{_≡_, refl}
+use mathlib.Core.List.{List, [], _∷_}
+use Rattle.record.specs.Kinds.{shapeIn, shapesOf, kinds}
+use Rattle.record.specs.Bytes.{bigEndian, bytesOf, numberAt, numberBytes}
+use Rattle.order.specs.Order.{unmet, ready, next, among, taken, order}
+use Rattle.order.specs.Search.{lowestFrom, lowest, none}
+use Rattle.book.specs.Lists.{any, anyFrom}
+use Rattle.book.specs.Syntax.{nodeOf, clauseOf}
+use Rattle.book.specs.Records as records
+use Rattle.book.specs.Records.{recordsFrom, follows, invalid}
+use Rattle.book.specs.Decode as decode
+use Rattle.book.specs.Decode.{scopesOf}
+use Rattle.book.specs.Trees.{termBelow, termOf, select, clauseTerms, bases, hasRule, tree}
+use Rattle.book.specs.Scopes.{calls, blocks, sum}
+use Rattle.book.specs.Steps.{stepCount, reads, readsAny, stepOf, clauseReads, dependsOn, stepOrder}
+use Rattle.lists.specs.Inputs.{badRecord, inputsFrom, inputs}
+use Rattle.lists.specs.Results.{resultLength, resultsFrom, results}
+use Rattle.calculus.specs.declared.Cause.the-variants.{Empty}
+use Rattle.evaluation.specs.Evaluate.{Reply}
+use Rattle.evaluation.specs.declared.Answer.the-variants.{Values, Ended}
+use Rattle.translation.specs.Code.{size, sizes, code, codes}
+use Rattle.translation.specs.Blocks.{variableCode, overridesCode, callCode, stepCode, stepsCode, variablesCode, subScopesCode, blockCode, blocksCode, codeOf}
+use Rattle.machine.specs.Instructions.{instructionOf}
+use Rattle.machine.specs.Blocks.{inFront, parse, blocksOf, hasBlock, variablesOf}
+use Rattle.machine.specs.Acceptance.{counted, faulty, sound, lands, fits, allFit, weightIn, wellFormed, allWellFormed, accepted}
+use Rattle.machine.specs.Machine.{raised, effect}
+use Rattle.machine.specs.Run.{exec, runIn}
+use Rattle.machine.specs.Service.{asked, run}
+
+abbrev pub paperBook : List ℕ
+paperBook =
+    1 ∷ 2 ∷ 2 ∷ 2 ∷ 1 ∷ 5 ∷ 0 ∷ 69 ∷ 147 ∷ 192 ∷ 6 ∷ 1 ∷ 5 ∷ 0 ∷ 34 ∷ 201 ∷ 224 ∷ 19 ∷ 255 ∷ 0 ∷ 255 ∷ 255 ∷ 0 ∷ 19 ∷ 255 ∷ 0 ∷ 0 ∷ 1 ∷ 2 ∷ []
+
+-- "Book, hexadecimal, 29 bytes", as code
+pub paper-code : codeOf (scopesOf paperBook)
+    ≡ 1 ∷ 0 ∷ 2 ∷ 2 ∷ 2 ∷ 1 ∷ 44 ∷ 1 ∷ 0 ∷ 3 ∷ 32 ∷ 41 ∷ 1 ∷ 44 ∷ 0 ∷ 0 ∷ 43 ∷ 38 ∷ 36 ∷ 0 ∷ 18 ∷ 6 ∷ 1 ∷ 35 ∷ 0 ∷ 8 ∷ 5 ∷ 0 ∷ 34 ∷ 201 ∷ 224 ∷ 34 ∷ 0 ∷ 1 ∷ 32 ∷ 37 ∷ 34 ∷ 0 ∷ 1 ∷ 38 ∷ 39 ∷ 40 ∷ 0 ∷ 14 ∷ 4 ∷ 1 ∷ 35 ∷ 0 ∷ 8 ∷ 5 ∷ 0 ∷ 69 ∷ 147 ∷ 192 ∷ 34 ∷ 0 ∷ 1 ∷ 32 ∷ 41 ∷ 0 ∷ []
+unfolding run asked accepted allWellFormed wellFormed weightIn sum hasBlock any variablesOf blocksOf parse inFront allFit fits lands sound faulty counted follows invalid instructionOf shapeIn shapesOf kinds exec effect runIn raised inputs inputsFrom badRecord resultLength results resultsFrom numberAt numberBytes bigEndian bytesOf codeOf blocksCode blockCode subScopesCode variablesCode stepsCode stepCode callCode overridesCode variableCode code codes size sizes scopesOf decode.parse decode.inFront records.records recordsFrom records.counted nodeOf clauseOf termBelow termOf select clauseTerms bases hasRule tree blocks calls among order taken next ready unmet lowest lowestFrom none stepOrder stepCount dependsOn clauseReads stepOf reads readsAny
+paper-code = refl
+
+-- what a run answers and writes, and what it is to answer and write
+pub data Row : Type 0 where
+  row : Reply → Reply → Row
+
+abbrev pub examples : List Row
+examples =
+    -- the paper's book of 29 bytes, with variable 1 given
+    row (run (codeOf (scopesOf paperBook)) 0 (1 ∷ 1 ∷ 1 ∷ []) 9) (record { answer = Values 1 9; written = (2 ∷ 0 ∷ 0 ∷ 34 ∷ 201 ∷ 224 ∷ 1 ∷ 1 ∷ 1 ∷ []) })
+    -- without inputs
+    ∷ row (run (codeOf (scopesOf paperBook)) 0 [] 9) (record { answer = Ended Empty 1; written = [] })
+    -- a sub-scope's variable overridden
+    ∷ row (run (codeOf (scopesOf (1 ∷ 2 ∷ 2 ∷ 5 ∷ 0 ∷ 0 ∷ 0 ∷ 7 ∷ 19 ∷ 255 ∷ 0 ∷ 255 ∷ 255 ∷ 0 ∷ 1 ∷ 2 ∷ 2 ∷ 3 ∷ 0 ∷ 5 ∷ 0 ∷ 0 ∷ 0 ∷ 9 ∷ 7 ∷ 0 ∷ 0 ∷ 19 ∷ 0 ∷ 0 ∷ 255 ∷ 255 ∷ 0 ∷ 19 ∷ 255 ∷ 0 ∷ 255 ∷ 255 ∷ 1 ∷ []))) 1 [] 6) (record { answer = Values 2 6; written = (2 ∷ 0 ∷ 0 ∷ 0 ∷ 0 ∷ 9 ∷ []) })
+    -- an exception to an exception
+    ∷ row (run (codeOf (scopesOf (1 ∷ 2 ∷ 2 ∷ 5 ∷ 0 ∷ 0 ∷ 0 ∷ 1 ∷ 4 ∷ 1 ∷ 5 ∷ 0 ∷ 0 ∷ 0 ∷ 2 ∷ 4 ∷ 1 ∷ 5 ∷ 0 ∷ 0 ∷ 0 ∷ 3 ∷ 19 ∷ 255 ∷ 0 ∷ 255 ∷ 255 ∷ 0 ∷ 19 ∷ 255 ∷ 0 ∷ 0 ∷ 1 ∷ 2 ∷ 19 ∷ 255 ∷ 0 ∷ 1 ∷ 3 ∷ 4 ∷ []))) 0 [] 6) (record { answer = Values 1 6; written = (2 ∷ 0 ∷ 0 ∷ 0 ∷ 0 ∷ 3 ∷ []) })
+    ∷ []
+
+abbrev pub answers : List Row → List Reply
+answers [] = []
+answers (row a b ∷ rows) = a ∷ answers rows
+
+abbrev pub expected : List Row → List Reply
+expected [] = []
+expected (row a b ∷ rows) = b ∷ expected rows
+
+-- every example answers what it is to answer
+pub examples-hold : answers examples ≡ expected examples
+unfolding run asked accepted allWellFormed wellFormed weightIn sum hasBlock any variablesOf blocksOf parse inFront allFit fits lands sound faulty counted follows invalid instructionOf shapeIn shapesOf kinds exec effect runIn raised inputs inputsFrom badRecord resultLength results resultsFrom numberAt numberBytes bigEndian bytesOf codeOf blocksCode blockCode subScopesCode variablesCode stepsCode stepCode callCode overridesCode variableCode code codes size sizes scopesOf decode.parse decode.inFront records.records recordsFrom records.counted nodeOf clauseOf termBelow termOf select clauseTerms bases hasRule tree blocks calls among order taken next ready unmet lowest lowestFrom none stepOrder stepCount dependsOn clauseReads stepOf reads readsAny
+examples-hold = refl

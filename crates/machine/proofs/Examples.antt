@@ -13,7 +13,7 @@ use Rattle.book.specs.Scopes.{sum}
 use Rattle.lists.specs.Inputs.{badRecord, inputsFrom, inputs}
 use Rattle.lists.specs.Results.{resultLength, resultsFrom, results}
 use Rattle.evaluation.specs.Evaluate.{Reply, refuse}
-use Rattle.evaluation.specs.declared.Refusal.the-variants.{NoSuchScope, BadCode, Stuck}
+use Rattle.evaluation.specs.declared.Refusal.the-variants.{NoSuchScope, Stuck}
 use Rattle.evaluation.specs.declared.Answer.the-variants.{Values, Ended}
 use Rattle.machine.specs.Instructions.{instructionOf}
 use Rattle.machine.specs.Blocks.{inFront, parse, blocksOf, hasBlock, variablesOf}
@@ -38,18 +38,10 @@ pub data Row : Type 0 where
 
 abbrev pub runs : List Row
 runs =
-    -- a kind unknown in code
-    row (asking (1 ∷ 0 ∷ 8 ∷ 1 ∷ []) 0 []) (refuse BadCode)
     -- a scope without variables, by a number of its own
-    ∷ row (asking (1 ∷ 7 ∷ []) 7 []) (gives 1 [])
-    -- a sub-scope without an earlier block
-    ∷ row (asking (1 ∷ 0 ∷ 3 ∷ 0 ∷ []) 0 []) (refuse BadCode)
+    row (asking (1 ∷ 7 ∷ []) 7 []) (gives 1 [])
     -- empty code has no scope
     ∷ row (asking [] 0 []) (refuse NoSuchScope)
-    -- a distance past the end
-    ∷ row (asking (1 ∷ 0 ∷ 33 ∷ 34 ∷ 0 ∷ 5 ∷ []) 0 []) (refuse BadCode)
-    -- a distance into the next block
-    ∷ row (asking (1 ∷ 0 ∷ 34 ∷ 0 ∷ 2 ∷ 1 ∷ 1 ∷ 33 ∷ []) 0 []) (refuse BadCode)
     -- an empty lands at the block's end
     ∷ row (asking (1 ∷ 0 ∷ 36 ∷ 0 ∷ 1 ∷ 32 ∷ []) 0 []) (gives 1 [])
     -- conflict ends the run
@@ -104,14 +96,6 @@ runs =
     ∷ row (asking (1 ∷ 0 ∷ 2 ∷ 1 ∷ []) 0 []) (refuse Stuck)
     -- a block's end with a sub-scope not entered
     ∷ row (asking (1 ∷ 0 ∷ 1 ∷ 1 ∷ 3 ∷ 0 ∷ []) 1 []) (refuse Stuck)
-    -- a distance into the body of an instruction
-    ∷ row (asking (1 ∷ 0 ∷ 34 ∷ 0 ∷ 1 ∷ 4 ∷ 1 ∷ []) 0 []) (refuse BadCode)
-    -- a repeated scope
-    ∷ row (asking (1 ∷ 0 ∷ 1 ∷ 0 ∷ []) 0 []) (refuse BadCode)
-    -- a scope above 31
-    ∷ row (asking (1 ∷ 32 ∷ []) 32 []) (refuse BadCode)
-    -- a variable that the block does not have
-    ∷ row (asking (1 ∷ 0 ∷ 6 ∷ 0 ∷ []) 0 []) (refuse BadCode)
     ∷ []
 
 abbrev pub answers : List Row → List Reply
