@@ -104,7 +104,9 @@ module _ (env : Surroundings) (m : Memory) where
     ranged-answers : (z : ℤ) → follow (answered (ranged z) st ts m) (exec env k) ≡ resume (ranged z) k st ts
     ranged-answers z = go (ltZ z lowest || ltZ highest z)
       where
-        go : (b : Bool) → follow (answered (cond b (Ends OutOfRange) (Gives (Number z))) st ts m) (exec env k) ≡ resume (cond b (Ends OutOfRange) (Gives (Number z))) k st ts
+        go : (b : Bool)
+            → follow (answered (cond b (Ends OutOfRange) (Gives (Number z))) st ts m) (exec env k)
+            ≡ resume (cond b (Ends OutOfRange) (Gives (Number z))) k st ts
         go true = refl
         go false = refl
 
@@ -127,7 +129,7 @@ module _ (env : Surroundings) (m : Memory) where
         → resume y (binaryKind op ∷ k) (One v ∷ st) ts ≡ resume (binaryOn op (Gives v) y) k st ts
     right-case op u v (Gives w) p q = binary-runs env m k st ts op u v w p q ∙ binary-answers op v w
     right-case op u v (Ends c) p q =
-        raise-drops env m c (binaryKind op ∷ k) (One v) st ts (open-mono (length k) (suc (length k)) (length st) (length st) ts (omega arith) (omega arith) o)
+        raise-drops env m c (binaryKind op ∷ k) (One v) st ts (open-mono (length k) _ (length st) _ ts (omega arith) (omega arith) o)
         ∙ raise-behind c (behind-one (binaryKind op) k)
 
     -- the bytes ys are the code of the right operand, and of the operator
@@ -223,8 +225,8 @@ module _ (env : Surroundings) (m : Memory) where
     mutual
       unfolding code eval Typed leaves defaults size Sayable bytesOf
 
-      pub run-code : (t : Term) (u : ValueType) (k : List ℕ) (st : List Joined) (ts : List Try) → Typed (OwnMeets e m) (CalledMeets e m) t u → Sayable t
-          → Open (length k) (length st) ts → Room (size t) (leaves t) (defaults t) st ts
+      pub run-code : (t : Term) (u : ValueType) (k : List ℕ) (st : List Joined) (ts : List Try)
+          → Typed (OwnMeets e m) (CalledMeets e m) t u → Sayable t → Open (length k) (length st) ts → Room (size t) (leaves t) (defaults t) st ts
           → exec env (code t k) 0 st ts m ≡ resume (eval e t) k st ts
       run-code (literal v) u k st ts h s o r = literal-runs env m k st ts v s (omega arith)
       run-code (own x) u k st ts h s o r = own-runs env m k st ts x (e .own x) (h .0) (omega arith)

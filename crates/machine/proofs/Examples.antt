@@ -71,7 +71,8 @@ runs =
     -- subtract takes the right operand from the top
     ∷ row (asking (1 ∷ 0 ∷ 2 ∷ 2 ∷ 5 ∷ 0 ∷ 0 ∷ 0 ∷ 5 ∷ 5 ∷ 0 ∷ 0 ∷ 0 ∷ 2 ∷ 14 ∷ 41 ∷ 0 ∷ []) 0 []) (gives 1 (2 ∷ 0 ∷ 0 ∷ 0 ∷ 0 ∷ 3 ∷ []))
     -- negate, add, less, not, and, equal
-    ∷ row (asking (1 ∷ 0 ∷ 2 ∷ 1 ∷ 5 ∷ 0 ∷ 0 ∷ 0 ∷ 1 ∷ 11 ∷ 5 ∷ 0 ∷ 0 ∷ 0 ∷ 1 ∷ 13 ∷ 5 ∷ 0 ∷ 0 ∷ 0 ∷ 1 ∷ 16 ∷ 10 ∷ 4 ∷ 0 ∷ 12 ∷ 4 ∷ 0 ∷ 15 ∷ 41 ∷ 0 ∷ []) 0 []) (gives 1 (1 ∷ 0 ∷ 1 ∷ []))
+    ∷ row (asking (1 ∷ 0 ∷ 2 ∷ 1 ∷ 5 ∷ 0 ∷ 0 ∷ 0 ∷ 1 ∷ 11 ∷ 5 ∷ 0 ∷ 0 ∷ 0 ∷ 1 ∷ 13 ∷ 5 ∷ 0 ∷ 0 ∷ 0 ∷ 1 ∷ 16 ∷ 10 ∷ 4 ∷ 0 ∷ 12 ∷ 4 ∷ 0 ∷ 15
+    ∷ 41 ∷ 0 ∷ []) 0 []) (gives 1 (1 ∷ 0 ∷ 1 ∷ []))
     -- out of range ends the run
     ∷ row (asking (1 ∷ 0 ∷ 2 ∷ 2 ∷ 5 ∷ 127 ∷ 255 ∷ 255 ∷ 255 ∷ 5 ∷ 0 ∷ 0 ∷ 0 ∷ 1 ∷ 13 ∷ 41 ∷ 0 ∷ []) 0 []) (ends OutOfRange 1)
     -- no jumps
