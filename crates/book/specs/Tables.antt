@@ -3,7 +3,7 @@ use Prim.Native.Nat.{ℕ, _+_, _*_, _<_}
 use mathlib.Core.Path.{_≡_}
 use mathlib.Core.Bool.{cond, _&&_}
 use mathlib.Core.List.{List}
-use lib.ListN.{length, getD}
+use lib.ListN.{length, getD, drop}
 use lib.Dec.{ltb}
 use Rattle.record.specs.Record.{bodyAt}
 use Rattle.record.specs.declared.Medium.the-variants.{Book}
@@ -36,18 +36,18 @@ countAt counts i sort = cond (ltb i 32 && ltb sort 4) (getD counts (i * 4 + sort
 unfoldable pub placeAt : List ℕ → ℕ → ℕ → ℕ
 placeAt places i k = cond (ltb i 32 && ltb k 418) (getD places (i * 418 + k) 0) 0
 
--- what the record that begins at a position is
+-- what the record that begins at a position is; a sub-scope, a node or a clause looks at no byte past its body
 unfoldable pub variableFrom : List ℕ → ℕ → Variable
 variableFrom bytes at = variableOf (bodyAt Book bytes at)
 
 unfoldable pub subScopeFrom : List ℕ → ℕ → ℕ
-subScopeFrom bytes at = getD (bodyAt Book bytes at) 0 0
+subScopeFrom bytes at = getD (drop (at + 1) bytes) 0 0
 
 unfoldable pub nodeFrom : List ℕ → ℕ → Node
-nodeFrom bytes at = nodeOf (getD bytes at 0) (bodyAt Book bytes at)
+nodeFrom bytes at = nodeOf (getD bytes at 0) (drop (at + 1) bytes)
 
 unfoldable pub clauseFrom : List ℕ → ℕ → Clause
-clauseFrom bytes at = clauseOf (getD bytes at 0) (bodyAt Book bytes at)
+clauseFrom bytes at = clauseOf (getD bytes at 0) (drop (at + 1) bytes)
 
 -- the records of one sort of scope i, whose places begin at a base
 abbrev pub Placed : {A : Type 0} → (List ℕ → ℕ → A) → List ℕ → List ℕ → ℕ → ℕ → List A → Type 0

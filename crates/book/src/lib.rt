@@ -5,6 +5,7 @@ use record::Medium;
 use record::body_at;
 use record::byte_at;
 use record::number_at;
+use record::rest_after;
 ghost use mathlib.Core.Path.{_≡_};
 ghost use Prim.Native.Nat.{_+_};
 ghost use lib.ListN.{length};
@@ -246,7 +247,7 @@ pub fn sub_scope_at(book: &[u8], places: &[u16], counts: &[u8], i: usize, k: usi
     ensures { λ r. ⌜ r ≡ subScopeAt (scopesOf (now (book .entry))) i k ⌝ }
 {
     if k < count_at(counts, i, 1) {
-        let body = body_at(Medium::Book, book, place_at(places, i, 32, k));
+        let body = rest_after(book, place_at(places, i, 32, k));
         byte_at(body, 0) as usize
     } else {
         0
@@ -260,7 +261,7 @@ pub fn node_at(book: &[u8], places: &[u16], counts: &[u8], i: usize, n: usize) -
 {
     if n < count_at(counts, i, 2) {
         let at = place_at(places, i, 40, n);
-        let body = body_at(Medium::Book, book, at);
+        let body = rest_after(book, at);
         node_of(byte_at(book, at), body)
     } else {
         Node::Constant(false)
@@ -274,7 +275,7 @@ pub fn clause_at(book: &[u8], places: &[u16], counts: &[u8], i: usize, c: usize)
 {
     if c < count_at(counts, i, 3) {
         let at = place_at(places, i, 290, c);
-        let body = body_at(Medium::Book, book, at);
+        let body = rest_after(book, at);
         clause_of(byte_at(book, at), body)
     } else {
         let target = Target {

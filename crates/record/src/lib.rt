@@ -109,6 +109,16 @@ pub fn part_of(s: &[u8], start: usize, length: usize) -> &[u8]
     &s[start..start + length]
 }
 
+// All of s after a position; nothing past the end.
+pub fn rest_after(s: &[u8], at: usize) -> &[u8]
+    ensures { λ r. ⌜ now r ≡ drop (at + 1) (now (s .entry)) ⌝ }
+{
+    if s.len() <= at {
+        return &s[..0];
+    }
+    &s[at + 1..]
+}
+
 // The body of the record at a position, as a part of s; nothing where there is no whole record.
 pub fn body_at(medium: Medium, s: &[u8], at: usize) -> &[u8]
     ensures { λ r. ⌜ now r ≡ bodyAt medium (now (s .entry)) at ⌝ }

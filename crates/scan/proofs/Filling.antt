@@ -26,7 +26,8 @@ use Rattle.scan.specs.Step.{metAt, InLimits}
 use Rattle.scan.specs.Filling.{slotOf, storedPlaces, storedCounts, Room, Stored, Ready, Filled}
 use Rattle.scan.proofs.Steps.{Clean, Read, sounds, room, within, records-at, records-head, start-in-limits}
 use Rattle.scan.proofs.Sorts.{Sort, variable, subScope, node, clause, number, stage, base, limit, count, Item, itemsOf, from, Staged, begins, has, staged, base-below, limit-below, stage-two, count-in-limits, scopes-new, scopes-turn, count-turn, begun, scopes-behind}
-use Rattle.scan.proofs.Positions.{stage-below, item-here}
+use Rattle.scan.proofs.Bodies.{stage-below}
+use Rattle.scan.proofs.Positions.{item-here}
 use Rattle.scan.proofs.Limits.{items-within}
 use Rattle.scan.proofs.Laying.{Parts, parts-start, parts-new, parts-turn, count-end, placed-end}
 
@@ -260,7 +261,7 @@ module _ (bytes places counts : List ℕ) (t : Tally) (at : ℕ) (f : Filling by
         few = f .few;
         parts =
             parts-turn bytes (scopesOf bytes) places counts at t mm p s e1
-            (item-here bytes at t here (clean bytes places counts t at f here) s)
+            (item-here bytes at t here (clean bytes places counts t at f here) s e1)
             (t .scopes - 1) (omega arith) (omega arith) (less-than-limit s t w) (f .placesLength) (f .countsLength) (f .few) (rw q at (f .parts));
         total = omega arith;
       })

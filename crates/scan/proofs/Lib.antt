@@ -1,6 +1,7 @@
 mod Steps
 mod Sorts
 mod Cells
+mod Bodies
 mod Positions
 pub mod Limits
 mod Laying

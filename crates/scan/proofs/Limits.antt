@@ -23,7 +23,7 @@ use Rattle.scan.specs.Step.{InLimits}
 use Rattle.book.specs.Limits.{Within}
 use Rattle.scan.proofs.Steps.{Clean, sounds, in-limits, start-in-limits}
 use Rattle.scan.proofs.Sorts.{Sort, variable, subScope, node, clause, number, stage, limit, count, itemsOf, item, Staged, begins, has, staged, count-in-limits, scopes-new, scopes-turn, count-turn, items-none, begun, scopes-behind, items-turn}
-use Rattle.scan.proofs.Positions.{stage-below}
+use Rattle.scan.proofs.Bodies.{stage-below}
 
 -- what is still to be read, after what was counted, keeps within the limits
 record Fits (t : Tally) (p : Parsed) : Type 0 where

@@ -1,13 +1,12 @@
 -- Records by their positions.
---     stage-below    every kind has a stage of at most 5
 --     body-here      the body of a whole record stands at its position
 --     item-here      so what is read there is what the record says
 -- Assumes nothing.
 use Prim.Native.Nat.{ℕ, zero, suc, _+_, _-_, _≤_, _<_}
-use mathlib.Core.Path.{_≡_, refl}
+use mathlib.Core.Path.{_≡_, refl, sym}
 use mathlib.Core.Bool.{Bool, true, false, _&&_}
 use mathlib.Core.List.{List, [], _∷_}
-use lib.ListN.{length, getD, length-drop}
+use lib.ListN.{length, getD, drop, length-drop}
 use lib.Dec.{T, leb, leb→le, ltb}
 use borrow.Author.Tests.{lt-ltb}
 use Rattle.record.proofs.Decision.{and-l, and-r}
@@ -15,26 +14,12 @@ use Rattle.record.specs.Kinds.{kinds, shapesOf, pickShape, shapeIn}
 use Rattle.record.specs.Record.{recordAt, bodyAt}
 use Rattle.record.specs.declared.Medium.the-variants.{Book}
 use Rattle.book.specs.declared.Tally.{Tally}
-use Rattle.book.specs.Records.{bodyOf}
+use Rattle.book.specs.Records.{bodyOf, stageOf}
 use Rattle.book.specs.Tables.{variableFrom, subScopeFrom, nodeFrom, clauseFrom}
 use Rattle.scan.specs.Step.{metAt}
 use Rattle.scan.proofs.Steps.{Clean}
-use Rattle.scan.proofs.Sorts.{Sort, variable, subScope, node, clause, item, from}
-
--- every element of a list, and what stands past its end, has p
-every : {A : Type 0} → (A → Bool) → List A → Bool
-every p [] = true
-every p (x ∷ xs) = p x && every p xs
-
-at-every : {A : Type 0} (p : A → Bool) (xs : List A) (d : A) → T (every p xs) → T (p d) → (k : ℕ) → T (p (getD xs k d))
-unfolding every
-at-every p [] d h e k = e
-at-every p (x ∷ xs) d h e zero = and-l (p x) (every p xs) h
-at-every p (x ∷ xs) d h e (suc k) = at-every p xs d (and-r (p x) (every p xs) h) e k
-
-pub stage-below : (k : ℕ) → shapeIn Book k .stage ≤ 5
-unfolding shapeIn shapesOf kinds every
-stage-below k = leb→le (shapeIn Book k .stage) 5 (at-every (λ s. leb (pickShape Book s .stage) 5) kinds _ tt tt k)
+use Rattle.scan.proofs.Bodies.{sub-body, node-body, clause-body}
+use Rattle.scan.proofs.Sorts.{Sort, variable, subScope, node, clause, stage, item, from}
 
 module _ (bytes : List ℕ) (at : ℕ) (t : Tally) (inside : at < length bytes) (clean : Clean (metAt bytes at t)) where
   body-here : bodyAt Book bytes at ≡ bodyOf (metAt bytes at t)
@@ -47,9 +32,9 @@ module _ (bytes : List ℕ) (at : ℕ) (t : Tally) (inside : at < length bytes) 
   unfolding metAt
   kind-here = refl
 
-  pub item-here : (s : Sort) → from s bytes at ≡ item s (metAt bytes at t)
-  unfolding variableFrom subScopeFrom nodeFrom clauseFrom
-  item-here variable = rw body-here
-  item-here subScope = rw body-here
-  item-here node = rw (body-here, kind-here)
-  item-here clause = rw (body-here, kind-here)
+  pub item-here : (s : Sort) → stageOf (metAt bytes at t) ≡ stage s → from s bytes at ≡ item s (metAt bytes at t)
+  unfolding variableFrom subScopeFrom nodeFrom clauseFrom metAt
+  item-here variable e = rw body-here
+  item-here subScope e = sym (sub-body (getD bytes at 0) (drop (at + 1) bytes) e)
+  item-here node e = sym (node-body (drop (at + 1) bytes) (getD bytes at 0) e)
+  item-here clause e = sym (clause-body (getD bytes at 0) (drop (at + 1) bytes) e)

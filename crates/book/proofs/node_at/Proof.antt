@@ -18,8 +18,8 @@ count-at-requires c κs = search needs
 place-at-requires : tie.Need-place-at-requires
 place-at-requires c κs = search needs
 
-body-at-requires : tie.Need-body-at-requires
-body-at-requires c κs = search needs
+rest-after-requires : tie.Need-rest-after-requires
+rest-after-requires c κs = search needs
 
 byte-at-requires : tie.Need-byte-at-requires
 byte-at-requires c κs = search needs
@@ -34,7 +34,7 @@ returns c =
     let i = c .before .before .before .before .before .before .before .before .before .args .i in
     let n = c .before .before .before .before .before .before .before .before .before .args .n in
     let few : n < length (scopeAt (scopesOf (now (c .before .before .before .before .before .before .before .before .before .args .book))) i .nodes) = rw (← laid .nodeCount i, ← c .before .before .before .before .before .count-at .ensures) (c .before .before .before .before .if1 .taken) in
-    rw (c .node-of .ensures, c .before .byte-at .ensures, c .before .before .body-at .ensures, c .before .before .before .place-at .ensures) (laid .nodes i n noNode few)
+    rw (c .node-of .ensures, c .before .byte-at .ensures, c .before .before .rest-after .ensures, c .before .before .before .place-at .ensures) (laid .nodes i n noNode few)
 
 returns-2 : tie.Need-returns-2
 unfolding nodeAt
@@ -51,7 +51,7 @@ node-at-spec =
     (tie.spec
     count-at-requires
     place-at-requires
-    body-at-requires
+    rest-after-requires
     byte-at-requires
     node-of-requires
     returns

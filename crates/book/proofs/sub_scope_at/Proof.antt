@@ -17,8 +17,8 @@ count-at-requires c κs = search needs
 place-at-requires : tie.Need-place-at-requires
 place-at-requires c κs = search needs
 
-body-at-requires : tie.Need-body-at-requires
-body-at-requires c κs = search needs
+rest-after-requires : tie.Need-rest-after-requires
+rest-after-requires c κs = search needs
 
 byte-at-requires : tie.Need-byte-at-requires
 byte-at-requires c κs = search needs
@@ -33,7 +33,7 @@ returns c =
     let i = c .before .before .before .before .before .before .before .before .args .i in
     let n = c .before .before .before .before .before .before .before .before .args .k in
     let few : n < length (scopeAt (scopesOf (now (c .before .before .before .before .before .before .before .before .args .book))) i .subScopes) = rw (← laid .subScopeCount i, ← c .before .before .before .before .count-at .ensures) (c .before .before .before .if1 .taken) in
-    rw (c .byte-at .ensures, c .before .body-at .ensures, c .before .before .place-at .ensures) (laid .subScopes i n (0) few)
+    rw (c .byte-at .ensures, c .before .rest-after .ensures, c .before .before .place-at .ensures) (laid .subScopes i n (0) few)
 
 returns-2 : tie.Need-returns-2
 unfolding subScopeAt
@@ -50,7 +50,7 @@ sub-scope-at-spec =
     (tie.spec
     count-at-requires
     place-at-requires
-    body-at-requires
+    rest-after-requires
     byte-at-requires
     cast-result
     returns
