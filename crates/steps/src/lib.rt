@@ -210,7 +210,10 @@ fn mark_reads(
     let operands = operands_of(node);
     let mut k: usize = 0;
     while k < 5 {
-        mark_reads(book, places, counts, i, row, at, operands[k], deps);
+        let operand = operands[k];
+        if (operand as usize) < at {
+            mark_reads(book, places, counts, i, row, at, operand, deps);
+        }
         k += 1;
     }
 }

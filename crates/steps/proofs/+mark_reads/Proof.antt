@@ -2,6 +2,7 @@
 -- Assumes nothing.
 use Prim.Native.Nat.{ℕ, _<_, _≤_, _-_}
 use mathlib.Core.Path.{_∙_}
+use mathlib.Core.Logic.{⊎-elim}
 use native.Mathlib.Omega.{arith}
 use Rattle.book.specs.Decode.{scopesOf}
 use Rattle.steps.proofs.Marking.{Marking}
@@ -65,13 +66,16 @@ mark-reads-operands-of-requires t c κs = search needs
 mark-reads-loop-holds : (t : ℕ) → mark-reads-lts.Need-loop-holds (R-mark-reads t) (mark-reads-at t) mark-reads.Post mark-reads-Inv-loop mark-reads-μ-loop
 mark-reads-loop-holds t c = (omega arith, operands-start _ _ _ _ _ _)
 
-mark-reads-array-read-mark-reads : (t : ℕ) → mark-reads-lts.Need-array-read-mark-reads (R-mark-reads t) (mark-reads-at t) mark-reads.Post mark-reads-Inv-loop mark-reads-μ-loop
-mark-reads-array-read-mark-reads t c = omega arith
+mark-reads-array-read-operand : (t : ℕ) → mark-reads-lts.Need-array-read-operand (R-mark-reads t) (mark-reads-at t) mark-reads.Post mark-reads-Inv-loop mark-reads-μ-loop
+mark-reads-array-read-operand t c = omega arith
+
+mark-reads-cast-if2 : (t : ℕ) → mark-reads-lts.Need-cast-if2 (R-mark-reads t) (mark-reads-at t) mark-reads.Post mark-reads-Inv-loop mark-reads-μ-loop
+mark-reads-cast-if2 t c = search needs
 
 mark-reads-mark-reads-requires : (t : ℕ) → mark-reads-lts.Need-mark-reads-requires (R-mark-reads t) (mark-reads-at t) mark-reads.Post mark-reads-Inv-loop mark-reads-μ-loop
 mark-reads-mark-reads-requires t c κs =
-    let s = c .before .before .before .before .before .before .before .before .before .before .before .before .before .before .before .before in
-    (omega arith, record { tables = s .pre .1 .tables; below = omega (arith, s .pre .1 .below); size = omega (arith, s .pre .1 .size, c .before .before .before .before .before .before .mark .ensures .long, c .before .before .loop .inv .1 .long) })
+    let s = c .before .before .before .before .before .before .before .before .before .before .before .before .before .before .before .before .before in
+    (omega arith, record { tables = s .pre .1 .tables; below = omega (arith, s .pre .1 .below); size = omega (arith, s .pre .1 .size, c .before .before .before .before .before .before .before .mark .ensures .long, c .before .before .before .loop .inv .1 .long) })
 
 mark-reads-add-k : (t : ℕ) → mark-reads-lts.Need-add-k (R-mark-reads t) (mark-reads-at t) mark-reads.Post mark-reads-Inv-loop mark-reads-μ-loop
 mark-reads-add-k t c = omega arith
@@ -81,8 +85,14 @@ mark-reads-loop-less t c = omega arith
 
 mark-reads-loop-again : (t : ℕ) → mark-reads-lts.Need-loop-again (R-mark-reads t) (mark-reads-at t) mark-reads.Post mark-reads-Inv-loop mark-reads-μ-loop
 mark-reads-loop-again t c =
-    let m = c .before .before .before .before in
-    (omega arith, operands-turn _ _ _ _ _ _ _ _ (m .before .loop .inv .1) _ (m .before .before .operands-of .ensures) (m .loop-test .taken) _ (c .before .before .mark-reads .ensures))
+    let m = c .before in
+    (
+      omega arith,
+      ⊎-elim
+      (λ a. rw (a .5) (operands-turn _ _ _ _ _ _ _ _ (m .before .loop .inv .1) _ (m .before .before .operands-of .ensures) (m .loop-test .taken) _ (a .2 .ensures)))
+      (λ a. rw (a .1) (operands-turn _ _ _ _ _ _ _ _ (m .before .loop .inv .1) _ (m .before .before .operands-of .ensures) (m .loop-test .taken) _ (read-none _ _ _ _ _ _ (a .0 .left))))
+      (c .if2 .came),
+    )
 
 mark-reads-same-length : (t : ℕ) → mark-reads-lts.Need-same-length (R-mark-reads t) (mark-reads-at t) mark-reads.Post mark-reads-Inv-loop mark-reads-μ-loop
 mark-reads-same-length t c = c .before .loop .inv .1 .long ∙ c .before .before .before .before .before .mark .ensures .long
@@ -110,7 +120,8 @@ pub +mark-reads-spec : {M : Type 1} → statement M
     (mark-reads-mark-requires t)
     (mark-reads-operands-of-requires t)
     (mark-reads-loop-holds t)
-    (mark-reads-array-read-mark-reads t)
+    (mark-reads-array-read-operand t)
+    (mark-reads-cast-if2 t)
     (mark-reads-mark-reads-requires t)
     (mark-reads-add-k t)
     (mark-reads-loop-less t)
