@@ -157,6 +157,9 @@ fn two_bytes(s: &[u8]) -> usize
 fn four_bytes(s: &[u8]) -> u32
     ensures { λ r. ⌜ r ≡ bigEndian 4 (now (s .entry)) 0 ⌝ }
 {
+    if 3 < s.len() {
+        return ((wide(s[0]) * 256 + wide(s[1])) * 256 + wide(s[2])) * 256 + wide(s[3]);
+    }
     let a = wide(byte_at(s, 0));
     let b = wide(byte_at(s, 1));
     let c = wide(byte_at(s, 2));
