@@ -56,10 +56,6 @@ nodeSuits types x = nodeFits (typeIn types) x
 unfoldable pub clauseSuits : List Scope → ℕ → List ℕ → Clause → Bool
 clauseSuits book i types c = clauseFits book (scopeAt book i) (typeIn types) c
 
--- some node of scope i does not fit
-unfoldable pub nodeMisfits : List Scope → ℕ → List ℕ → Bool
-nodeMisfits book i types = any (λ x. not (nodeSuits types x)) (scopeAt book i .nodes)
-
 -- some clause of scope i does not fit
 unfoldable pub clauseMisfits : List Scope → ℕ → List ℕ → Bool
 clauseMisfits book i types = any (λ c. not (clauseSuits book i types c)) (scopeAt book i .clauses)

@@ -25,7 +25,7 @@ ghost use Rattle.book.specs.Tables.{Laid};
 ghost use Rattle.book.specs.Limits.{Within};
 ghost use Rattle.typing.specs.Marks.{slotOf, markOf, mixedAt};
 ghost use Rattle.typing.specs.Types.{byteOf, typeIn, ownType, calledType, typeOfTarget, typeOver, namedFits};
-ghost use Rattle.typing.specs.Types.{typeOfConsequence, nodeSuits, clauseSuits, nodeMisfits, clauseMisfits, mismatchAt};
+ghost use Rattle.typing.specs.Types.{typeOfConsequence, nodeSuits, clauseSuits, clauseMisfits, mismatchAt};
 
 // A type as a byte.
 fn byte_of(t: ValueType) -> u8
@@ -232,23 +232,6 @@ fn clause_suits(
     named_fits(types, ValueType::YesNo, condition) & same_type(given, wanted)
 }
 
-// Whether some node of scope i does not fit.
-fn node_misfits(book: &[u8], places: &[u16], counts: &[u8], i: usize, types: &[u8]) -> bool
-    requires { ⌜ Laid (now book) (now places) (now counts) ⌝ }
-    ensures { λ r. ⌜ r ≡ nodeMisfits (scopesOf (now (book .entry))) i (now (types .entry)) ⌝ }
-{
-    let count = node_count(book, places, counts, i);
-    let mut n: usize = 0;
-    while n < count {
-        let node = node_at(book, places, counts, i, n);
-        if !node_suits(types, node) {
-            return true;
-        }
-        n += 1;
-    }
-    false
-}
-
 // Whether some clause of scope i does not fit.
 fn clause_misfits(book: &[u8], places: &[u16], counts: &[u8], i: usize, types: &[u8]) -> bool
     requires { ⌜ Laid (now book) (now places) (now counts) ⌝ }
@@ -266,9 +249,10 @@ fn clause_misfits(book: &[u8], places: &[u16], counts: &[u8], i: usize, types: &
     false
 }
 
-// Whether some node or clause of scope i does not fit. The types of its nodes are found in number order, and kept as bytes.
+// Whether some node or clause of scope i does not fit. The types of its nodes are found in number order, and kept as bytes: a node
+// names only lower ones, so the table so far tells whether it fits.
 fn mismatch_at(book: &[u8], places: &[u16], counts: &[u8], i: usize) -> bool
-    requires { ⌜ Laid (now book) (now places) (now counts) ⌝ }
+    requires { ⌜ Laid (now book) (now places) (now counts) ⌝ ∗ ⌜ dangles (scopesOf (now book)) ≡ false ⌝ }
     ensures { λ r. ⌜ r ≡ mismatchAt (scopesOf (now (book .entry))) i ⌝ }
 {
     let mut types = [0u8; 256];
@@ -276,19 +260,21 @@ fn mismatch_at(book: &[u8], places: &[u16], counts: &[u8], i: usize) -> bool
     let mut n: usize = 0;
     while n < count {
         let node = node_at(book, places, counts, i, n);
+        if !node_suits(&types, node) {
+            return true;
+        }
         let t = type_over(book, places, counts, i, &types, node);
         types[n] = byte_of(t);
         n += 1;
-    }
-    if node_misfits(book, places, counts, i, &types) {
-        return true;
     }
     clause_misfits(book, places, counts, i, &types)
 }
 
 // Fault 8: whether a type does not fit somewhere in a book of so many scopes.
 pub fn has_mismatch(book: &[u8], places: &[u16], counts: &[u8], scopes: usize) -> bool
-    requires { ⌜ Laid (now book) (now places) (now counts) ⌝ ∗ ⌜ scopes ≡ length (scopesOf (now book)) ⌝ }
+    requires { ⌜ Laid (now book) (now places) (now counts) ⌝
+        ∗ ⌜ scopes ≡ length (scopesOf (now book)) ⌝
+        ∗ ⌜ dangles (scopesOf (now book)) ≡ false ⌝ }
     ensures { λ r. ⌜ r ≡ mismatches (scopesOf (now (book .entry))) ⌝ }
 {
     let mut i: usize = 0;

@@ -37,7 +37,7 @@ returns-2 : tie.Need-returns-2
 returns-2 c = refused (shared (scopesOf (now (c .before .before .before .before .before .before .before .before .before .before .before .before .before .before .before .before .before .before .before .before .before .args .book))) (sym (c .before .before .before .before .before .has-dangling .ensures) ∙ c .before .before .before .before .if1 .left) (sym (c .before .has-shared .ensures) ∙ c .if2 .taken))
 
 has-mismatch-requires : tie.Need-has-mismatch-requires
-has-mismatch-requires c κs = (c .before .before .before .before .before .before .before .before .before .before .before .before .before .before .fill-tables .ensures .laid, c .before .before .before .before .before .before .before .before .before .before .before .before .before .before .fill-tables .ensures .scopes)
+has-mismatch-requires c κs = (c .before .before .before .before .before .before .before .before .before .before .before .before .before .before .fill-tables .ensures .laid, (c .before .before .before .before .before .before .before .before .before .before .before .before .before .before .fill-tables .ensures .scopes, sym (c .before .before .before .before .before .before .before .has-dangling .ensures) ∙ c .before .before .before .before .before .before .if1 .left))
 
 same-length-5 : tie.Need-same-length-5
 same-length-5 c = search needs

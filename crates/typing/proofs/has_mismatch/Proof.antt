@@ -22,12 +22,12 @@ loop-holds : tie.Need-loop-holds Inv-loop μ-loop
 loop-holds c = start _ _
 
 mismatch-at-requires : tie.Need-mismatch-at-requires Inv-loop μ-loop
-mismatch-at-requires c κs = search needs
+mismatch-at-requires c κs = let s = c .before .before .before .before .before in (s .pre .0, s .pre .1 .1)
 
 returns : tie.Need-returns Inv-loop μ-loop
 unfolding mismatches mismatchAt
 returns c =
-    let few = rw (c .before .before .before .before .before .before .before .pre .1) at (c .before .before .loop-test .taken) in
+    let few = rw (c .before .before .before .before .before .before .before .pre .1 .0) at (c .before .before .loop-test .taken) in
     found _ _ _ (c .before .before .before .loop .inv) emptyScope few (rw (← c .before .mismatch-at .ensures) (c .if1 .taken)) ∙ any-from _ _ _
 
 add-i : tie.Need-add-i Inv-loop μ-loop
@@ -39,12 +39,12 @@ loop-less c = omega arith
 loop-again : tie.Need-loop-again Inv-loop μ-loop
 unfolding mismatchAt
 loop-again c =
-    let few = rw (c .before .before .before .before .before .before .before .pre .1) at (c .before .before .loop-test .taken) in
+    let few = rw (c .before .before .before .before .before .before .before .pre .1 .0) at (c .before .before .loop-test .taken) in
     turn _ _ _ (c .before .before .before .loop .inv) emptyScope few (rw (← c .before .mismatch-at .ensures) (c .if1 .left))
 
 returns-2 : tie.Need-returns-2 Inv-loop μ-loop
 unfolding mismatches
-returns-2 c = ended _ _ _ (c .before .loop .inv) (rw (← c .before .before .before .before .before .pre .1) (c .loop-test .left)) ∙ any-from _ _ _
+returns-2 c = ended _ _ _ (c .before .loop .inv) (rw (← c .before .before .before .before .before .pre .1 .0) (c .loop-test .left)) ∙ any-from _ _ _
 
 pub has-mismatch-spec : {M : Type 1} → statement M
 has-mismatch-spec =
