@@ -3,6 +3,7 @@
 mod bench;
 mod engine;
 mod evaluating;
+mod family;
 mod judging;
 mod runs;
 mod tally;
