@@ -2,8 +2,7 @@
 use book::Fault;
 use book::Judged;
 use book::Scanned;
-use references::has_dangling;
-use references::has_shared;
+use references::find_naming;
 use scan::fill_tables;
 use scan::scan_records;
 use steps::block_order;
@@ -59,10 +58,11 @@ fn judge_whole(
         ⌜ Judging (now (book .entry)) (now (places .exit)) (now (counts .exit)) (now (blocks .exit)) (now (weights .exit)) (now (orders .exit)) (wholeBook (scopesOf (now (book .entry)))) r ⌝ }
 {
     let scopes = fill_tables(book, places, counts);
-    if has_dangling(book, places, counts, scopes) {
+    let naming = find_naming(book, places, counts, scopes);
+    if naming.dangles {
         return Judged::Refused(Fault::DanglingReference);
     }
-    if has_shared(book, places, counts, scopes) {
+    if naming.shares {
         return Judged::Refused(Fault::SharedNode);
     }
     if has_mismatch(book, places, counts, scopes) {

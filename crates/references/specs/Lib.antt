@@ -1,2 +1,3 @@
 pub mod Dangling
 pub mod Marks
+pub mod Named

@@ -16,11 +16,18 @@ ghost use lib.ListN.{length};
 ghost use lib.Dec.{ltb};
 ghost use Rattle.book.specs.Syntax.{sameTarget};
 ghost use Rattle.book.specs.Decode.{scopesOf};
-ghost use Rattle.book.specs.References.{scopeAt, namesCalled, namesException, nodeNames, namesTarget, namesParent, namesCondition, namesConsequence, clauseNames, danglesIn, dangles};
-ghost use Rattle.book.specs.Sharing.{unless255, operands, clauseNodes, shares};
+ghost use Rattle.book.specs.References.{scopeAt, namesCalled, namesException, nodeNames, namesTarget, namesParent, namesCondition, namesConsequence, clauseNames};
+ghost use Rattle.book.specs.Sharing.{unless255, operands, clauseNodes};
 ghost use Rattle.book.specs.Tables.{Laid};
-ghost use Rattle.references.specs.Dangling.{bothBelow, defaultNames, subScopeDangles, nodeDangles, clauseDangles};
-ghost use Rattle.references.specs.Marks.{Marking, nodeNamings, clauseNamings, sharesIn};
+ghost use Rattle.references.specs.Dangling.{bothBelow, defaultNames, subScopeDangles, clauseDangles};
+ghost use Rattle.references.specs.Marks.{Marking, clauseNamings};
+ghost use Rattle.references.specs.Named.{NodesNamed, NamedIn, Named};
+
+// What the numbers of a book name: whether something dangles; where nothing does, whether a node is named more than once.
+pub struct Naming {
+    pub dangles: bool,
+    pub shares: bool,
+}
 
 // Whether a number is below n.
 fn below(n: usize, a: u8) -> bool
@@ -221,23 +228,6 @@ fn sub_scope_dangles(book: &[u8], places: &[u16], counts: &[u8], scopes: usize, 
     false
 }
 
-// Whether some node of scope i names what it may not.
-fn node_dangles(book: &[u8], places: &[u16], counts: &[u8], i: usize) -> bool
-    requires { ⌜ Laid (now book) (now places) (now counts) ⌝ }
-    ensures { λ r. ⌜ r ≡ nodeDangles (scopesOf (now (book .entry))) i ⌝ }
-{
-    let count = node_count(book, places, counts, i);
-    let mut n = 0;
-    while n < count {
-        let node = node_at(book, places, counts, i, n);
-        if !node_names(book, places, counts, i, n, node) {
-            return true;
-        }
-        n += 1;
-    }
-    false
-}
-
 // Whether some clause of scope i names what it may not.
 fn clause_dangles(book: &[u8], places: &[u16], counts: &[u8], i: usize) -> bool
     requires { ⌜ Laid (now book) (now places) (now counts) ⌝ }
@@ -251,37 +241,6 @@ fn clause_dangles(book: &[u8], places: &[u16], counts: &[u8], i: usize) -> bool
             return true;
         }
         n += 1;
-    }
-    false
-}
-
-// Whether something dangles in scope i.
-fn dangles_in(book: &[u8], places: &[u16], counts: &[u8], scopes: usize, i: usize) -> bool
-    requires { ⌜ Laid (now book) (now places) (now counts) ⌝ }
-    requires { ⌜ scopes ≡ length (scopesOf (now book)) ⌝ }
-    ensures { λ r. ⌜ r ≡ danglesIn (scopesOf (now (book .entry))) (scopeAt (scopesOf (now (book .entry))) i) ⌝ }
-{
-    if sub_scope_dangles(book, places, counts, scopes, i) {
-        return true;
-    }
-    if node_dangles(book, places, counts, i) {
-        return true;
-    }
-    clause_dangles(book, places, counts, i)
-}
-
-// Fault 6: whether something dangles in a book of so many scopes, by the tables of the book.
-pub fn has_dangling(book: &[u8], places: &[u16], counts: &[u8], scopes: usize) -> bool
-    requires { ⌜ Laid (now book) (now places) (now counts) ⌝ }
-    requires { ⌜ scopes ≡ length (scopesOf (now book)) ⌝ }
-    ensures { λ r. ⌜ r ≡ dangles (scopesOf (now (book .entry))) ⌝ }
-{
-    let mut i = 0;
-    while i < scopes {
-        if dangles_in(book, places, counts, scopes, i) {
-            return true;
-        }
-        i += 1;
     }
     false
 }
@@ -354,29 +313,6 @@ fn mark_clause(marks: &mut [u8], twice: bool, clause: Clause) -> bool
     }
 }
 
-// Marks what the nodes of scope i name.
-fn mark_nodes(
-    book: &[u8],
-    places: &[u16],
-    counts: &[u8],
-    i: usize,
-    marks: &mut [u8],
-    twice: bool,
-) -> bool
-    requires { ⌜ Laid (now book) (now places) (now counts) ⌝ }
-    ensures { λ r. ⌜ Marking (nodeNamings (scopesOf (now (book .entry))) i) (now (marks .entry)) twice r (now (marks .exit)) ⌝ }
-{
-    let count = node_count(book, places, counts, i);
-    let mut found = twice;
-    let mut n = 0;
-    while n < count {
-        let node = node_at(book, places, counts, i, n);
-        found = mark_operands(marks, found, node);
-        n += 1;
-    }
-    found
-}
-
 // Marks what the clauses of scope i name.
 fn mark_clauses(
     book: &[u8],
@@ -400,28 +336,78 @@ fn mark_clauses(
     found
 }
 
-// Whether a node of scope i is named more than once.
-fn shares_in(book: &[u8], places: &[u16], counts: &[u8], i: usize) -> bool
+// Marks what the nodes of scope i name, up to the first that names what it may not.
+fn name_nodes(book: &[u8], places: &[u16], counts: &[u8], i: usize, marks: &mut [u8]) -> Naming
     requires { ⌜ Laid (now book) (now places) (now counts) ⌝ }
-    ensures { λ r. ⌜ r ≡ sharesIn (scopeAt (scopesOf (now (book .entry))) i) ⌝ }
+    ensures { λ r. ⌜ NodesNamed (scopesOf (now (book .entry))) i (now (marks .entry)) r (now (marks .exit)) ⌝ }
 {
-    let mut marks = [0u8; 256];
-    let found = mark_nodes(book, places, counts, i, &mut marks, false);
-    mark_clauses(book, places, counts, i, &mut marks, found)
+    let count = node_count(book, places, counts, i);
+    let mut found = false;
+    let mut n = 0;
+    while n < count {
+        let node = node_at(book, places, counts, i, n);
+        if !node_names(book, places, counts, i, n, node) {
+            return Naming {
+                dangles: true,
+                shares: false,
+            };
+        }
+        found = mark_operands(marks, found, node);
+        n += 1;
+    }
+    Naming {
+        dangles: false,
+        shares: found,
+    }
 }
 
-// Fault 7: whether a node is named more than once in a book of so many scopes, by the tables of the book.
-pub fn has_shared(book: &[u8], places: &[u16], counts: &[u8], scopes: usize) -> bool
+// Whether something dangles in scope i; where nothing does, whether a node is named more than once.
+fn names_in(book: &[u8], places: &[u16], counts: &[u8], scopes: usize, i: usize) -> Naming
     requires { ⌜ Laid (now book) (now places) (now counts) ⌝ }
     requires { ⌜ scopes ≡ length (scopesOf (now book)) ⌝ }
-    ensures { λ r. ⌜ r ≡ shares (scopesOf (now (book .entry))) ⌝ }
+    ensures { λ r. ⌜ NamedIn (scopesOf (now (book .entry))) i r ⌝ }
 {
+    let wrong = Naming {
+        dangles: true,
+        shares: false,
+    };
+    if sub_scope_dangles(book, places, counts, scopes, i) {
+        return wrong;
+    }
+    let mut marks = [0u8; 256];
+    let nodes = name_nodes(book, places, counts, i, &mut marks);
+    if nodes.dangles {
+        return wrong;
+    }
+    if clause_dangles(book, places, counts, i) {
+        return wrong;
+    }
+    let found = nodes.shares;
+    Naming {
+        dangles: false,
+        shares: mark_clauses(book, places, counts, i, &mut marks, found),
+    }
+}
+
+// Faults 6 and 7 of a book of so many scopes, by the tables of the book, in one pass: whether something dangles; where nothing does,
+// whether a node is named more than once.
+pub fn find_naming(book: &[u8], places: &[u16], counts: &[u8], scopes: usize) -> Naming
+    requires { ⌜ Laid (now book) (now places) (now counts) ⌝ }
+    requires { ⌜ scopes ≡ length (scopesOf (now book)) ⌝ }
+    ensures { λ r. ⌜ Named (scopesOf (now (book .entry))) r ⌝ }
+{
+    let mut shares = false;
     let mut i = 0;
     while i < scopes {
-        if shares_in(book, places, counts, i) {
-            return true;
+        let named = names_in(book, places, counts, scopes, i);
+        if named.dangles {
+            return named;
         }
+        shares = shares | named.shares;
         i += 1;
     }
-    false
+    Naming {
+        dangles: false,
+        shares,
+    }
 }

@@ -44,6 +44,7 @@ long-here st n s h e = go (rw (eq-eqb (s .stage) st e) at h)
     told : (b : Bool) → T b → b ≡ true
     told true t = refl
     told false t = absurd t
+
     go : T (eqb (s .length) n) → s .length ≡ n
     go t = eqb-true (s .length) n (told (eqb (s .length) n) t)
 

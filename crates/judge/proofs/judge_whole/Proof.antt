@@ -12,8 +12,8 @@ use Rattle.judge.proofs.judge_whole.Tie as tie
 fill-tables-requires : tie.Need-fill-tables-requires
 fill-tables-requires c κs = search needs
 
-has-dangling-requires : tie.Need-has-dangling-requires
-has-dangling-requires c κs = (c .before .before .before .before .before .before .fill-tables .ensures .laid, c .before .before .before .before .before .before .fill-tables .ensures .scopes)
+find-naming-requires : tie.Need-find-naming-requires
+find-naming-requires c κs = (c .before .before .before .before .before .before .fill-tables .ensures .laid, c .before .before .before .before .before .before .fill-tables .ensures .scopes)
 
 same-length : tie.Need-same-length
 same-length c = search needs
@@ -22,10 +22,7 @@ same-length-2 : tie.Need-same-length-2
 same-length-2 c = search needs
 
 returns : tie.Need-returns
-returns c = refused (dangling (scopesOf (now (c .before .before .before .before .before .before .before .before .before .before .before .before .before .before .before .before .before .args .book))) (sym (c .before .has-dangling .ensures) ∙ c .if1 .taken))
-
-has-shared-requires : tie.Need-has-shared-requires
-has-shared-requires c κs = (c .before .before .before .before .before .before .before .before .before .before .fill-tables .ensures .laid, c .before .before .before .before .before .before .before .before .before .before .fill-tables .ensures .scopes)
+returns c = refused (dangling (scopesOf (now (c .before .before .before .before .before .before .before .before .before .before .before .before .before .before .before .before .before .args .book))) (sym (c .before .find-naming .ensures .dangling) ∙ c .if1 .taken))
 
 same-length-3 : tie.Need-same-length-3
 same-length-3 c = search needs
@@ -34,10 +31,10 @@ same-length-4 : tie.Need-same-length-4
 same-length-4 c = search needs
 
 returns-2 : tie.Need-returns-2
-returns-2 c = refused (shared (scopesOf (now (c .before .before .before .before .before .before .before .before .before .before .before .before .before .before .before .before .before .before .before .before .before .args .book))) (sym (c .before .before .before .before .before .has-dangling .ensures) ∙ c .before .before .before .before .if1 .left) (sym (c .before .has-shared .ensures) ∙ c .if2 .taken))
+returns-2 c = refused (shared (scopesOf (now (c .before .before .before .before .before .before .before .before .before .before .before .before .before .before .before .before .before .before .args .book))) (sym (c .before .before .find-naming .ensures .dangling) ∙ c .before .if1 .left) (sym (c .before .before .find-naming .ensures .shared (c .before .if1 .left)) ∙ c .if2 .taken))
 
 has-mismatch-requires : tie.Need-has-mismatch-requires
-has-mismatch-requires c κs = (c .before .before .before .before .before .before .before .before .before .before .before .before .before .before .fill-tables .ensures .laid, (c .before .before .before .before .before .before .before .before .before .before .before .before .before .before .fill-tables .ensures .scopes, sym (c .before .before .before .before .before .before .before .has-dangling .ensures) ∙ c .before .before .before .before .before .before .if1 .left))
+has-mismatch-requires c κs = (c .before .before .before .before .before .before .before .before .before .before .before .fill-tables .ensures .laid, (c .before .before .before .before .before .before .before .before .before .before .before .fill-tables .ensures .scopes, sym (c .before .before .before .before .find-naming .ensures .dangling) ∙ c .before .before .before .if1 .left))
 
 same-length-5 : tie.Need-same-length-5
 same-length-5 c = search needs
@@ -46,12 +43,12 @@ same-length-6 : tie.Need-same-length-6
 same-length-6 c = search needs
 
 returns-3 : tie.Need-returns-3
-returns-3 c = refused (mismatched (scopesOf (now (c .before .before .before .before .before .before .before .before .before .before .before .before .before .before .before .before .before .before .before .before .before .before .before .before .before .args .book))) (sym (c .before .before .before .before .before .before .before .before .before .has-dangling .ensures) ∙ c .before .before .before .before .before .before .before .before .if1 .left) (sym (c .before .before .before .before .before .has-shared .ensures) ∙ c .before .before .before .before .if2 .left) (sym (c .before .has-mismatch .ensures) ∙ c .if3 .taken))
+returns-3 c = refused (mismatched (scopesOf (now (c .before .before .before .before .before .before .before .before .before .before .before .before .before .before .before .before .before .before .before .before .before .before .args .book))) (sym (c .before .before .before .before .before .before .find-naming .ensures .dangling) ∙ c .before .before .before .before .before .if1 .left) (sym (c .before .before .before .before .before .before .find-naming .ensures .shared (c .before .before .before .before .before .if1 .left)) ∙ c .before .before .before .before .if2 .left) (sym (c .before .has-mismatch .ensures) ∙ c .if3 .taken))
 
 has-mixed-requires : tie.Need-has-mixed-requires
 has-mixed-requires c κs =
-    let w = within (now (c .before .before .before .before .before .before .before .before .before .before .before .before .before .before .before .before .before .before .before .before .before .before .before .before .before .before .before .args .book)) (c .before .before .before .before .before .before .before .before .before .before .before .before .before .before .before .before .before .before .before .before .before .before .before .before .before .before .before .pre .0 .sound) in
-    (c .before .before .before .before .before .before .before .before .before .before .before .before .before .before .before .before .before .before .fill-tables .ensures .laid, (c .before .before .before .before .before .before .before .before .before .before .before .before .before .before .before .before .before .before .fill-tables .ensures .scopes, (sym (c .before .before .before .before .before .before .before .before .before .before .before .has-dangling .ensures) ∙ c .before .before .before .before .before .before .before .before .before .before .if1 .left, w)))
+    let w = within (now (c .before .before .before .before .before .before .before .before .before .before .before .before .before .before .before .before .before .before .before .before .before .before .before .before .args .book)) (c .before .before .before .before .before .before .before .before .before .before .before .before .before .before .before .before .before .before .before .before .before .before .before .before .pre .0 .sound) in
+    (c .before .before .before .before .before .before .before .before .before .before .before .before .before .before .before .fill-tables .ensures .laid, (c .before .before .before .before .before .before .before .before .before .before .before .before .before .before .before .fill-tables .ensures .scopes, (sym (c .before .before .before .before .before .before .before .before .find-naming .ensures .dangling) ∙ c .before .before .before .before .before .before .before .if1 .left, w)))
 
 same-length-7 : tie.Need-same-length-7
 same-length-7 c = search needs
@@ -60,21 +57,21 @@ same-length-8 : tie.Need-same-length-8
 same-length-8 c = search needs
 
 returns-4 : tie.Need-returns-4
-returns-4 c = refused (mixed (scopesOf (now (c .before .before .before .before .before .before .before .before .before .before .before .before .before .before .before .before .before .before .before .before .before .before .before .before .before .before .before .before .before .args .book))) (sym (c .before .before .before .before .before .before .before .before .before .before .before .before .before .has-dangling .ensures) ∙ c .before .before .before .before .before .before .before .before .before .before .before .before .if1 .left) (sym (c .before .before .before .before .before .before .before .before .before .has-shared .ensures) ∙ c .before .before .before .before .before .before .before .before .if2 .left) (sym (c .before .before .before .before .before .has-mismatch .ensures) ∙ c .before .before .before .before .if3 .left) (sym (c .before .has-mixed .ensures) ∙ c .if4 .taken))
+returns-4 c = refused (mixed (scopesOf (now (c .before .before .before .before .before .before .before .before .before .before .before .before .before .before .before .before .before .before .before .before .before .before .before .before .before .before .args .book))) (sym (c .before .before .before .before .before .before .before .before .before .before .find-naming .ensures .dangling) ∙ c .before .before .before .before .before .before .before .before .before .if1 .left) (sym (c .before .before .before .before .before .before .before .before .before .before .find-naming .ensures .shared (c .before .before .before .before .before .before .before .before .before .if1 .left)) ∙ c .before .before .before .before .before .before .before .before .if2 .left) (sym (c .before .before .before .before .before .has-mismatch .ensures) ∙ c .before .before .before .before .if3 .left) (sym (c .before .has-mixed .ensures) ∙ c .if4 .taken))
 
 judge-orders-requires : tie.Need-judge-orders-requires
 judge-orders-requires c κs =
-    let w = within (now (c .before .before .before .before .before .before .before .before .before .before .before .before .before .before .before .before .before .before .before .before .before .before .before .before .before .before .before .before .before .before .before .before .before .before .args .book)) (c .before .before .before .before .before .before .before .before .before .before .before .before .before .before .before .before .before .before .before .before .before .before .before .before .before .before .before .before .before .before .before .before .before .before .pre .0 .sound) in (
+    let w = within (now (c .before .before .before .before .before .before .before .before .before .before .before .before .before .before .before .before .before .before .before .before .before .before .before .before .before .before .before .before .before .before .before .args .book)) (c .before .before .before .before .before .before .before .before .before .before .before .before .before .before .before .before .before .before .before .before .before .before .before .before .before .before .before .before .before .before .before .pre .0 .sound) in (
       record {
-        tabled = record { laid = c .before .before .before .before .before .before .before .before .before .before .before .before .before .before .before .before .before .before .before .before .before .before .before .before .before .fill-tables .ensures .laid; within = w };
-        scoped = record { count = c .before .before .before .before .before .before .before .before .before .before .before .before .before .before .before .before .before .before .before .before .before .before .before .before .before .fill-tables .ensures .scopes; few = rw (c .before .before .before .before .before .before .before .before .before .before .before .before .before .before .before .before .before .before .before .before .before .before .before .before .before .fill-tables .ensures .scopes) (w .scopes) };
-        sound = sym (c .before .before .before .before .before .before .before .before .before .before .before .before .before .before .before .before .before .before .has-dangling .ensures) ∙ c .before .before .before .before .before .before .before .before .before .before .before .before .before .before .before .before .before .if1 .left;
+        tabled = record { laid = c .before .before .before .before .before .before .before .before .before .before .before .before .before .before .before .before .before .before .before .before .before .before .fill-tables .ensures .laid; within = w };
+        scoped = record { count = c .before .before .before .before .before .before .before .before .before .before .before .before .before .before .before .before .before .before .before .before .before .before .fill-tables .ensures .scopes; few = rw (c .before .before .before .before .before .before .before .before .before .before .before .before .before .before .before .before .before .before .before .before .before .before .fill-tables .ensures .scopes) (w .scopes) };
+        sound = sym (c .before .before .before .before .before .before .before .before .before .before .before .before .before .before .before .find-naming .ensures .dangling) ∙ c .before .before .before .before .before .before .before .before .before .before .before .before .before .before .if1 .left;
       },
-      c .before .before .before .before .before .before .before .before .before .before .before .before .before .before .before .before .before .before .before .before .before .before .before .before .before .before .before .before .before .before .before .before .before .before .pre .1,
+      c .before .before .before .before .before .before .before .before .before .before .before .before .before .before .before .before .before .before .before .before .before .before .before .before .before .before .before .before .before .before .before .pre .1,
     )
 
 same-length-9 : tie.Need-same-length-9
-same-length-9 c = c .before .before .before .before .before .before .before .before .before .before .before .before .before .before .before .before .before .before .before .before .before .before .before .before .before .before .before .before .before .before .before .places .given
+same-length-9 c = c .before .before .before .before .before .before .before .before .before .before .before .before .before .before .before .before .before .before .before .before .before .before .before .before .before .before .before .before .places .given
 
 same-length-10 : tie.Need-same-length-10
 same-length-10 c = search needs
@@ -90,7 +87,7 @@ same-length-13 c = search needs
 
 returns-5 : tie.Need-returns-5
 returns-5 c =
-    let left = orders-left (scopesOf (now (c .before .before .before .before .before .before .before .before .before .before .before .before .before .before .before .before .before .before .before .before .before .before .before .before .before .before .before .before .before .before .before .before .before .before .before .before .before .before .before .before .before .args .book))) (sym (c .before .before .before .before .before .before .before .before .before .before .before .before .before .before .before .before .before .before .before .before .before .before .before .before .before .has-dangling .ensures) ∙ c .before .before .before .before .before .before .before .before .before .before .before .before .before .before .before .before .before .before .before .before .before .before .before .before .if1 .left) (sym (c .before .before .before .before .before .before .before .before .before .before .before .before .before .before .before .before .before .before .before .before .before .has-shared .ensures) ∙ c .before .before .before .before .before .before .before .before .before .before .before .before .before .before .before .before .before .before .before .before .if2 .left) (sym (c .before .before .before .before .before .before .before .before .before .before .before .before .before .before .before .before .before .has-mismatch .ensures) ∙ c .before .before .before .before .before .before .before .before .before .before .before .before .before .before .before .before .if3 .left) (sym (c .before .before .before .before .before .before .before .before .before .before .before .before .before .has-mixed .ensures) ∙ c .before .before .before .before .before .before .before .before .before .before .before .before .if4 .left) in
+    let left = orders-left (scopesOf (now (c .before .before .before .before .before .before .before .before .before .before .before .before .before .before .before .before .before .before .before .before .before .before .before .before .before .before .before .before .before .before .before .before .before .before .before .before .before .before .args .book))) (sym (c .before .before .before .before .before .before .before .before .before .before .before .before .before .before .before .before .before .before .before .before .before .before .find-naming .ensures .dangling) ∙ c .before .before .before .before .before .before .before .before .before .before .before .before .before .before .before .before .before .before .before .before .before .if1 .left) (sym (c .before .before .before .before .before .before .before .before .before .before .before .before .before .before .before .before .before .before .before .before .before .before .find-naming .ensures .shared (c .before .before .before .before .before .before .before .before .before .before .before .before .before .before .before .before .before .before .before .before .before .if1 .left)) ∙ c .before .before .before .before .before .before .before .before .before .before .before .before .before .before .before .before .before .before .before .before .if2 .left) (sym (c .before .before .before .before .before .before .before .before .before .before .before .before .before .before .before .before .before .has-mismatch .ensures) ∙ c .before .before .before .before .before .before .before .before .before .before .before .before .before .before .before .before .if3 .left) (sym (c .before .before .before .before .before .before .before .before .before .before .before .before .before .has-mixed .ensures) ∙ c .before .before .before .before .before .before .before .before .before .before .before .before .if4 .left) in
     record { answer = c .before .before .before .before .before .before .judge-orders .ensures .answer ∙ left; tables = c .before .before .before .before .before .before .judge-orders .ensures .tables }
 
 pub judge-whole-spec : {M : Type 1} → statement M
@@ -98,11 +95,10 @@ judge-whole-spec =
     tie.close
     (tie.spec
     fill-tables-requires
-    has-dangling-requires
+    find-naming-requires
     same-length
     same-length-2
     returns
-    has-shared-requires
     same-length-3
     same-length-4
     returns-2

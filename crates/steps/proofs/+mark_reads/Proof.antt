@@ -85,13 +85,12 @@ mark-reads-loop-less t c = omega arith
 
 mark-reads-loop-again : (t : ℕ) → mark-reads-lts.Need-loop-again (R-mark-reads t) (mark-reads-at t) mark-reads.Post mark-reads-Inv-loop mark-reads-μ-loop
 mark-reads-loop-again t c =
-    let m = c .before in
-    (
+    let m = c .before in (
       omega arith,
       ⊎-elim
-      (λ a. rw (a .5) (operands-turn _ _ _ _ _ _ _ _ (m .before .loop .inv .1) _ (m .before .before .operands-of .ensures) (m .loop-test .taken) _ (a .2 .ensures)))
-      (λ a. rw (a .1) (operands-turn _ _ _ _ _ _ _ _ (m .before .loop .inv .1) _ (m .before .before .operands-of .ensures) (m .loop-test .taken) _ (read-none _ _ _ _ _ _ (a .0 .left))))
-      (c .if2 .came),
+          (λ a. rw (a .5) (operands-turn _ _ _ _ _ _ _ _ (m .before .loop .inv .1) _ (m .before .before .operands-of .ensures) (m .loop-test .taken) _ (a .2 .ensures)))
+          (λ a. rw (a .1) (operands-turn _ _ _ _ _ _ _ _ (m .before .loop .inv .1) _ (m .before .before .operands-of .ensures) (m .loop-test .taken) _ (read-none _ _ _ _ _ _ (a .0 .left))))
+          (c .if2 .came),
     )
 
 mark-reads-same-length : (t : ℕ) → mark-reads-lts.Need-same-length (R-mark-reads t) (mark-reads-at t) mark-reads.Post mark-reads-Inv-loop mark-reads-μ-loop

@@ -78,11 +78,11 @@ loop-again c =
     let at = c .before .before .before .before .before .before .before in
     let s = at .before .before .before .before .before .before in (
       turn _ _ _ _ (at .before .loop .inv .0) (small at) (within at) _ _ _
-      (c .before .before .before .before .before .before .node-at .ensures)
-      (c .before .type-over .ensures)
-      (c .byte-of .ensures),
+          (c .before .before .before .before .before .before .node-at .ensures)
+          (c .before .type-over .ensures)
+          (c .byte-of .ensures),
       pass _ _ _ (at .before .loop .inv .1) noNode (within at)
-      (told _ _ _ _ (at .before .loop .inv .0) (within at) (s .pre .1) _ (c .before .before .before .before .before .before .node-at .ensures) _ (c .before .before .before .before .node-suits .ensures) ∙ c .before .before .before .if1 .left),
+          (told _ _ _ _ (at .before .loop .inv .0) (within at) (s .pre .1) _ (c .before .before .before .before .before .before .node-at .ensures) _ (c .before .before .before .before .node-suits .ensures) ∙ c .before .before .before .if1 .left),
     )
 
 slice-aggregate-clause-misfits : tie.Need-slice-aggregate-clause-misfits Inv-loop μ-loop
