@@ -43,7 +43,7 @@ fn nothing_read() -> Tally
 }
 
 // Whether a record of this stage may stand after one of the stage `last`; 0: there was none.
-fn may_follow(last: usize, stage: usize) -> bool
+pub fn may_follow(last: usize, stage: usize) -> bool
     ensures { λ r. ⌜ r ≡ follows last stage ⌝ }
 {
     if stage == 1 {
@@ -136,7 +136,7 @@ fn is_type(b: u8) -> bool
 }
 
 // Whether a type, constant or rule byte stands outside its values.
-fn is_invalid(kind: u8, body: &[u8]) -> bool
+pub fn is_invalid(kind: u8, body: &[u8]) -> bool
     ensures { λ r. ⌜ r ≡ invalid kind (now (body .entry)) ⌝ }
 {
     let first = byte_at(body, 0);

@@ -91,7 +91,7 @@ module _ (e : Env) (s : Scope) (t : Target) where
   unruled h = rw h (without-rules e (bases s t))
 
 module _ (s : Scope) (t : Target) (g : Chained (s .clauses)) where
-  rule-first : hasRule s t ≡ not (eqb (firstFrom (ruleOf (slotOf t)) 0 (s .clauses)) 255)
+  pub rule-first : hasRule s t ≡ not (eqb (firstFrom (ruleOf (slotOf t)) 0 (s .clauses)) 255)
   unfolding hasRule
   rule-first =
       any-same _ (ruleOf (slotOf t)) (s .clauses)
@@ -144,7 +144,7 @@ module _ (bytes places counts links : List ℕ) (i : ℕ) (w : Ready bytes place
   pub slot-few : slot < 289
   slot-few = omega (arith, slot-bound target)
 
-  rule-link : (r : ℕ) → r ≡ getD links (545 + slot) 0 → r ≡ firstFrom (ruleOf (slotOf target)) 0 (scope .clauses)
+  pub rule-link : (r : ℕ) → r ≡ getD links (545 + slot) 0 → r ≡ firstFrom (ruleOf (slotOf target)) 0 (scope .clauses)
   rule-link r e = rw at at (e ∙ w .linked .rule slot slot-few)
 
   base-link : (r : ℕ) → r ≡ getD links slot 0 → r ≡ firstFrom (inChain (slotOf target)) 0 (scope .clauses)

@@ -33,7 +33,7 @@ const RULES: usize = 545;
 const WIDTH: usize = 834;
 
 // The slot of a target: 32 own variables, then 32 of each of 8 sub-scopes; 288 for any other.
-fn slot_of(t: Target) -> usize
+pub fn slot_of(t: Target) -> usize
     ensures { λ r. ⌜ r ≡ slotOf t ⌝ }
 {
     let sub = t.sub;

@@ -1,0 +1,93 @@
+-- The faults 1 to 5 of a record of code, each as the pass tests it.
+-- Assumes nothing.
+use Prim.Native.Nat.{ℕ, zero, suc, _+_, _-_, _<_, _≤_}
+use mathlib.Core.Path.{_≡_, refl, sym, ap, _∙_}
+use mathlib.Core.Bool.{Bool, true, false, cond, not, _&&_, _||_, or-true, or-false, true≢false, false≢true}
+use mathlib.Core.List.{List, [], _∷_}
+use mathlib.Core.Logic.{⊎-elim}
+use native.Mathlib.Omega.{arith}
+use lib.ListN.{length, getD, take, drop, length-drop}
+use lib.Seq.{take-all}
+use lib.Dec.{eqb, ltb}
+use borrow.Author.Tests.{eq-eqb, ne-eqb, lt-ltb, le-ltb, ltb-true, ltb-false, not-true, not-false}
+use Rattle.order.proofs.Booleans.{decide}
+use Rattle.record.specs.Kinds.{shapeIn}
+use Rattle.record.specs.declared.Medium.the-variants.{Code}
+use Rattle.record.specs.declared.Shape.{Shape}
+use Rattle.book.specs.Records.{follows, invalid}
+use Rattle.machine.specs.Acceptance.{Count, counted, faulty}
+use Rattle.verifier.specs.Pass.{countOf, faultyAt, exceedsWith, Limited}
+use Rattle.verifier.specs.declared.Progress.{Progress}
+
+shift : (a b : ℕ) → ltb (suc a) (b + 1) ≡ ltb a b
+shift a b =
+    ⊎-elim
+    (λ (q : ltb a b ≡ true). rw q (lt-ltb (suc a) (b + 1) (let h = ltb-true a b q in omega arith)))
+    (λ (q : ltb a b ≡ false). rw q (le-ltb (suc a) (b + 1) (let h = ltb-false a b q in omega arith)))
+    (decide (ltb a b))
+
+module _ (s : ℕ) (u : Progress) where
+  pub variable-more : s ≡ 2 → Limited u → ltb 31 (u .variables) ≡ exceedsWith s u
+  unfolding exceedsWith counted
+  variable-more e l = rw e (sym (rw (shift 31 (u .variables), le-ltb 8 (u .subs) (l .subs)) (or-false (ltb 31 (u .variables)))))
+
+  pub sub-more : s ≡ 3 → Limited u → ltb 7 (u .subs) ≡ exceedsWith s u
+  unfolding exceedsWith counted
+  sub-more e l = rw e (sym (rw (le-ltb 32 (u .variables) (l .variables)) (shift 7 (u .subs))))
+
+  pub none-more : (s ≡ 2 → ⊥) → (s ≡ 3 → ⊥) → Limited u → false ≡ exceedsWith s u
+  unfolding exceedsWith counted
+  none-more a b l =
+      rw (ne-eqb s 2 a, ne-eqb s 3 b)
+      (⊎-elim
+      (λ (q : eqb s 1 ≡ true). rw q refl)
+      (λ (q : eqb s 1 ≡ false). rw (q, le-ltb 32 (u .variables) (l .variables), le-ltb 8 (u .subs) (l .subs)) refl)
+      (decide (eqb s 1)))
+
+-- the tests of a record of a shape, in their order
+tests : List ℕ → ℕ → Progress → Shape → Bool
+tests code at u s =
+    eqb (s .stage) 0
+    || (ltb (length (drop (at + 1) code)) (s .length)
+    || (not (follows (u .stage) (s .stage))
+    || (ltb 32 (counted (s .stage) (countOf u) .variables) || (ltb 8 (counted (s .stage) (countOf u) .subScopes) || invalid (getD code at 0) (drop (at + 1) code)))))
+
+or-group : (a b d : Bool) → (a || (b || d)) ≡ ((a || b) || d)
+or-group true b d = refl
+or-group false b d = refl
+
+module _ (code : List ℕ) (at : ℕ) (u : Progress) (s : Shape) (es : s ≡ shapeIn Code (getD code at 0)) where
+  tests-are : tests code at u s ≡ faultyAt code at u
+  unfolding faultyAt faulty tests
+  tests-are = ap (tests code at u) es
+
+  grouped : tests code at u s ≡ (eqb (s .stage) 0 || (ltb (length code - (at + 1)) (s .length) || (not (follows (u .stage) (s .stage)) || (exceedsWith (s .stage) u || invalid (getD code at 0) (drop (at + 1) code)))))
+  unfolding tests exceedsWith
+  grouped =
+      rw (length-drop (at + 1) code, or-group (ltb 32 (counted (s .stage) (countOf u) .variables)) (ltb 8 (counted (s .stage) (countOf u) .subScopes)) (invalid (getD code at 0) (drop (at + 1) code)))
+
+  pub fault-kind : s .stage ≡ 0 → true ≡ faultyAt code at u
+  fault-kind h = sym (grouped ∙ rw (eq-eqb (s .stage) 0 h)) ∙ tests-are
+
+  module _ (known : s .stage ≡ 0 → ⊥) where
+    pub fault-length : length code - (at + 1) < s .length → true ≡ faultyAt code at u
+    fault-length h = sym (grouped ∙ rw (ne-eqb (s .stage) 0 known, lt-ltb (length code - (at + 1)) (s .length) h)) ∙ tests-are
+
+    module _ (fits : s .length ≤ length code - (at + 1)) (f : Bool) (ef : f ≡ follows (u .stage) (s .stage)) where
+      pub fault-order : f ≡ false → true ≡ faultyAt code at u
+      fault-order h =
+          sym (grouped ∙ rw (ne-eqb (s .stage) 0 known, le-ltb (length code - (at + 1)) (s .length) fits, ← ef, h)) ∙ tests-are
+
+      module _ (ok : f ≡ true) (c : Bool) (ec : c ≡ exceedsWith (s .stage) u) where
+        rest-is : (c || invalid (getD code at 0) (drop (at + 1) code)) ≡ faultyAt code at u
+        rest-is =
+            sym (grouped ∙ rw (ne-eqb (s .stage) 0 known, le-ltb (length code - (at + 1)) (s .length) fits, ← ef, ok, ← ec)) ∙ tests-are
+
+        pub fault-limit : c ≡ true → true ≡ faultyAt code at u
+        fault-limit h = rw h at rest-is
+
+        pub fault-byte : c ≡ false → (m : Bool) → m ≡ invalid (getD code at 0) (take (length code - (at + 1)) (drop (at + 1) code)) → m ≡ faultyAt code at u
+        fault-byte h m em =
+            em
+            ∙ ap (invalid (getD code at 0)) (take-all (length code - (at + 1)) (drop (at + 1) code) (rw length-drop (omega arith)))
+            ∙ rw h at rest-is

@@ -1,0 +1,11 @@
+mod Faults
+mod Ring
+mod Reading
+mod Blocks
+mod Fitting
+mod Turns
+mod Steps
+mod Heads
+mod Ends
+mod Opens
+mod Ways

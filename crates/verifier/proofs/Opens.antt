@@ -1,0 +1,288 @@
+-- The start of the pass, the beginning of a block, and the end of the pass.
+-- Assumes nothing.
+use Prim.Native.Nat.{ℕ, zero, suc, _+_, _-_, _*_, _%_, _<_, _≤_}
+use mathlib.Core.Path.{_≡_, refl, sym, ap, _∙_}
+use mathlib.Core.Bool.{Bool, true, false, cond, not, _&&_, _||_, true≢false, false≢true}
+use mathlib.Core.List.{List, [], _∷_, _++_, append-assoc}
+use mathlib.Core.Logic.{_⊎_, inl, inr, ⊎-elim}
+use native.Mathlib.Omega.{arith}
+use lib.ListN.{length, getD, take, drop, set, length-drop, length-set}
+use lib.Seq.{drop-drop, getD-drop, take-add, length-take-le, getD-take, getD-set-same, getD-set-other}
+use lib.ListN.{List·getD-append}
+use lib.Dec.{eqb, leb, ltb}
+use borrow.Author.Tests.{eq-eqb, ne-eqb, lt-ltb, le-ltb, ltb-true, ltb-false, eqb-true, eqb-false, leb-true, not-true, not-false}
+use Rattle.order.proofs.Booleans.{decide, both}
+use Rattle.record.specs.Kinds.{shapeIn}
+use Rattle.record.specs.declared.Shape.{Shape}
+use Rattle.book.specs.Lists.{any}
+use Rattle.book.specs.Scopes.{sum}
+use Rattle.book.specs.Syntax.{typeOf, variableOf}
+use Rattle.book.specs.declared.Variable.{Variable}
+use Rattle.machine.specs.Blocks.{Block, Parsed, emptyBlock, bodyLength, stageOf, inFront, parse, hasBlock, variablesOf}
+use Rattle.machine.specs.Instructions.{instructionOf}
+use Rattle.machine.specs.Acceptance.{Count, start, counted, faulty, sound, lands, fits, allFit, weightIn, wellFormed, allWellFormed, accepted}
+use Rattle.verifier.specs.Instructions.{namingOf, distancePlace, named, distanceOf, farthest}
+use Rattle.verifier.specs.Tables.{blockAt, Entered, Room}
+use Rattle.verifier.specs.Pass.{countOf, faultyAt, Limited, blockRead, variableRead, subScopeRead, instructionRead, mark, Marked, Quiet, Passed, Marks, earlier, ahead, AreClosed, Head, Noted, Busy, Idle, Sized, Reading, AtInstruction}
+use Rattle.verifier.specs.declared.Progress.{Progress}
+use Rattle.verifier.proofs.Reading.{sound-at, ahead-at, Clean, clean, in-order, stage-below, front-one, front-two, front-three, front-four, NoHeads, no-heads}
+use Rattle.verifier.proofs.Blocks.{refused, sound-code, block-fits}
+use Rattle.verifier.proofs.Fitting.{fits-parts, local}
+use Rattle.verifier.proofs.Ring.{back-fits, back-inside, marks-next, quiet-next, marks-quiet}
+use Rattle.verifier.proofs.Blocks.{Formed, formed, earlier-none, all-accepted}
+use Rattle.verifier.proofs.Reading.{ahead-end, length-below}
+use Rattle.verifier.proofs.Turns.{More, drop-more, drop-end, nextAt, is-clean, next-inside, sound-next}
+use Rattle.verifier.proofs.Ends.{filled-room, filled-bound}
+use Rattle.verifier.specs.Tables.{Tabled, blockCount}
+use Rattle.verifier.specs.Pass.{nothingRead, filled, Leaving, AllClosed, Beginning, opening, Empty, Stepped, Judged}
+use Rattle.verifier.specs.declared.Step.{Step}
+use Rattle.verifier.specs.declared.Step.the-variants.{Refused, Next}
+use Rattle.verifier.specs.Pass.{Left}
+use Rattle.verifier.specs.declared.Closing.{Closing}
+use Rattle.verifier.specs.declared.Closing.the-variants.{Closed}
+use Rattle.verifier.specs.declared.Closing.the-variants as closing
+use Rattle.verifier.specs.declared.Verdict.{Verdict}
+use Rattle.verifier.specs.declared.Verdict.the-variants as verdict
+use Rattle.order.proofs.Matrix.{zeros}
+use native.Mathlib.Numerals.{add-one}
+use lib.ListN.{replicate, length-replicate, drop-of-length-le}
+
+-- at a record of kind 1 the present block ends
+pub begin-leaves : (code : List ℕ) (at next scope : ℕ) (u : Progress) (spans heads places weights widths ring : List ℕ)
+    → Beginning code at next scope u spans heads places weights widths ring → Leaving code at u spans heads places weights widths ring
+begin-leaves code at next scope u spans heads places weights widths ring g =
+    record {
+      reading = g .reading;
+      ended = ap (λ (p : Parsed). p .opened) (ahead-at code at (g .here) ∙ front-one (getD code at 0) (drop (at + 1) code) (ahead code (nextAt code at)) (g .stage));
+    }
+
+-- a block begins
+module _ (code : List ℕ) (at : ℕ) (u : Progress) (spans₀ heads₀ places₀ weights₀ widths₀ ring₀ : List ℕ)
+    (r : Reading code at u spans₀ heads₀ places₀ weights₀ widths₀ ring₀) (here : at < length code) (fine : faultyAt code at u ≡ false)
+    (one : stageOf (getD code at 0) ≡ 1)
+    (m : ℕ) (spans heads places weights widths ring : List ℕ) (c : AllClosed code at m spans heads places weights widths ring) where
+  abbrev next : ℕ
+  next = nextAt code at
+
+  abbrev s : ℕ
+  s = getD (drop (at + 1) code) 0 0
+
+  new : Block
+  new = record { scope = s; variables = ahead code next .opened .variables; subScopes = ahead code next .opened .subScopes; body = ahead code next .opened .body }
+
+  front : ahead code at ≡ record { opened = emptyBlock; blocks = new ∷ ahead code next .blocks }
+  unfolding new
+  front = ahead-at code at here ∙ front-one (getD code at 0) (drop (at + 1) code) (ahead code next) one
+
+  more : More (parse code 0 .blocks) m new (ahead code next .blocks) emptyBlock
+  more =
+      drop-more (parse code 0 .blocks) m new (ahead code next .blocks) emptyBlock
+      (c .idle .later ∙ ap (λ (p : Parsed). p .blocks) front)
+
+  block-is : blockAt code m ≡ new
+  unfolding blockAt
+  block-is = more .here
+
+  scope-is : blockAt code m .scope ≡ s
+  unfolding new
+  scope-is = ap (λ (x : Block). x .scope) block-is
+
+  formed-here : accepted code ≡ true → Formed (earlier code m) (blockAt code m)
+  formed-here a = formed (earlier code m) (blockAt code m) (block-fits code m (more .inside) a)
+
+  pub scope-refused : 31 < s → accepted code ≡ false
+  scope-refused h = refused code (λ a. let z = formed-here a .scope in let y = scope-is in omega arith)
+
+  pub repeat-refused : (getD places s 0 ≡ 0 → ⊥) → accepted code ≡ false
+  repeat-refused h =
+      refused code
+      (λ a.
+      let z : hasBlock (earlier code m) s ≡ false = ap (hasBlock (earlier code m)) (sym scope-is) ∙ formed-here a .fresh in
+      false≢true (sym z ∙ c .closed .known s ∙ lt-ltb 0 (getD places s 0) (omega arith)))
+
+  module _ (small : s ≤ 31) (free : getD places s 0 ≡ 0) where
+    room : m < 32
+    room =
+        let n = c .sized .room .placeRoom in
+        let z = filled-room places s (omega arith) free in
+        let y = c .closed .used in
+        omega arith
+
+    quiet : Quiet ring next
+    quiet = let n = length-below (getD code at 0) in quiet-next ring at next (omega arith) (omega arith) (c .idle .quiet)
+
+    body-is : ahead code next .opened .body ≡ blockAt code m .body
+    unfolding new
+    body-is = sym (ap (λ (x : Block). x .body) block-is)
+
+    pub open-turn : Reading code next (blockRead m s next) spans heads places weights widths ring
+    unfolding counted new sum
+    open-turn =
+        record {
+          sized = c .sized;
+          limited = record { stage = omega arith; variables = omega arith; subs = omega arith };
+          inside = next-inside code at u spans₀ heads₀ places₀ weights₀ widths₀ ring₀ r here fine;
+          sound = rw one at (sound-next code at u spans₀ heads₀ places₀ weights₀ widths₀ ring₀ r here fine);
+          closed = c .closed;
+          idle = λ z. absurd (omega arith);
+          busy =
+              λ _. record {
+                head =
+                    record {
+                      present = more .inside;
+                      room = room;
+                      later = ap (λ (n : ℕ). drop n (parse code 0 .blocks)) (sym (add-one m)) ∙ more .later;
+                      variablesRead = omega arith;
+                      variablesLeft = ap (λ (x : Block). x .variables) block-is;
+                      subsRead = omega arith;
+                      subsLeft = ap (λ (x : Block). x .subScopes) block-is;
+                      scope = sym scope-is;
+                      scopeSmall = omega arith;
+                      fresh = c .closed .known s ∙ rw free;
+                      begun = omega arith;
+                      body = let z : next - next ≡ 0 = omega arith in rw z body-is;
+                      known = λ k h. absurd (omega arith);
+                      weight = refl;
+                      weightFew = omega arith;
+                    };
+                noted = record { types = λ v h. absurd (omega arith); subs = λ k h. absurd (omega arith) };
+                marks = marks-quiet (earlier code m) (blockAt code m) (ahead code next .opened .body) next 0 ring quiet refl body-is;
+                quiet = λ _. quiet;
+                still = λ _. (refl, refl);
+              };
+        }
+
+  pub open-stepped : Stepped code at spans heads places weights widths ring (opening s next m places)
+  unfolding opening
+  open-stepped =
+      ⊎-elim
+      (λ (q : ltb 31 s ≡ true). rw q (scope-refused (ltb-true 31 s q)))
+      (λ (q : ltb 31 s ≡ false).
+      ⊎-elim
+      (λ (p : eqb (getD places s 0) 0 ≡ true). rw (q, p) (omega arith, open-turn (ltb-false 31 s q) (eqb-true (getD places s 0) 0 p)))
+      (λ (p : eqb (getD places s 0) 0 ≡ false). rw (q, p) (repeat-refused (eqb-false (getD places s 0) 0 p)))
+      (decide (eqb (getD places s 0) 0)))
+      (decide (ltb 31 s))
+
+pub begin-stepped : (code : List ℕ) (at next scope : ℕ) (u : Progress) (spans₀ heads₀ places₀ weights₀ widths₀ ring₀ : List ℕ)
+    → Beginning code at next scope u spans₀ heads₀ places₀ weights₀ widths₀ ring₀
+    → (m : ℕ) (spans heads places weights widths ring : List ℕ) → AllClosed code at m spans heads places weights widths ring
+    → (r : Step) → r ≡ opening scope next m places → Stepped code at spans heads places weights widths ring r
+begin-stepped code at next scope u spans₀ heads₀ places₀ weights₀ widths₀ ring₀ g m spans heads places weights widths ring c r e =
+    rw (e, g .scopeIs, g .nextIs)
+    (open-stepped code at u spans₀ heads₀ places₀ weights₀ widths₀ ring₀ (g .reading) (g .here) (g .fine) (g .stage) m spans heads places weights widths ring c)
+
+-- a refused end
+pub left-refused : (code : List ℕ) (at : ℕ) (spans heads places weights widths ring : List ℕ) (x : Closing) → x ≡ closing.Refused
+    → Left code at spans heads places weights widths ring x → accepted code ≡ false
+left-refused code at spans heads places weights widths ring x e l = rw e at l
+
+pub left-closed : (code : List ℕ) (at m : ℕ) (spans heads places weights widths ring : List ℕ) (x : Closing) → x ≡ Closed m
+    → Left code at spans heads places weights widths ring x → AllClosed code at m spans heads places weights widths ring
+left-closed code at m spans heads places weights widths ring x e l = rw e at l
+
+-- The start
+
+none-filled : (n : ℕ) → filled (replicate n 0) ≡ 0
+unfolding filled
+none-filled zero = refl
+none-filled (suc n) = let h = none-filled n in omega arith
+
+pub start-reading : (code spans heads places weights widths ring : List ℕ) → Empty spans heads places weights widths ring
+    → Reading code 0 nothingRead spans heads places weights widths ring
+unfolding earlier allWellFormed hasBlock any weightIn variablesOf ahead mark
+start-reading code spans heads places weights widths ring e =
+    let p : (i : ℕ) → getD places i 0 ≡ 0 = λ i. rw (e .noPlaces) (zeros 32 i) in
+    let w : (i : ℕ) → getD weights i 0 ≡ 0 = λ i. rw (e .noWeights) (zeros 32 i) in
+    let v : (i : ℕ) → getD widths i 0 ≡ 0 = λ i. rw (e .noWidths) (zeros 32 i) in
+    let g : (i : ℕ) → getD ring i 0 ≡ 0 = λ i. rw (e .noMarks) (zeros 65536 i) in
+    record {
+      sized =
+          record {
+            room = record { spanRoom = e .spanRoom; headRoom = e .headRoom; placeRoom = rw (e .noPlaces) (length-replicate {A = ℕ} 32 0) };
+            weightRoom = rw (e .noWeights) (length-replicate {A = ℕ} 32 0);
+            widthRoom = rw (e .noWidths) (length-replicate {A = ℕ} 32 0);
+            ringRoom = rw (e .noMarks) (length-replicate {A = ℕ} 65536 0);
+          };
+      limited = record { stage = omega arith; variables = omega arith; subs = omega arith };
+      inside = omega arith;
+      sound = refl;
+      closed =
+          record {
+            within = omega arith;
+            wellFormed = refl;
+            entered = λ q h. absurd (omega arith);
+            found = λ q h. absurd (omega arith);
+            present = λ i h. let z = p i in absurd (omega arith);
+            used = rw (e .noPlaces) (none-filled 32);
+            small = λ q h. absurd (omega arith);
+            known = λ i. sym (rw (p i));
+            weighed = λ i. sym (w i);
+            light = λ i. let z = w i in omega arith;
+            wide = λ i. sym (v i);
+          };
+      idle = λ _. record { later = refl; quiet = λ d q. let z = g (d % 65536) in let y = q .set in omega arith };
+      busy = λ h. absurd (omega arith);
+    }
+
+-- The end
+
+pub end-leaves : (code : List ℕ) (at : ℕ) (u : Progress) (spans heads places weights widths ring : List ℕ)
+    → Reading code at u spans heads places weights widths ring → length code ≤ at → Leaving code at u spans heads places weights widths ring
+end-leaves code at u spans heads places weights widths ring r h =
+    record { reading = r; ended = ap (λ (p : Parsed). p .opened) (ahead-end code at h) }
+
+module _ (code : List ℕ) (at m : ℕ) (u : Progress) (spans heads places weights widths ring : List ℕ) (h : length code ≤ at)
+    (s : sound (drop at code) 0 (countOf u) ≡ sound code 0 start) (c : AllClosed code at m spans heads places weights widths ring) where
+  all-blocks : length (parse code 0 .blocks) ≤ m
+  all-blocks = drop-end (parse code 0 .blocks) m (c .idle .later ∙ ap (λ (p : Parsed). p .blocks) (ahead-end code at h))
+
+  sound-all : sound code 0 start ≡ true
+  unfolding sound
+  sound-all = sym s ∙ rw (drop-of-length-le code h)
+
+  pub end-accepted : accepted code ≡ true
+  end-accepted = all-accepted code m all-blocks sound-all (c .closed .wellFormed)
+
+  pub end-tabled : Tabled code spans heads places m
+  unfolding blockCount
+  end-tabled =
+      let w = c .closed .within in
+      let a = all-blocks in
+      let f = filled-bound places in
+      let n = c .sized .room .placeRoom in
+      let z = c .closed .used in
+      record {
+        number = omega arith;
+        few = omega arith;
+        blocks = c .closed .entered;
+        found = c .closed .found;
+        present = λ i _ q. c .closed .present i q;
+      }
+
+-- The loop
+
+pub stepped-refused : (code : List ℕ) (at : ℕ) (spans heads places weights widths ring : List ℕ) (x : Step) → x ≡ Refused
+    → Stepped code at spans heads places weights widths ring x → accepted code ≡ false
+stepped-refused code at spans heads places weights widths ring x e s = rw e at s
+
+pub stepped-next : (code : List ℕ) (at : ℕ) (spans heads places weights widths ring : List ℕ) (x : Step) (next : ℕ) (u : Progress) → x ≡ Next next u
+    → Stepped code at spans heads places weights widths ring x → (at < next) × Reading code next u spans heads places weights widths ring
+stepped-next code at spans heads places weights widths ring x next u e s = rw e at s
+
+pub empty-start : (code spans heads places weights widths ring : List ℕ) (u : Progress) → Empty spans heads places weights widths ring → u ≡ nothingRead
+    → Reading code 0 u spans heads places weights widths ring
+empty-start code spans heads places weights widths ring u e eu = rw eu (start-reading code spans heads places weights widths ring e)
+
+pub end-judged : (code : List ℕ) (at : ℕ) (u : Progress) (spans₀ heads₀ places₀ weights₀ widths₀ ring₀ : List ℕ)
+    → Reading code at u spans₀ heads₀ places₀ weights₀ widths₀ ring₀ → length code ≤ at
+    → (m : ℕ) (spans heads places weights widths ring : List ℕ) → AllClosed code at m spans heads places weights widths ring
+    → (accepted code ≡ true) × Tabled code spans heads places m
+end-judged code at u spans₀ heads₀ places₀ weights₀ widths₀ ring₀ r h m spans heads places weights widths ring c =
+    (end-accepted code at m u spans heads places weights widths ring h (r .sound) c, end-tabled code at m u spans heads places weights widths ring h (r .sound) c)
+
+pub judged-refused : (code spans heads places : List ℕ) (v : Verdict) → v ≡ verdict.Refused → Judged code spans heads places v → false ≡ accepted code
+judged-refused code spans heads places v e j = sym (rw e at j)
+
+pub judged-accepted : (code spans heads places : List ℕ) (v : Verdict) (m : ℕ) → v ≡ verdict.Accepted m → Judged code spans heads places v → true ≡ accepted code
+judged-accepted code spans heads places v m e j = let q : (accepted code ≡ true) × Tabled code spans heads places m = rw e at j in sym (q .0)

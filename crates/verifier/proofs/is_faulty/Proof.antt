@@ -1,0 +1,73 @@
+-- `verifier::is_faulty` meets its contract.
+-- Assumes nothing.
+use Rattle.verifier.proofs.Faults.{fault-kind, fault-length, fault-order, fault-limit, fault-byte}
+use borrow.Author.Tests.{not-true, not-false}
+use mathlib.Core.Path.{_∙_, sym}
+use borrow.Author.Needs.{needs}
+use Rattle.verifier.proofs.is_faulty.Statement.{statement}
+use Rattle.verifier.proofs.is_faulty.Tie as tie
+
+shared-slice-read-kind : tie.Need-shared-slice-read-kind
+shared-slice-read-kind c = search needs
+
+shape-in-requires : tie.Need-shape-in-requires
+shape-in-requires c κs = search needs
+
+returns : tie.Need-returns
+returns c = fault-kind _ _ _ _ (c .before .shape-in .ensures) (c .if1 .taken)
+
+add-start : tie.Need-add-start
+add-start c = search needs
+
+sub-if2 : tie.Need-sub-if2
+sub-if2 c = search needs
+
+returns-2 : tie.Need-returns-2
+returns-2 c = fault-length _ _ _ _ (c .before .before .shape-in .ensures) (c .before .if1 .left) (c .if2 .taken)
+
+may-follow-requires : tie.Need-may-follow-requires
+may-follow-requires c κs = search needs
+
+returns-3 : tie.Need-returns-3
+returns-3 c = fault-order _ _ _ _ (c .before .before .before .before .shape-in .ensures) (c .before .before .before .if1 .left) (c .before .before .if2 .left) _ (c .before .may-follow .ensures) (not-true _ (c .if3 .taken))
+
+too-many-requires : tie.Need-too-many-requires
+too-many-requires c κs = search needs
+
+returns-4 : tie.Need-returns-4
+returns-4 c = fault-limit _ _ _ _ (c .before .before .before .before .before .before .shape-in .ensures) (c .before .before .before .before .before .if1 .left) (c .before .before .before .before .if2 .left) _ (c .before .before .before .may-follow .ensures) (not-false _ (c .before .before .if3 .left)) _ (c .before .too-many .ensures) (c .if4 .taken)
+
+sub-is-invalid : tie.Need-sub-is-invalid
+sub-is-invalid c = search needs
+
+part-is-invalid-start : tie.Need-part-is-invalid-start
+part-is-invalid-start c = search needs
+
+part-is-invalid-end : tie.Need-part-is-invalid-end
+part-is-invalid-end c = search needs
+
+is-invalid-requires : tie.Need-is-invalid-requires
+is-invalid-requires c κs = search needs
+
+returns-5 : tie.Need-returns-5
+returns-5 c = fault-byte _ _ _ _ (c .before .before .before .before .before .before .before .before .shape-in .ensures) (c .before .before .before .before .before .before .before .if1 .left) (c .before .before .before .before .before .before .if2 .left) _ (c .before .before .before .before .before .may-follow .ensures) (not-false _ (c .before .before .before .before .if3 .left)) _ (c .before .before .before .too-many .ensures) (c .before .before .if4 .left) _ (c .is-invalid .ensures)
+
+pub is-faulty-spec : {M : Type 1} → statement M
+is-faulty-spec =
+    tie.close
+    (tie.spec
+    shared-slice-read-kind
+    shape-in-requires
+    returns
+    add-start
+    sub-if2
+    returns-2
+    may-follow-requires
+    returns-3
+    too-many-requires
+    returns-4
+    sub-is-invalid
+    part-is-invalid-start
+    part-is-invalid-end
+    is-invalid-requires
+    returns-5)

@@ -1,0 +1,65 @@
+-- `verifier::names_hold` meets its contract.
+-- Assumes nothing.
+use Rattle.verifier.specs.Pass.{namesAt}
+use mathlib.Core.Path.{_∙_, sym}
+use borrow.Author.Needs.{needs}
+use Rattle.verifier.proofs.names_hold.Statement.{statement}
+use Rattle.verifier.proofs.names_hold.Tie as tie
+
+byte-at-requires : tie.Need-byte-at-requires
+byte-at-requires c κs = search needs
+
+wide-requires : tie.Need-wide-requires
+wide-requires c κs = search needs
+
+byte-at-requires-2 : tie.Need-byte-at-requires-2
+byte-at-requires-2 c κs = search needs
+
+wide-requires-2 : tie.Need-wide-requires-2
+wide-requires-2 c κs = search needs
+
+mul-byte-at : tie.Need-mul-byte-at
+mul-byte-at c = search needs
+
+add-byte-at : tie.Need-add-byte-at
+add-byte-at c = search needs
+
+add-byte-at-2 : tie.Need-add-byte-at-2
+add-byte-at-2 c = search needs
+
+byte-at-requires-3 : tie.Need-byte-at-requires-3
+byte-at-requires-3 c κs = search needs
+
+wide-requires-3 : tie.Need-wide-requires-3
+wide-requires-3 c κs = search needs
+
+entry-at-requires : tie.Need-entry-at-requires
+entry-at-requires c κs = search needs
+
+naming-of-requires : tie.Need-naming-of-requires
+naming-of-requires c κs = search needs
+
+names-something-requires : tie.Need-names-something-requires
+names-something-requires c κs = search needs
+
+returns : tie.Need-returns
+unfolding namesAt
+returns c = c .names-something .ensures ∙ rw (c .before .naming-of .ensures, c .before .before .entry-at .ensures, c .before .before .before .wide3 .ensures, c .before .before .before .before .byte-at3 .ensures, c .before .before .before .before .before .before .wide2 .ensures, c .before .before .before .before .before .before .before .byte-at2 .ensures, c .before .before .before .before .before .before .before .before .wide .ensures, c .before .before .before .before .before .before .before .before .before .byte-at .ensures)
+
+pub names-hold-spec : {M : Type 1} → statement M
+names-hold-spec =
+    tie.close
+    (tie.spec
+    byte-at-requires
+    wide-requires
+    byte-at-requires-2
+    wide-requires-2
+    mul-byte-at
+    add-byte-at
+    add-byte-at-2
+    byte-at-requires-3
+    wide-requires-3
+    entry-at-requires
+    naming-of-requires
+    names-something-requires
+    returns)

@@ -1,0 +1,485 @@
+// Judging code in one pass over its bytes: whether it is accepted, and the tables by which the blocks of accepted code are found.
+//   weights, widths   of each of 32 scopes: the weight of its block and the number of its variables, 0 where it has no block
+//   ring              the landings of distances that lie ahead: a mark for each position, by its remainder modulo 65,536
+use record::Medium;
+use record::byte_at;
+use record::shape_in;
+use scan::is_invalid;
+use scan::may_follow;
+ghost use mathlib.Core.Path.{_≡_};
+ghost use Prim.Native.Nat.{_+_, _<_, _≤_, _*_};
+ghost use lib.ListN.{length, getD, replicate};
+ghost use Rattle.machine.specs.Acceptance.{accepted};
+ghost use Rattle.verifier.specs.Tables.{Room};
+ghost use Rattle.verifier.specs.Instructions.{namingOf, distancePlace, named, distanceOf, farthest};
+ghost use Rattle.verifier.specs.Pass.{faultyAt, exceedsWith, Limited, namesAt, Passed, nothingRead, Reading, Stepped, Instructing, Instructed, Leaving, Left, Beginning, opening, SubRoom, SubRead, Empty, Judged};
+
+// Code is refused, or accepted with the number of its blocks.
+pub enum Verdict {
+    Refused,
+    Accepted(usize),
+}
+
+// What was read: the stage of the last record, how many blocks are closed, and of the present block its variables and sub-scopes so far,
+// its scope, where its instructions begin, its weight so far, and how far ahead the farthest landing lies.
+struct Progress {
+    pub stage: usize,
+    pub variables: usize,
+    pub subs: usize,
+    pub blocks: usize,
+    pub scope: usize,
+    pub begin: usize,
+    pub weight: usize,
+    pub reach: usize,
+}
+
+// After a record: the code is refused, or the position of the next record and what was read.
+enum Step {
+    Refused,
+    Next(usize, Progress),
+}
+
+// At a block's end: the code is refused, or the number of closed blocks.
+enum Closing {
+    Refused,
+    Closed(usize),
+}
+
+fn wide(b: u8) -> usize
+    ensures { λ r. ⌜ r ≡ b ⌝ }
+{
+    b as usize
+}
+
+// A number, or 0 past the end.
+fn entry_at(xs: &[usize], i: usize) -> usize
+    ensures { λ r. ⌜ r ≡ getD (now (xs .entry)) i 0 ⌝ }
+{
+    if i < xs.len() { xs[i] } else { 0 }
+}
+
+// What was read before the first record.
+fn nothing_read() -> Progress
+    ensures { λ r. ⌜ r ≡ nothingRead ⌝ }
+{
+    Progress {
+        stage: 0,
+        variables: 0,
+        subs: 0,
+        blocks: 0,
+        scope: 0,
+        begin: 0,
+        weight: 0,
+        reach: 0,
+    }
+}
+
+// Whether one more record of a stage is one variable or one sub-scope too many.
+fn too_many(stage: usize, u: Progress) -> bool
+    requires { ⌜ Limited u ⌝ }
+    ensures { λ r. ⌜ r ≡ exceedsWith stage u ⌝ }
+{
+    if stage == 2 {
+        return 31 < u.variables;
+    }
+    if stage == 3 {
+        return 7 < u.subs;
+    }
+    false
+}
+
+// Whether the record at a position has one of the faults 1 to 5.
+fn is_faulty(code: &[u8], at: usize, u: Progress) -> bool
+    requires { ⌜ (at < length (now code)) × Limited u ⌝ }
+    ensures { λ r. ⌜ r ≡ faultyAt (now (code .entry)) at u ⌝ }
+{
+    let kind = code[at];
+    let shape = shape_in(Medium::Code, kind);
+    let stage = shape.stage;
+    let length = shape.length;
+    if stage == 0 {
+        return true;
+    }
+    let start = at + 1;
+    if code.len() - start < length {
+        return true;
+    }
+    if !may_follow(u.stage, stage) {
+        return true;
+    }
+    if too_many(stage, u) {
+        return true;
+    }
+    is_invalid(kind, &code[start..])
+}
+
+// What the first numbers of an instruction name: 1 an own variable, 2 a sub-scope and its variable, 3 a sub-scope, 0 nothing.
+fn naming_of(kind: u8) -> usize
+    ensures { λ r. ⌜ r ≡ namingOf kind ⌝ }
+{
+    match kind {
+        6 | 41 | 44 => 1,
+        7 | 42 => 2,
+        43 => 3,
+        _ => 0,
+    }
+}
+
+// Where the distance of an instruction stands: 1 in its first two bytes, 2 after its first byte, 0 nowhere.
+fn distance_place(kind: u8) -> usize
+    ensures { λ r. ⌜ r ≡ distancePlace kind ⌝ }
+{
+    match kind {
+        34 | 35 | 36 | 40 => 1,
+        44 => 2,
+        _ => 0,
+    }
+}
+
+// Whether the numbers a and b of an instruction name something, where the block has `variables` and `subs`, and sub-scope a has `called` variables.
+fn names_something(
+    naming: usize,
+    a: usize,
+    b: usize,
+    variables: usize,
+    subs: usize,
+    called: usize,
+) -> bool
+    ensures { λ r. ⌜ r ≡ named naming a b variables subs called ⌝ }
+{
+    if naming == 1 {
+        return a < variables;
+    }
+    if naming == 2 {
+        if a < subs {
+            return b < called;
+        }
+        return false;
+    }
+    if naming == 3 {
+        return a < subs;
+    }
+    true
+}
+
+// The number of two bytes, high byte first.
+fn joined(high: u8, low: u8) -> usize
+    ensures { λ r. ⌜ (r ≡ high * 256 + low) × (r < 65536) ⌝ }
+{
+    (high as usize) * 256 + (low as usize)
+}
+
+// The distance of an instruction by its body; 0 where it has none.
+fn distance_of(body: &[u8], place: usize) -> usize
+    ensures { λ r. ⌜ (r ≡ distanceOf place (now (body .entry))) × (r < 65536) ⌝ }
+{
+    if place == 1 {
+        return joined(byte_at(body, 0), byte_at(body, 1));
+    }
+    if place == 2 {
+        return joined(byte_at(body, 1), byte_at(body, 2));
+    }
+    0
+}
+
+// Whether no landing is marked from a position on up to an end.
+fn unmarked(ring: &[u8], from: usize, end: usize) -> bool
+    requires { ⌜ (length (now ring) ≡ 65536) × (from ≤ end) ⌝ }
+    ensures { λ r. ⌜ Passed (now (ring .entry)) from end r ⌝ }
+{
+    let mut at = from;
+    while at < end {
+        if ring[at % 65536] != 0 {
+            return false;
+        }
+        at = at + 1;
+    }
+    true
+}
+
+// How far ahead the farthest landing lies after `passed` bytes, with one more that lies d ahead.
+fn farther(reach: usize, passed: usize, d: usize) -> usize
+    ensures { λ r. ⌜ r ≡ farthest reach passed d ⌝ }
+{
+    if passed < reach {
+        let left = reach - passed;
+        if d < left {
+            return left;
+        }
+    }
+    d
+}
+
+// Whether the numbers of an instruction name something in its block; `widths` has the variables of each sub-scope's scope.
+fn names_hold(kind: u8, body: &[u8], u: Progress, heads: &[u8], widths: &[usize]) -> bool
+    requires { ⌜ u .blocks < 32 ⌝ }
+    ensures { λ r. ⌜ r ≡ namesAt kind (now (body .entry)) (now (heads .entry)) (now (widths .entry)) u ⌝ }
+{
+    let a = wide(byte_at(body, 0));
+    let b = wide(byte_at(body, 1));
+    let called = entry_at(widths, wide(byte_at(heads, u.blocks * 48 + 35 + a)));
+    names_something(naming_of(kind), a, b, u.variables, u.subs, called)
+}
+
+// An instruction at a position, by its kind and all bytes after it, up to the next record. One without a distance lands at its own end.
+fn instruction(
+    kind: u8,
+    body: &[u8],
+    at: usize,
+    next: usize,
+    u: Progress,
+    heads: &[u8],
+    widths: &[usize],
+    ring: &mut [u8],
+) -> Step
+    requires { ⌜ Instructing at next u (now ring) ⌝ }
+    ensures { λ r. ⌜ Instructed kind (now (body .entry)) at next u (now (heads .entry)) (now (widths .entry)) (now (ring .entry)) (now (ring .exit)) r ⌝ }
+{
+    if !names_hold(kind, body, u, heads, widths) {
+        return Step::Refused;
+    }
+    if !unmarked(ring, at + 1, next) {
+        return Step::Refused;
+    }
+    let d = distance_of(body, distance_place(kind));
+    ring[at % 65536] = 0;
+    ring[(next % 65536 + d) % 65536] = 1;
+    let mut v = u;
+    v.stage = 4;
+    v.reach = farther(u.reach, next - at, d);
+    Step::Next(next, v)
+}
+
+// Closes the present block, if there is one: nothing lands past its end, and its weight is within the limit.
+fn leave(
+    code: &[u8],
+    at: usize,
+    u: Progress,
+    spans: &mut [usize],
+    heads: &mut [u8],
+    places: &mut [u8],
+    weights: &mut [usize],
+    widths: &mut [usize],
+    ring: &mut [u8],
+) -> Closing
+    requires { ⌜ Leaving (now code) at u (now spans) (now heads) (now places) (now weights) (now widths) (now ring) ⌝ }
+    ensures { λ r. ⌜ Left (now (code .entry)) at (now (spans .exit)) (now (heads .exit)) (now (places .exit)) (now (weights .exit)) (now (widths .exit)) (now (ring .exit)) r ⌝ }
+{
+    let m = u.blocks;
+    if u.stage == 0 {
+        return Closing::Closed(m);
+    }
+    if 0 < u.reach {
+        return Closing::Refused;
+    }
+    if 4096 < u.weight {
+        return Closing::Refused;
+    }
+    spans[m * 2] = u.begin;
+    spans[m * 2 + 1] = at;
+    heads[m * 48] = u.scope as u8;
+    heads[m * 48 + 1] = u.variables as u8;
+    heads[m * 48 + 2] = u.subs as u8;
+    let scope = u.scope;
+    places[scope] = (m + 1) as u8;
+    weights[scope] = u.weight;
+    widths[scope] = u.variables;
+    ring[at % 65536] = 0;
+    Closing::Closed(m + 1)
+}
+
+// Opens a block of a scope after m closed ones, unless the scope is above 31 or has a block already.
+fn open_block(scope: u8, next: usize, m: usize, places: &[u8]) -> Step
+    ensures { λ r. ⌜ r ≡ opening scope next m (now (places .entry)) ⌝ }
+{
+    let i = wide(scope);
+    if 31 < i {
+        return Step::Refused;
+    }
+    if byte_at(places, i) != 0 {
+        return Step::Refused;
+    }
+    Step::Next(
+        next,
+        Progress {
+            stage: 1,
+            variables: 0,
+            subs: 0,
+            blocks: m,
+            scope: i,
+            begin: next,
+            weight: 1,
+            reach: 0,
+        },
+    )
+}
+
+// A record of kind 1.
+fn begin_block(
+    code: &[u8],
+    at: usize,
+    next: usize,
+    scope: u8,
+    u: Progress,
+    spans: &mut [usize],
+    heads: &mut [u8],
+    places: &mut [u8],
+    weights: &mut [usize],
+    widths: &mut [usize],
+    ring: &mut [u8],
+) -> Step
+    requires { ⌜ Beginning (now code) at next scope u (now spans) (now heads) (now places) (now weights) (now widths) (now ring) ⌝ }
+    ensures { λ r. ⌜ Stepped (now (code .entry)) at (now (spans .exit)) (now (heads .exit)) (now (places .exit)) (now (weights .exit)) (now (widths .exit)) (now (ring .exit)) r ⌝ }
+{
+    match leave(code, at, u, spans, heads, places, weights, widths, ring) {
+        Closing::Refused => Step::Refused,
+        Closing::Closed(m) => open_block(scope, next, m, places),
+    }
+}
+
+// A record of kind 3, unless its scope has no block yet.
+fn sub_scope(
+    scope: u8,
+    next: usize,
+    u: Progress,
+    heads: &mut [u8],
+    places: &[u8],
+    weights: &[usize],
+) -> Step
+    requires { ⌜ SubRoom scope u (now heads) (now weights) ⌝ }
+    ensures { λ r. ⌜ SubRead scope next u (now (heads .entry)) (now (places .entry)) (now (weights .entry)) (now (heads .exit)) r ⌝ }
+{
+    let i = wide(scope);
+    if byte_at(places, i) == 0 {
+        return Step::Refused;
+    }
+    let m = u.blocks;
+    let k = u.subs;
+    heads[m * 48 + 35 + k] = scope;
+    let mut v = u;
+    v.stage = 3;
+    v.subs = k + 1;
+    v.begin = next;
+    v.weight = u.weight + entry_at(weights, i);
+    Step::Next(next, v)
+}
+
+// The record at a position, after what was read.
+fn step_at(
+    code: &[u8],
+    at: usize,
+    u: Progress,
+    spans: &mut [usize],
+    heads: &mut [u8],
+    places: &mut [u8],
+    weights: &mut [usize],
+    widths: &mut [usize],
+    ring: &mut [u8],
+) -> Step
+    requires { ⌜ (at < length (now code)) × Reading (now code) at u (now spans) (now heads) (now places) (now weights) (now widths) (now ring) ⌝ }
+    ensures { λ r. ⌜ Stepped (now (code .entry)) at (now (spans .exit)) (now (heads .exit)) (now (places .exit)) (now (weights .exit)) (now (widths .exit)) (now (ring .exit)) r ⌝ }
+{
+    if is_faulty(code, at, u) {
+        return Step::Refused;
+    }
+    let kind = code[at];
+    let shape = shape_in(Medium::Code, kind);
+    let stage = shape.stage;
+    let length = shape.length;
+    let start = at + 1;
+    let next = start + length;
+    let first = byte_at(code, start);
+    if stage == 1 {
+        return begin_block(
+            code,
+            at,
+            next,
+            first,
+            u,
+            spans,
+            heads,
+            places,
+            weights,
+            widths,
+            ring,
+        );
+    }
+    if stage == 2 {
+        let m = u.blocks;
+        let v = u.variables;
+        heads[m * 48 + 3 + v] = first;
+        let mut w = u;
+        w.stage = 2;
+        w.variables = v + 1;
+        w.begin = next;
+        return Step::Next(next, w);
+    }
+    if stage == 3 {
+        return sub_scope(first, next, u, heads, places, weights);
+    }
+    instruction(kind, &code[start..], at, next, u, heads, widths, ring)
+}
+
+// Reads the records of code one after the other; the tables are still empty.
+fn judge_code(
+    code: &[u8],
+    spans: &mut [usize],
+    heads: &mut [u8],
+    places: &mut [u8],
+    weights: &mut [usize],
+    widths: &mut [usize],
+    ring: &mut [u8],
+) -> Verdict
+    requires { ⌜ Empty (now spans) (now heads) (now places) (now weights) (now widths) (now ring) ⌝ }
+    ensures { λ r. ⌜ Judged (now (code .entry)) (now (spans .exit)) (now (heads .exit)) (now (places .exit)) r ⌝ }
+{
+    let mut u = nothing_read();
+    let mut at: usize = 0;
+    while at < code.len() {
+        match step_at(code, at, u, spans, heads, places, weights, widths, ring) {
+            Step::Refused => {
+                return Verdict::Refused;
+            }
+            Step::Next(next, v) => {
+                at = next;
+                u = v;
+            }
+        }
+    }
+    match leave(code, at, u, spans, heads, places, weights, widths, ring) {
+        Closing::Refused => Verdict::Refused,
+        Closing::Closed(m) => Verdict::Accepted(m),
+    }
+}
+
+// Judges code: whether it is accepted, and of accepted code the tables of its blocks.
+pub fn verify(code: &[u8], spans: &mut [usize], heads: &mut [u8], places: &mut [u8]) -> Verdict
+    requires { ⌜ Room (now spans) (now heads) (now places) × (now places ≡ replicate 32 0) ⌝ }
+    ensures { λ r. ⌜ Judged (now (code .entry)) (now (spans .exit)) (now (heads .exit)) (now (places .exit)) r ⌝ }
+{
+    let mut weights = [0usize; 32];
+    let mut widths = [0usize; 32];
+    let mut ring = [0u8; 65536];
+    judge_code(
+        code,
+        spans,
+        heads,
+        places,
+        &mut weights,
+        &mut widths,
+        &mut ring,
+    )
+}
+
+// Whether code is accepted.
+pub fn accepts(code: &[u8]) -> bool
+    ensures { λ r. ⌜ r ≡ accepted (now (code .entry)) ⌝ }
+{
+    let mut spans = [0usize; 64];
+    let mut heads = [0u8; 1536];
+    let mut places = [0u8; 32];
+    match verify(code, &mut spans, &mut heads, &mut places) {
+        Verdict::Refused => false,
+        Verdict::Accepted(_) => true,
+    }
+}
