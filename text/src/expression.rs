@@ -1,0 +1,230 @@
+//! Tokens to nodes. Tightest first: `-` before an operand, `+` and `-`, at most one
+//! `=` or `<`, `not`, `and`; an `if` is open to the right.
+
+use crate::lexer::Kind;
+use crate::parser::{within, Parser};
+use crate::place::{Checked, Fault, Place};
+use crate::syntax::{Form, Node};
+use second::kind;
+
+/// How tightly signs bind.
+pub const AND: u8 = 1;
+pub const NOT: u8 = 2;
+pub const COMPARISON: u8 = 3;
+pub const SUM: u8 = 4;
+pub const NEGATION: u8 = 5;
+
+pub const MAX_NODES: usize = 250;
+
+/// More than any text of 250 nodes needs.
+const MAX_DEPTH: usize = 700;
+
+/// Sign or word, record kind and level of each operation with two operands.
+pub const OPERATIONS: [(&str, u8, u8); 5] = [
+    ("and", kind::AND, AND),
+    ("=", kind::EQUAL, COMPARISON),
+    ("<", kind::LESS, COMPARISON),
+    ("+", kind::ADD, SUM),
+    ("-", kind::SUBTRACT, SUM),
+];
+
+impl Parser {
+    /// Reads an expression; hands back its node.
+    pub(crate) fn expression(&mut self) -> Checked<usize> {
+        self.deeper(|parser| match parser.at_word("if") {
+            true => parser.conditional(),
+            false => parser.operation(AND),
+        })
+    }
+
+    fn deeper(&mut self, read: impl FnOnce(&mut Parser) -> Checked<usize>) -> Checked<usize> {
+        if self.depth == MAX_DEPTH {
+            return Err(Fault::at(self.place(), "nested too deeply"));
+        }
+        self.depth += 1;
+        let node = read(self)?;
+        self.depth -= 1;
+        Ok(node)
+    }
+
+    fn add(&mut self, place: Place, form: Form) -> Checked<usize> {
+        let have = self.scope.nodes.len();
+        within(have, MAX_NODES, place, "nodes in a scope")?;
+        self.scope.nodes.push(Node {
+            place,
+            form,
+            fixed: None,
+        });
+        Ok(have)
+    }
+
+    fn conditional(&mut self) -> Checked<usize> {
+        let place = self.place();
+        self.need_word("if")?;
+        let condition = self.expression()?;
+        self.need_word("then")?;
+        let then = self.expression()?;
+        self.need_word("else")?;
+        let other = self.expression()?;
+        self.add(place, Form::If(condition, then, other))
+    }
+
+    /// Operations of a level or tighter, from the left.
+    fn operation(&mut self, level: u8) -> Checked<usize> {
+        let mut left = self.operand(level)?;
+        let mut compared = false;
+        while let Some((record, own)) = self.sign().filter(|&(_, own)| own >= level) {
+            if own == COMPARISON && compared {
+                let message = "only one '=' or '<' may stand here; use parentheses";
+                return Err(Fault::at(self.place(), message));
+            }
+            compared = own == COMPARISON;
+            self.advance();
+            let right = self.operation(own + 1)?;
+            let place = self.scope.nodes[left].place;
+            left = self.add(place, Form::Binary(record, left, right))?;
+        }
+        Ok(left)
+    }
+
+    /// Record kind and level of the operation whose sign stands here.
+    fn sign(&self) -> Option<(u8, u8)> {
+        let written = match &self.token().kind {
+            Kind::Sign(sign) => sign.to_string(),
+            Kind::Word(word) => word.to_string(),
+            _ => return None,
+        };
+        let found = OPERATIONS.iter().find(|(sign, _, _)| *sign == written);
+        found.map(|&(_, record, level)| (record, level))
+    }
+
+    /// An operand of an operation of a level: `not` only where it binds more tightly.
+    fn operand(&mut self, level: u8) -> Checked<usize> {
+        let place = self.place();
+        if level <= NOT && self.take_word("not") {
+            let node = self.deeper(|parser| parser.operation(NOT))?;
+            return self.add(place, Form::Unary(kind::NOT, node));
+        }
+        if self.take_sign('-') {
+            return self.negated(place);
+        }
+        self.atom()
+    }
+
+    /// After `-`: a number makes a negative constant, all else is negated.
+    fn negated(&mut self, place: Place) -> Checked<usize> {
+        if let Kind::Number(n) = self.token().kind {
+            let above = || Fault::at(place, "a number below -2147483648");
+            let n = i64::try_from(n).map_err(|_| above())?;
+            let n = i32::try_from(-n).map_err(|_| above())?;
+            self.advance();
+            return self.add(place, Form::Number(n));
+        }
+        let node = self.deeper(|parser| parser.operand(NEGATION))?;
+        self.add(place, Form::Unary(kind::NEGATE, node))
+    }
+
+    fn atom(&mut self) -> Checked<usize> {
+        let place = self.place();
+        match self.token().kind {
+            Kind::Number(n) => {
+                let above = |_| Fault::at(place, "a number above 2147483647");
+                let n = i32::try_from(n).map_err(above)?;
+                self.advance();
+                self.add(place, Form::Number(n))
+            }
+            Kind::Name(_) => {
+                let reference = self.reference()?;
+                self.add(place, Form::Read(reference))
+            }
+            Kind::Sign('(') => self.parenthesis(),
+            Kind::Sign('@') => self.fixed(),
+            Kind::Word(word) => self.word(word),
+            _ => self.expected("a number, a name or '('"),
+        }
+    }
+
+    fn word(&mut self, word: &'static str) -> Checked<usize> {
+        let place = self.place();
+        match word {
+            "yes" | "no" => {
+                self.advance();
+                self.add(place, Form::Constant(word == "yes"))
+            }
+            "empty" | "conflict" => {
+                self.advance();
+                let of = self.take_type();
+                let record = match word {
+                    "empty" => kind::EMPTY,
+                    _ => kind::CONFLICT,
+                };
+                self.add(place, Form::Raise(record, of))
+            }
+            "default" => self.default_term(),
+            "not" | "if" => {
+                let message = format!("put '{word}' and what belongs to it in parentheses here");
+                Err(Fault::at(place, message))
+            }
+            "yes/no" => Err(Fault::at(place, "yes/no is a type; say yes or no")),
+            _ => self.expected("a number, a name or '('"),
+        }
+    }
+
+    fn parenthesis(&mut self) -> Checked<usize> {
+        self.need_sign('(')?;
+        let node = self.expression()?;
+        self.need_sign(')')?;
+        Ok(node)
+    }
+
+    /// `@7 (a + b)`: the node of what follows gets number 7.
+    fn fixed(&mut self) -> Checked<usize> {
+        let place = self.place();
+        self.need_sign('@')?;
+        let Kind::Number(n) = self.token().kind else {
+            return self.expected("the number of a node");
+        };
+        let above = |_| Fault::at(place, format!("{n} is no number of a node"));
+        let number = u8::try_from(n).map_err(above)?;
+        self.advance();
+        let node = self.deeper(Parser::atom)?;
+        if self.scope.nodes[node].fixed.is_some() {
+            return Err(Fault::at(place, "a node has one number only"));
+        }
+        self.scope.nodes[node].fixed = Some((number, place));
+        Ok(node)
+    }
+
+    /// `default [exceptions | justification : consequence]`.
+    fn default_term(&mut self) -> Checked<usize> {
+        let place = self.place();
+        self.need_word("default")?;
+        self.need_sign('[')?;
+        let exceptions = self.exceptions()?;
+        self.need_sign('|')?;
+        let justification = self.expression()?;
+        self.need_sign(':')?;
+        let consequence = self.expression()?;
+        self.need_sign(']')?;
+        let form = Form::Default(exceptions, justification, consequence);
+        self.add(place, form)
+    }
+
+    /// Up to three, separated by commas; `none` leaves a place free.
+    fn exceptions(&mut self) -> Checked<[Option<usize>; 3]> {
+        let mut exceptions = [None; 3];
+        if self.at_sign('|') {
+            return Ok(exceptions);
+        }
+        for place in 0..3 {
+            if !self.take_word("none") {
+                exceptions[place] = Some(self.expression()?);
+            }
+            if !self.take_sign(',') {
+                return Ok(exceptions);
+            }
+        }
+        let message = "a default has at most three exceptions";
+        Err(Fault::at(self.place(), message))
+    }
+}

@@ -1,0 +1,40 @@
+//! The example of docs/LANGUAGE.md is a book, and its explanation is the printed one.
+
+use text::explain::explain;
+use text::inputs::{find_scope, read_inputs};
+use text::lexer::WORDS;
+use text::reading::to_rulebook;
+
+fn document() -> String {
+    let path = concat!(env!("CARGO_MANIFEST_DIR"), "/../docs/LANGUAGE.md");
+    std::fs::read_to_string(path).expect("the language's description")
+}
+
+/// The indented block that begins with a line, without its indentation.
+fn block(text: &str, first: &str) -> String {
+    let lines = text.lines().skip_while(|line| line.trim() != first);
+    let block = lines.take_while(|line| line.is_empty() || line.starts_with("    "));
+    let block: Vec<&str> = block.map(|line| line.get(4..).unwrap_or("")).collect();
+    block.join("\n").trim_end().to_string() + "\n"
+}
+
+#[test]
+fn the_example_is_explained_as_printed() {
+    let document = document();
+    let book = to_rulebook(&block(&document, "scope reel")).expect("a book");
+    let reel = find_scope(&book, "reel").expect("scope reel");
+    let given = read_inputs(&book, reel, &["shrunken=yes", "polyester=no"]).expect("inputs");
+    let printed = block(
+        &document,
+        "scope reel, given shrunken = yes, polyester = no",
+    );
+    assert_eq!(explain(&book, "vault.rules", reel, given), printed);
+}
+
+#[test]
+fn the_grammar_has_every_word() {
+    let grammar = block(&document(), "file        = { scope } | { record }");
+    for word in WORDS {
+        assert!(grammar.contains(&format!("\"{word}\"")), "{word}");
+    }
+}

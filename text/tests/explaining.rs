@@ -1,0 +1,115 @@
+//! Explanations, word for word.
+
+use text::explain::explain;
+use text::inputs::read_inputs;
+use text::reading::to_rulebook;
+
+fn explained(text: &str, inputs: &[&str]) -> String {
+    let book = to_rulebook(text).unwrap_or_else(|faults| panic!("{faults:?} in\n{text}"));
+    let given = read_inputs(&book, 0, inputs).expect("inputs");
+    explain(&book, "f", 0, given)
+}
+
+const REEL: &str = "scope reel
+variable speed : number
+variable shrunken : yes/no
+variable polyester : yes/no
+label general
+define speed as 4
+label gentle
+exception to general
+define speed under condition shrunken as 2 + 0
+exception to gentle
+define speed under condition shrunken and polyester as 4
+";
+
+#[test]
+fn the_clause_that_held_and_those_passed_over() {
+    let expected = "\
+scope reel, given shrunken = yes, polyester = no
+shrunken = yes, given
+polyester = no, given
+speed = 2, by the exception 'gentle' at f:7:1
+  the definition 'general' at f:5:1: passed over, its exception 'gentle' at f:7:1 gave the value
+    the exception 'gentle' at f:7:1: held, shrunken is yes, and says '2 + 0'
+      the exception at f:10:1: passed over, 'shrunken and polyester' is no (shrunken = yes, polyester = no)
+every variable has a value; scopes entered: 1
+";
+    assert_eq!(explained(REEL, &["shrunken=yes", "polyester=no"]), expected);
+}
+
+#[test]
+fn a_variable_that_nothing_defines() {
+    let expected = "\
+scope reel, given shrunken = yes
+shrunken = yes, given
+polyester is empty: nothing defines it
+not reached: speed
+the run ends empty: something needed has no value; scopes entered: 1
+";
+    assert_eq!(explained(REEL, &["shrunken=yes"]), expected);
+}
+
+#[test]
+fn a_conflict_names_both_clauses() {
+    let text = "scope s variable x : number
+define x as 1
+exception define x under condition yes as empty
+label b define x as 2
+label c exception to b define x under condition 1 = 1 as 3
+define x as 4";
+    let expected = "\
+scope s, nothing given
+x is in conflict: the definition at f:2:1 and the exception 'c' at f:5:1 both held
+  the definition at f:2:1: held, it has no condition, and says 1
+    the exception at f:3:1: passed over, empty number is empty
+  the definition 'b' at f:4:1: passed over, its exception 'c' at f:5:1 gave the value
+    the exception 'c' at f:5:1: held, '1 = 1' is yes, and says 3
+  the definition at f:6:1: held, it has no condition, and says 4
+the run ends in conflict; scopes entered: 1
+";
+    assert_eq!(explained(text, &[]), expected);
+}
+
+#[test]
+fn rules_that_do_not_hold_and_one_that_ends_the_search() {
+    let text = "scope s variable y : yes/no variable z : yes/no
+rule y under condition empty
+rule z under condition 0 < -(-2147483648)
+rule z";
+    let expected = "\
+scope s, nothing given
+y = no, since no rule held
+  the rule at f:2:1: passed over, empty yes/no is empty
+z is out of range: so is the rule at f:3:1
+  the rule at f:3:1: out of range, '0 < --2147483648' is out of range
+  the rule at f:4:1: not tried, the one before ended the search
+the run ends out of range; scopes entered: 1
+";
+    assert_eq!(explained(text, &[]), expected);
+}
+
+#[test]
+fn calls_with_overrides() {
+    let text = "scope s variable n : number sub-scope k : t
+define k.a as 3
+define n as k.b + 1
+scope t variable a : number variable b : number
+define a as 1
+define b under condition 5 < a as 9
+exception define b under condition a < 5 as a";
+    let expected = "\
+scope s, nothing given
+call of k, scope t
+  override k.a = 3, by the definition at f:2:1
+    the definition at f:2:1: held, it has no condition, and says 3
+  a = 3, handed over
+  b = 3, by the exception at f:7:1
+    the definition at f:6:1: passed over, its exception at f:7:1 gave the value
+      the exception at f:7:1: held, 'a < 5' is yes (a = 3), and says a
+n = 4, by the definition at f:3:1
+  the definition at f:3:1: held, it has no condition, and says 'k.b + 1' (k.b = 3)
+every variable has a value; scopes entered: 2
+";
+    assert_eq!(explained(text, &[]), expected);
+}
