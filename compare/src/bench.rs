@@ -6,17 +6,21 @@ use second::cases;
 use std::hint::black_box;
 use std::time::Instant;
 
-/// Microseconds of one call: the best of several rounds.
-fn time(mut call: impl FnMut()) -> f64 {
-    let rounds = (0..7).map(|_| {
-        let (start, mut calls) = (Instant::now(), 0u32);
-        while start.elapsed().as_millis() < 30 {
-            call();
-            calls += 1;
-        }
-        start.elapsed().as_secs_f64() * 1e6 / f64::from(calls)
-    });
-    rounds.fold(f64::INFINITY, f64::min)
+/// Microseconds of one call in a round of about a millisecond.
+fn round(call: &mut impl FnMut()) -> f64 {
+    let (start, mut calls) = (Instant::now(), 0u32);
+    while start.elapsed().as_micros() < 1000 {
+        call();
+        calls += 1;
+    }
+    start.elapsed().as_secs_f64() * 1e6 / f64::from(calls)
+}
+
+/// Microseconds of one call of each: the best of many rounds, in turns, so that what
+/// else the machine does slows both alike.
+fn times(mut ours: impl FnMut(), mut theirs: impl FnMut()) -> (f64, f64) {
+    let best = |(a, b): (f64, f64), _| (a.min(round(&mut ours)), b.min(round(&mut theirs)));
+    (0..300).fold((f64::INFINITY, f64::INFINITY), best)
 }
 
 fn line(service: &str, book: &str, engine: f64, second: f64) {
@@ -54,20 +58,35 @@ pub fn run() -> bool {
         "service", "book", "engine us", "second us", "ratio"
     );
     for (name, book, scope) in books() {
-        let ours = time(|| {
-            let _ = black_box(engine::judge(black_box(&book)));
-        });
-        let theirs = time(|| {
-            let _ = black_box(second::judge(black_box(&book)));
-        });
+        let book = book.as_slice();
+        let (ours, theirs) = times(
+            || {
+                let _ = black_box(engine::judge(black_box(book)));
+            },
+            || {
+                let _ = black_box(second::judge(black_box(book)));
+            },
+        );
         line("judge", &name, ours, theirs);
-        let mut memory = [0; 192];
-        let ours = time(|| {
-            let _ = black_box(engine::evaluate(black_box(&book), scope, &[], &mut memory));
-        });
-        let theirs = time(|| {
-            let _ = black_box(second::evaluate(black_box(&book), scope, &[], &mut memory));
-        });
+        let (mut our_memory, mut their_memory) = ([0; 192], [0; 192]);
+        let (ours, theirs) = times(
+            || {
+                let _ = black_box(engine::evaluate(
+                    black_box(book),
+                    scope,
+                    &[],
+                    &mut our_memory,
+                ));
+            },
+            || {
+                let _ = black_box(second::evaluate(
+                    black_box(book),
+                    scope,
+                    &[],
+                    &mut their_memory,
+                ));
+            },
+        );
         line("evaluate", &name, ours, theirs);
     }
     true
