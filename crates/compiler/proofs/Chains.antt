@@ -26,8 +26,9 @@ use Rattle.trees.proofs.Named.{Chained, sound-chained, chained-head}
 use Rattle.trees.proofs.Chains.{found, clauseTerm, chainFrom, term-at, from-start, from-past, from-here, from-first, exceptions-chain, bases-chain}
 use Rattle.trees.proofs.Targets.{rule-first, rule-link, slot-few}
 use Rattle.translation.specs.Code.{size}
-use Rattle.compiler.specs.Emission.{Emits, Emitted}
-use Rattle.compiler.specs.Pieces.{around, aroundSize, conditionAt, consequenceAt, restAt, siblings, clauseTermAt, lastOutcome, basesAt, treeAt}
+use Rattle.compiler.specs.Emission.{Emitted}
+use Rattle.compiler.specs.Pieces.{EmittedAround, aroundSize, conditionAt, consequenceAt, restAt, siblings, clauseTermAt, lastOutcome}
+use Rattle.compiler.specs.Pieces.{basesAt, treeAt}
 use Rattle.compiler.proofs.Terms.{size-default, size-rest, emits-default}
 
 module _ (bytes : List ℕ) (i : ℕ) where
@@ -44,6 +45,11 @@ module _ (bytes : List ℕ) (i : ℕ) where
   pub siblings-past : (c : ℕ) → length cs ≤ c → siblings bytes i c ≡ none
   siblings-past c l = by-chain c ∙ from-past scope (headOf (getD cs c noClause)) c l
 
+  -- clause c with exceptions
+  abbrev clauseWith : ℕ → Terms → Term
+  clauseWith c es =
+      default es (conditionAt bytes i (clauseAt (scopesOf bytes) i c .condition)) (consequenceAt bytes i (clauseAt (scopesOf bytes) i c .consequence))
+
   module _ (g : Chained cs) where
     -- the first found of a chain, and those behind it
     joined : (k n d : ℕ) → d ≡ firstFrom (inChain k) n (drop n cs) → siblings bytes i d ≡ chainFrom scope k n
@@ -58,11 +64,11 @@ module _ (bytes : List ℕ) (i : ℕ) where
         (decide (ltb d (length cs)))
 
     split : (c : ℕ) → c < length cs
-        → clauseTermAt bytes i c ≡ default (chainTerms scope (289 + c)) (conditionAt bytes i (clauseAt (scopesOf bytes) i c .condition)) (consequenceAt bytes i (clauseAt (scopesOf bytes) i c .consequence))
+        → clauseTermAt bytes i c ≡ clauseWith c (chainTerms scope (289 + c))
     unfolding clauseTermAt clauseTerm conditionAt consequenceAt clauseAt
     split c l =
         term-at scope c (error Empty) l
-        ∙ ap (λ (es : Terms). default es (conditionAt bytes i (clauseAt (scopesOf bytes) i c .condition)) (consequenceAt bytes i (clauseAt (scopesOf bytes) i c .consequence)))
+        ∙ ap (clauseWith c)
         (exceptions-chain scope g c l)
 
 module _ (bytes places counts links : List ℕ) (i : ℕ) (w : Ready bytes places counts links i) where
@@ -110,10 +116,10 @@ module _ (bytes places counts links : List ℕ) (i : ℕ) (w : Ready bytes place
           (decide (ltb e (length (cs bytes i))))
 
       clause-split : clauseTermAt bytes i c
-          ≡ default (siblings bytes i e) (conditionAt bytes i (clauseAt (scopesOf bytes) i c .condition)) (consequenceAt bytes i (clauseAt (scopesOf bytes) i c .consequence))
+          ≡ clauseWith bytes i c (siblings bytes i e)
       clause-split =
           split bytes i chained c l
-          ∙ ap (λ (es : Terms). default es (conditionAt bytes i (clauseAt (scopesOf bytes) i c .condition)) (consequenceAt bytes i (clauseAt (scopesOf bytes) i c .consequence)))
+          ∙ ap (clauseWith bytes i c)
           (sym (chain-first (289 + c) e (omega (arith, few)) h))
 
       pub clause-size : size (clauseTermAt bytes i c) ≡ aroundSize (siblings bytes i e) + size (restAt bytes i c)
@@ -124,7 +130,7 @@ module _ (bytes places counts links : List ℕ) (i : ℕ) (w : Ready bytes place
           size-default clause-split ∙ ap (λ (n : ℕ). aroundSize (siblings bytes i e) + n) (sym (size-rest j r))
 
       pub emits-clause : {s m o : List ℕ} {at p q d : ℕ} → Emitted s at (restAt bytes i c) p m → d ≡ p - at
-          → Emits m p (around (siblings bytes i e) d) (aroundSize (siblings bytes i e)) q o → Emitted s at (clauseTermAt bytes i c) q o
+          → EmittedAround m p (siblings bytes i e) d q o → Emitted s at (clauseTermAt bytes i c) q o
       unfolding restAt
       emits-clause a f b = emits-default clause-split a f b
 

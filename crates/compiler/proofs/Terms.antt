@@ -30,8 +30,9 @@ use Rattle.book.specs.declared.Node.the-variants.{Default}
 use Rattle.book.proofs.Terms.{term-past, term-here}
 use Rattle.translation.specs.Code.{unaryKind, binaryKind, raiseKind, size, sizes, code, codes}
 use Rattle.compiler.specs.Emission.{Emits, Emitted, Room, one, two, jump}
-use Rattle.compiler.specs.Pieces.{nodeBelow, branches, branchesSize, caught, exceptionBelow, noException, defaultBelow, around, aroundSize}
-use Rattle.compiler.specs.Pieces.{conditionAt, consequenceAt, restAt, siblings, lastOutcome, lastResort, basesAt}
+use Rattle.compiler.specs.Pieces.{EmittedBranches, EmittedAll, EmittedAround, nodeBelow, branches, branchesSize, caught, exceptionBelow}
+use Rattle.compiler.specs.Pieces.{noException, defaultBelow, around, aroundSize, conditionAt, consequenceAt, restAt, siblings, lastOutcome}
+use Rattle.compiler.specs.Pieces.{lastResort, basesAt}
 use Rattle.compiler.proofs.Emission.{then, alike, nothing}
 
 -- Nodes
@@ -131,7 +132,7 @@ module _ {s o : List ℕ} {at q : ℕ} {t : Term} where
     unfolding code size
     emits-unary e f h g = rw e (alike (then (rw f at h) g) (λ k. refl) (omega arith))
 
-    pub emits-choice : {d : ℕ} {c a b : Term} → t ≡ choice c a b → Emitted s at b p m → d ≡ p - at → Emits m p (branches c a d) (branchesSize c a) q o
+    pub emits-choice : {d : ℕ} {c a b : Term} → t ≡ choice c a b → Emitted s at b p m → d ≡ p - at → EmittedBranches m p c a d q o
         → Emitted s at t q o
     unfolding code size branches
     emits-choice {d} {c} {a} {b} e h f g =
@@ -141,7 +142,7 @@ module _ {s o : List ℕ} {at q : ℕ} {t : Term} where
 
     -- a default, its justification and consequence first
     pub emits-default : {d : ℕ} {es : Terms} {j c : Term} → t ≡ default es j c → Emitted s at (default none j c) p m → d ≡ p - at
-        → Emits m p (around es d) (aroundSize es) q o → Emitted s at t q o
+        → EmittedAround m p es d q o → Emitted s at t q o
     emits-default {d} {es} {j} {c} e h f g =
         let n = h .next in
         let l = size-rest j c in
@@ -160,14 +161,14 @@ module _ {s o : List ℕ} {at q : ℕ} {t : Term} where
     emits-number {u} {z} e f h g i = rw e (alike (then (then h g) i) (λ k. ap (λ (v : ℕ). 5 ∷ bytesOf 4 v ++ k) f) refl)
 
 -- justification and consequence, in front of the raise
-pub emits-rest : {s m o : List ℕ} {at p q : ℕ} (j c : Term) → Emits s at (one 32) 1 p m → Emits m p (branches j c 1) (branchesSize j c) q o
+pub emits-rest : {s m o : List ℕ} {at p q : ℕ} (j c : Term) → Emits s at (one 32) 1 p m → EmittedBranches m p j c 1 q o
     → Emitted s at (default none j c) q o
 unfolding code size branches
 emits-rest j c h g = alike (then h g) (λ k. refl) (omega arith)
 
 module _ {s m₁ m₂ m₃ o : List ℕ} {at p₁ p₂ p₃ q : ℕ} where
   pub emits-branches : (c a : Term) (d e : ℕ) → Emits s at (jump 34 d) 3 p₁ m₁ → Emitted m₁ p₁ a p₂ m₂ → e ≡ p₂ - p₁ + 3 → Emits m₂ p₂ (jump 35 e) 3 p₃ m₃
-      → Emitted m₃ p₃ c q o → Emits s at (branches c a d) (branchesSize c a) q o
+      → Emitted m₃ p₃ c q o → EmittedBranches s at c a d q o
   unfolding branches jump
   emits-branches c a d e h g f i j =
       let n = g .next in
@@ -178,8 +179,8 @@ module _ {s m₁ m₂ m₃ o : List ℕ} {at p₁ p₂ p₃ q : ℕ} where
 
 module _ {s m₁ m₂ m₃ o : List ℕ} {at p₁ p₂ p₃ q d : ℕ} {es ts : Terms} {t : Term} where
   -- an exception in front of others
-  pub emits-also : es ≡ also t ts → Emits s at (codes ts) (sizes ts) p₁ m₁ → Emits m₁ p₁ caught 6 p₂ m₂ → Emitted m₂ p₂ t p₃ m₃
-      → d ≡ p₃ - p₂ + 4 → Emits m₃ p₃ (jump 36 d) 3 q o → Emits s at (codes es) (sizes es) q o
+  pub emits-also : es ≡ also t ts → EmittedAll s at ts p₁ m₁ → Emits m₁ p₁ caught 6 p₂ m₂ → Emitted m₂ p₂ t p₃ m₃
+      → d ≡ p₃ - p₂ + 4 → Emits m₃ p₃ (jump 36 d) 3 q o → EmittedAll s at es q o
   unfolding codes sizes caught jump
   emits-also e h g f n i =
       let b = f .next in
@@ -187,17 +188,17 @@ module _ {s m₁ m₂ m₃ o : List ℕ} {at p₁ p₂ p₃ q d : ℕ} {es ts : 
       rw e (alike (then (then (then h g) f) (rw z at i)) (λ k. refl) (omega arith))
 
 module _ {s : List ℕ} {at : ℕ} {es : Terms} where
-  pub emits-none : es ≡ none → Emits s at (codes es) (sizes es) at s
+  pub emits-none : es ≡ none → EmittedAll s at es at s
   unfolding codes sizes
   emits-none e = rw e (alike nothing (λ k. refl) refl)
 
-  pub around-none : (d : ℕ) → es ≡ none → Emits s at (around es d) (aroundSize es) at s
+  pub around-none : (d : ℕ) → es ≡ none → EmittedAround s at es d at s
   unfolding around
   around-none d e = rw e (alike nothing (λ k. refl) refl)
 
   module _ {m₁ m₂ o : List ℕ} {p₁ p₂ q : ℕ} {t : Term} {ts : Terms} where
-    pub around-also : (d : ℕ) → es ≡ also t ts → Emits s at (jump 40 d) 3 p₁ m₁ → Emits m₁ p₁ (codes es) (sizes es) p₂ m₂ → Emits m₂ p₂ (one 38) 1 q o
-        → Emits s at (around es d) (aroundSize es) q o
+    pub around-also : (d : ℕ) → es ≡ also t ts → Emits s at (jump 40 d) 3 p₁ m₁ → EmittedAll m₁ p₁ es p₂ m₂ → Emits m₂ p₂ (one 38) 1 q o
+        → EmittedAround s at es d q o
     unfolding around jump
     around-also d e h g f = rw e (alike (then (then h (rw e at g)) f) (λ k. refl) (omega arith))
 
@@ -220,10 +221,13 @@ module _ (lower : ℕ → Term) where
       go true = omega arith
       go false = omega arith
 
+  abbrev listing : Bool → ℕ → Terms → Terms
+  listing b x ts = cond b ts (also (lower x) ts)
+
   pub all-none : (x y z : ℕ) → noException x y z ≡ true → exception lower x (exception lower y (exception lower z none)) ≡ none
   all-none x y z h = go (eqb x 255) (eqb y 255) (eqb z 255) h
     where
-      go : (a b c : Bool) → (a && (b && c)) ≡ true → cond a (cond b (cond c none (also (lower z) none)) (also (lower y) (cond c none (also (lower z) none)))) (also (lower x) (cond b (cond c none (also (lower z) none)) (also (lower y) (cond c none (also (lower z) none))))) ≡ none
+      go : (a b c : Bool) → (a && (b && c)) ≡ true → listing a x (listing b y (listing c z none)) ≡ none
       go true true true h = refl
       go true true false h = absurd (false≢true h)
       go true false c h = absurd (false≢true h)
@@ -235,7 +239,7 @@ module _ (lower : ℕ → Term) where
   pub some-any : (x y z : ℕ) → noException x y z ≡ false → Any (exception lower x (exception lower y (exception lower z none)))
   some-any x y z h = go (eqb x 255) (eqb y 255) (eqb z 255) h
     where
-      go : (a b c : Bool) → (a && (b && c)) ≡ false → Any (cond a (cond b (cond c none (also (lower z) none)) (also (lower y) (cond c none (also (lower z) none)))) (also (lower x) (cond b (cond c none (also (lower z) none)) (also (lower y) (cond c none (also (lower z) none))))))
+      go : (a b c : Bool) → (a && (b && c)) ≡ false → Any (listing a x (listing b y (listing c z none)))
       go true true true h = absurd (false≢true (sym h))
       go true true false h = (_, _, refl)
       go true false c h = (_, _, refl)
@@ -285,10 +289,10 @@ module _ (bytes : List ℕ) (i limit : ℕ) where
         let a = size-around {es = listed} {ts = s .1} {e = s .0} (s .2) in
         omega (arith, default-size, listed-sizes)
 
-    front : {s m₁ m₂ o : List ℕ} {at p₁ p₂ q : ℕ} → Emits s at (codes (exceptionBelow bytes i limit z)) (sizes (exceptionBelow bytes i limit z)) p₁ m₁
-        → Emits m₁ p₁ (codes (exceptionBelow bytes i limit y)) (sizes (exceptionBelow bytes i limit y)) p₂ m₂
-        → Emits m₂ p₂ (codes (exceptionBelow bytes i limit x)) (sizes (exceptionBelow bytes i limit x)) q o
-        → Emits s at (codes listed) (sizes listed) q o
+    front : {s m₁ m₂ o : List ℕ} {at p₁ p₂ q : ℕ} → EmittedAll s at (exceptionBelow bytes i limit z) p₁ m₁
+        → EmittedAll m₁ p₁ (exceptionBelow bytes i limit y) p₂ m₂
+        → EmittedAll m₂ p₂ (exceptionBelow bytes i limit x) q o
+        → EmittedAll s at listed q o
     unfolding exceptionBelow
     front ez ey ex =
         let l = nodeBelow bytes i limit in
@@ -297,17 +301,17 @@ module _ (bytes : List ℕ) (i limit : ℕ) where
 
     module _ {s m₁ m₂ : List ℕ} {at p₁ p₂ : ℕ} where
       pub default-plain : noException x y z ≡ true → Emits s at (one 32) 1 p₁ m₁
-          → Emits m₁ p₁ (branches (nodeBelow bytes i limit j) (nodeBelow bytes i limit c) 1) (branchesSize (nodeBelow bytes i limit j) (nodeBelow bytes i limit c)) p₂ m₂
+          → EmittedBranches m₁ p₁ (nodeBelow bytes i limit j) (nodeBelow bytes i limit c) 1 p₂ m₂
           → Emitted s at (defaultBelow bytes i limit x y z j c) p₂ m₂
       default-plain h a b = emits-default whole (emits-rest _ _ a b) refl (around-none _ (all-none (nodeBelow bytes i limit) x y z h))
 
       module _ {m₃ m₄ m₅ m₆ o : List ℕ} {p₃ p₄ p₅ p₆ q d : ℕ} where
         pub default-full : noException x y z ≡ false → Emits s at (one 32) 1 p₁ m₁
-            → Emits m₁ p₁ (branches (nodeBelow bytes i limit j) (nodeBelow bytes i limit c) 1) (branchesSize (nodeBelow bytes i limit j) (nodeBelow bytes i limit c)) p₂ m₂
+            → EmittedBranches m₁ p₁ (nodeBelow bytes i limit j) (nodeBelow bytes i limit c) 1 p₂ m₂
             → d ≡ p₂ - at → Emits m₂ p₂ (jump 40 d) 3 p₃ m₃
-            → Emits m₃ p₃ (codes (exceptionBelow bytes i limit z)) (sizes (exceptionBelow bytes i limit z)) p₄ m₄
-            → Emits m₄ p₄ (codes (exceptionBelow bytes i limit y)) (sizes (exceptionBelow bytes i limit y)) p₅ m₅
-            → Emits m₅ p₅ (codes (exceptionBelow bytes i limit x)) (sizes (exceptionBelow bytes i limit x)) p₆ m₆
+            → EmittedAll m₃ p₃ (exceptionBelow bytes i limit z) p₄ m₄
+            → EmittedAll m₄ p₄ (exceptionBelow bytes i limit y) p₅ m₅
+            → EmittedAll m₅ p₅ (exceptionBelow bytes i limit x) p₆ m₆
             → Emits m₆ p₆ (one 38) 1 q o → Emitted s at (defaultBelow bytes i limit x y z j c) q o
         default-full h a b f e ez ey ex g =
             let s = some-any (nodeBelow bytes i limit) x y z h in
@@ -368,6 +372,6 @@ module _ (bytes : List ℕ) (i first : ℕ) (ruled : Bool) where
   bases-size = size-default refl ∙ ap (λ (n : ℕ). aroundSize (siblings bytes i first) + n) (sym (size-rest (literal (Truth true)) (lastOutcome ruled)))
 
   pub emits-bases : {s m o : List ℕ} {at p q d : ℕ} → Emitted s at (lastResort ruled) p m → d ≡ p - at
-      → Emits m p (around (siblings bytes i first) d) (aroundSize (siblings bytes i first)) q o → Emitted s at (basesAt bytes i first ruled) q o
+      → EmittedAround m p (siblings bytes i first) d q o → Emitted s at (basesAt bytes i first ruled) q o
   unfolding basesAt lastResort
   emits-bases a f b = emits-default refl a f b

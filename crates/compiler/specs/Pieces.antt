@@ -21,7 +21,7 @@ use Rattle.book.specs.declared.Judged.the-variants.{Accepted}
 use Rattle.trees.specs.Links.{headOf, inChain, Sound}
 use Rattle.translation.specs.Code.{far, ifAny, size, sizes, code, codes}
 use Rattle.translation.specs.Blocks.{typeByte}
-use Rattle.compiler.specs.Emission.{each, total}
+use Rattle.compiler.specs.Emission.{Emits, each, total}
 
 -- Nodes
 
@@ -39,6 +39,13 @@ branchesSize c a = size c + 3 + (size a + 3)
 -- what stands behind an exception's code: 37, 34 over one byte, 38, 39
 unfoldable pub caught : List ℕ → List ℕ
 caught k = 37 ∷ far 34 1 (38 ∷ 39 ∷ k)
+
+abbrev pub EmittedBranches : List ℕ → ℕ → Term → Term → ℕ → ℕ → List ℕ → Type 0
+EmittedBranches before at c a d end after = Emits before at (branches c a d) (branchesSize c a) end after
+
+-- exceptions, each with its try
+abbrev pub EmittedAll : List ℕ → ℕ → Terms → ℕ → List ℕ → Type 0
+EmittedAll before at es end after = Emits before at (codes es) (sizes es) end after
 
 -- an exception, "255: none"
 unfoldable pub exceptionBelow : List ℕ → ℕ → ℕ → ℕ → Terms
@@ -61,6 +68,9 @@ around es d k = ifAny es (38 ∷ codes es (far 40 d k)) k
 abbrev pub aroundSize : Terms → ℕ
 aroundSize es = ifAny es (1 + sizes es + 3) 0
 
+abbrev pub EmittedAround : List ℕ → ℕ → Terms → ℕ → ℕ → List ℕ → Type 0
+EmittedAround before at es d end after = Emits before at (around es d) (aroundSize es) end after
+
 unfoldable pub conditionAt : List ℕ → ℕ → ℕ → Term
 conditionAt bytes i n = conditionTerm (scopeAt (scopesOf bytes) i) n
 
@@ -69,7 +79,9 @@ consequenceAt bytes i c = consequenceTerm (scopeAt (scopesOf bytes) i) c
 
 -- clause c without its exceptions
 unfoldable pub restAt : List ℕ → ℕ → ℕ → Term
-restAt bytes i c = default none (conditionAt bytes i (clauseAt (scopesOf bytes) i c .condition)) (consequenceAt bytes i (clauseAt (scopesOf bytes) i c .consequence))
+restAt bytes i c =
+    let clause = clauseAt (scopesOf bytes) i c in
+    default none (conditionAt bytes i (clause .condition)) (consequenceAt bytes i (clause .consequence))
 
 -- clause c and those behind it in its chain, as exceptions
 unfoldable pub siblings : List ℕ → ℕ → ℕ → Terms

@@ -33,12 +33,12 @@ ghost use Rattle.book.specs.Tables.{Laid};
 ghost use Rattle.book.specs.Steps.{stepCount};
 ghost use Rattle.trees.specs.Links.{Sound};
 ghost use Rattle.trees.specs.Chains.{Ready};
-ghost use Rattle.translation.specs.Code.{unaryKind, binaryKind, size, sizes, codes};
+ghost use Rattle.translation.specs.Code.{unaryKind, binaryKind, size, sizes};
 ghost use Rattle.translation.specs.Blocks.{typeByte};
 ghost use Rattle.compiler.specs.Compile.{Compiles};
 ghost use Rattle.compiler.specs.Emission.{Emits, Emitted, Room, one, two, jump};
-ghost use Rattle.compiler.specs.Pieces.{nodeBelow, branches, branchesSize, caught, exceptionBelow, noException, defaultBelow};
-ghost use Rattle.compiler.specs.Pieces.{around, aroundSize, conditionAt, consequenceAt, restAt, siblings, clauseTermAt};
+ghost use Rattle.compiler.specs.Pieces.{nodeBelow, branchesSize, caught, EmittedBranches, EmittedAll, exceptionBelow, noException, defaultBelow};
+ghost use Rattle.compiler.specs.Pieces.{aroundSize, EmittedAround, conditionAt, consequenceAt, restAt, siblings, clauseTermAt};
 ghost use Rattle.compiler.specs.Pieces.{lastOutcome, lastResort, basesAt, treeAt};
 ghost use Rattle.compiler.specs.Pieces.{variablePiece, variableSize, overridePiece, overrideSize, callPiece, callSize, stepPiece, stepSize};
 ghost use Rattle.compiler.specs.Pieces.{stepsPiece, stepsSize, typesPiece, typesSize, numbersPiece, numbersSize};
@@ -226,7 +226,7 @@ fn emit_branches(
 ) -> usize
     requires { ⌜ Laid (now book) (now places) (now counts) × Room at (branchesSize (nodeBelow (now book) i limit c) (nodeBelow (now book) i limit a)) ⌝ }
     ensures { λ r.
-        ⌜ Emits (now (out .entry)) at (branches (nodeBelow (now (book .entry)) i limit c) (nodeBelow (now (book .entry)) i limit a) d) (branchesSize (nodeBelow (now (book .entry)) i limit c) (nodeBelow (now (book .entry)) i limit a)) r (now (out .exit)) ⌝ }
+        ⌜ EmittedBranches (now (out .entry)) at (nodeBelow (now (book .entry)) i limit c) (nodeBelow (now (book .entry)) i limit a) d r (now (out .exit)) ⌝ }
 {
     let p = put_far(out, at, 34, d);
     let q = emit_below(book, places, counts, i, limit, a as usize, out, p);
@@ -246,8 +246,7 @@ fn emit_exception(
     at: usize,
 ) -> usize
     requires { ⌜ Laid (now book) (now places) (now counts) × Room at (sizes (exceptionBelow (now book) i limit x)) ⌝ }
-    ensures { λ r.
-        ⌜ Emits (now (out .entry)) at (codes (exceptionBelow (now (book .entry)) i limit x)) (sizes (exceptionBelow (now (book .entry)) i limit x)) r (now (out .exit)) ⌝ }
+    ensures { λ r. ⌜ EmittedAll (now (out .entry)) at (exceptionBelow (now (book .entry)) i limit x) r (now (out .exit)) ⌝ }
 {
     if x == 255 {
         return at;
@@ -364,8 +363,7 @@ fn emit_chain(
     at: usize,
 ) -> usize
     requires { ⌜ Ready (now book) (now places) (now counts) (now links) i × Room at (sizes (siblings (now book) i c)) ⌝ }
-    ensures { λ r.
-        ⌜ Emits (now (out .entry)) at (codes (siblings (now (book .entry)) i c)) (sizes (siblings (now (book .entry)) i c)) r (now (out .exit)) ⌝ }
+    ensures { λ r. ⌜ EmittedAll (now (out .entry)) at (siblings (now (book .entry)) i c) r (now (out .exit)) ⌝ }
 {
     if clause_count(book, places, counts, i) <= c {
         return at;
@@ -392,8 +390,7 @@ fn emit_around(
     at: usize,
 ) -> usize
     requires { ⌜ Ready (now book) (now places) (now counts) (now links) i × Room at (aroundSize (siblings (now book) i first)) ⌝ }
-    ensures { λ r.
-        ⌜ Emits (now (out .entry)) at (around (siblings (now (book .entry)) i first) d) (aroundSize (siblings (now (book .entry)) i first)) r (now (out .exit)) ⌝ }
+    ensures { λ r. ⌜ EmittedAround (now (out .entry)) at (siblings (now (book .entry)) i first) d r (now (out .exit)) ⌝ }
 {
     if clause_count(book, places, counts, i) <= first {
         return at;
