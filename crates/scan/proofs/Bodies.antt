@@ -11,27 +11,16 @@ use lib.ListN.{getD, take, drop}
 use lib.Seq.{getD-take}
 use lib.Dec.{T, eqb, leb, leb→le}
 use borrow.Author.Tests.{eqb-true, eq-eqb}
-use Rattle.record.proofs.Decision.{and-l, and-r}
 use Rattle.record.specs.Bytes.{bigEndian, numberAt}
 use Rattle.record.specs.Kinds.{kinds, shapesOf, pickShape, shapeIn}
 use Rattle.record.specs.declared.Medium.the-variants.{Book}
 use Rattle.record.specs.declared.Shape.{Shape}
 use Rattle.book.specs.Syntax.{nodeOf, clauseOf}
-
--- every element of a list, and what stands past its end, has p
-every : {A : Type 0} → (A → Bool) → List A → Bool
-every p [] = true
-every p (x ∷ xs) = p x && every p xs
-
-at-every : {A : Type 0} (p : A → Bool) (xs : List A) (d : A) → T (every p xs) → T (p d) → (k : ℕ) → T (p (getD xs k d))
-unfolding every
-at-every p [] d h e k = e
-at-every p (x ∷ xs) d h e zero = and-l (p x) (every p xs) h
-at-every p (x ∷ xs) d h e (suc k) = at-every p xs d (and-r (p x) (every p xs) h) e k
+use Rattle.scan.proofs.Shapes.{every, at-every, shape-below}
 
 pub stage-below : (k : ℕ) → shapeIn Book k .stage ≤ 5
 unfolding shapeIn shapesOf kinds every
-stage-below k = leb→le (shapeIn Book k .stage) 5 (at-every (λ s. leb (pickShape Book s .stage) 5) kinds _ tt tt k)
+stage-below k = shape-below Book (λ s. s .stage) 5 tt tt k
 
 -- a stage whose kinds all have one length
 long : ℕ → ℕ → Shape → Bool

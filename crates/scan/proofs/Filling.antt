@@ -5,13 +5,11 @@
 -- Assumes nothing.
 use Prim.Native.Nat.{ℕ, suc, _+_, _-_, _*_, _≤_, _<_}
 use mathlib.Core.Path.{_≡_, refl, sym, ap, _∙_}
-use mathlib.Core.Bool.{Bool, true, false, _&&_, _||_, true≢false}
 use mathlib.Core.List.{List, [], _∷_}
 use native.Mathlib.Omega.{arith}
 use lib.ListN.{length, getD, drop, set, length-set, length-replicate, drop-of-length-le}
-use lib.Dec.{eqb, leb}
-use borrow.Author.Tests.{eqb-false, eq-eqb, ne-eqb, leb-true, not-false}
-use Rattle.order.proofs.Booleans.{both}
+use lib.Dec.{eqb}
+use borrow.Author.Tests.{eqb-false, eq-eqb, not-false}
 use Rattle.record.specs.Kinds.{shapeIn}
 use Rattle.record.specs.declared.Medium.the-variants.{Book}
 use Rattle.record.specs.declared.Shape.{Shape}
@@ -28,6 +26,7 @@ use Rattle.scan.proofs.Steps.{Clean, Read, sounds, room, within, record
 use Rattle.scan.proofs.Sorts.{Sort, variable, subScope, node, clause, number, stage, base, limit, count, Item, itemsOf, from, Staged, begins, has, staged, base-below, limit-below, stage-two, count-in-limits, scopes-new, scopes-turn, count-turn, begun, scopes-behind}
 use Rattle.scan.proofs.Bodies.{stage-below}
 use Rattle.scan.proofs.Positions.{item-here}
+use Rattle.scan.proofs.Shapes.{either, in-order}
 use Rattle.scan.proofs.Limits.{items-within}
 use Rattle.scan.proofs.Laying.{Parts, parts-start, parts-new, parts-turn, count-end, placed-end}
 
@@ -114,17 +113,6 @@ stored-counts subScope counts t = refl
 stored-counts node counts t = refl
 stored-counts clause counts t = refl
 
--- a record that is in order and begins no scope has one before it
-either : (a b : Bool) → (a || b) ≡ true → a ≡ false → b ≡ true
-either true b e h = absurd (true≢false h)
-either false b e h = e
-
-after-one : (last st : ℕ) → follows last st ≡ true → 2 ≤ st → 1 ≤ last
-unfolding follows
-after-one last st e h =
-    let q = either (eqb st 1) (leb 1 last && leb last st) e (ne-eqb st 1 (omega arith)) in
-    leb-true 1 last (both (leb 1 last) (leb last st) q .0)
-
 module _ (bytes places counts : List ℕ) (t : Tally) (at : ℕ) (f : Filling bytes places counts t at) (here : at < length bytes) where
   m : Met
   m = metAt bytes at t
@@ -161,14 +149,14 @@ module _ (bytes places counts : List ℕ) (t : Tally) (at : ℕ) (f : Filling by
     unfolding parse
     ahead-next = rw next-records
 
-    in-order : 2 ≤ st → 1 ≤ t .scopes
+    scope-before : 2 ≤ st → 1 ≤ t .scopes
     unfolding m metAt
-    in-order h =
+    scope-before h =
         f .opened
-        (after-one (t .stage) st
+        (in-order (t .stage) st
         (rw es
         (either (unknownKind m) (follows (t .stage) (stageOf m)) (not-false _ (clean .ordered)) (clean .known)))
-        h)
+        h .0)
 
     below-five : st ≤ 5
     below-five = rw es (stage-below (getD bytes at 0))
@@ -208,7 +196,7 @@ module _ (bytes places counts : List ℕ) (t : Tally) (at : ℕ) (f : Filling by
           position = omega arith;
           stage = below-five bytes places counts t at f here n st en es;
           scopes = f .within .scopes;
-          opened = in-order bytes places counts t at f here n st en es;
+          opened = scope-before bytes places counts t at f here n st en es;
           place = place-here (staged-here bytes places counts t at f here n st en es);
           number = number-small st t (f .within) (staged-here bytes places counts t at f here n st en es);
         }
@@ -246,7 +234,7 @@ module _ (bytes places counts : List ℕ) (t : Tally) (at : ℕ) (f : Filling by
       let q = ahead-next bytes places counts t at f here n (stage s) en es in
       let sc = scopes-turn s t in
       let l = f .within .scopes in
-      let o = in-order bytes places counts t at f here n (stage s) en es (stage-two s) in
+      let o = scope-before bytes places counts t at f here n (stage s) en es (stage-two s) in
       let total : length (scopesOf bytes) ≡ t .scopes + length (inFront mm p .scopes) = rw q at (f .total) in
       let same : length (inFront mm p .scopes) ≡ length (p .scopes) = rw (scopes-behind s mm p e1) in
       let w = within-next bytes places counts t at f here n (stage s) en es in

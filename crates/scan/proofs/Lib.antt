@@ -1,3 +1,4 @@
+pub mod Shapes
 mod Steps
 mod Sorts
 mod Cells

@@ -1,13 +1,13 @@
 -- The blocks of code, one after the other.
---     earlier-suc       a block and those before it
---     block-fits        of accepted code, each block is well-formed
---     all-accepted      code is accepted where its records are sound and each block is well-formed
+--     earlier-suc               a block and those before it
+--     block-fits, sound-code    of accepted code, each block is well-formed and the records are sound
+--     all-fit, all-accepted     code is accepted where its records are sound and each block is well-formed
+--     formed, well-formed       the parts of a well-formed block
 -- Assumes nothing.
-use Prim.Native.Nat.{ℕ, zero, suc, _+_, _<_, _≤_}
+use Prim.Native.Nat.{ℕ, suc, _<_, _≤_}
 use mathlib.Core.Path.{_≡_, refl, sym, ap, _∙_}
-use mathlib.Core.Bool.{Bool, true, false, not, _&&_, false≢true}
+use mathlib.Core.Bool.{Bool, true, false, not, _&&_}
 use mathlib.Core.List.{List, [], _∷_, _++_, reverse, reverse-append}
-use native.Mathlib.Omega.{arith}
 use lib.ListN.{length, getD, take, drop, take-append-drop}
 use lib.Seq.{take-suc, take-all}
 use Rattle.order.proofs.Booleans.{both}
@@ -39,10 +39,6 @@ module _ (code : List ℕ) where
       ap (λ (l : List Block). reverse l) (take-suc (parse code 0 .blocks) m emptyBlock h)
       ∙ reverse-append (take m (parse code 0 .blocks)) (getD (parse code 0 .blocks) m emptyBlock ∷ [])
 
-  pub earlier-none : earlier code 0 ≡ []
-  unfolding earlier
-  earlier-none = refl
-
   pub sound-code : accepted code ≡ true → sound code 0 start ≡ true
   unfolding accepted
   sound-code e = both (sound code 0 start) (allWellFormed (blocksOf code)) e .0
@@ -62,14 +58,17 @@ module _ (code : List ℕ) where
   pub block-fits : (m : ℕ) → m < length (parse code 0 .blocks) → accepted code ≡ true → wellFormed (earlier code m) (blockAt code m) ≡ true
   unfolding allWellFormed
   block-fits m h e =
-      both (wellFormed (earlier code m) (blockAt code m)) (allWellFormed (earlier code m)) (ap allWellFormed (sym (earlier-suc m h)) ∙ fits-earlier (suc m) e) .0
+      both (wellFormed (earlier code m) (blockAt code m)) (allWellFormed (earlier code m))
+      (ap allWellFormed (sym (earlier-suc m h)) ∙ fits-earlier (suc m) e) .0
 
-  pub all-fit : (m : ℕ) → m < length (parse code 0 .blocks) → wellFormed (earlier code m) (blockAt code m) ≡ true → allWellFormed (earlier code m) ≡ true
+  pub all-fit : (m : ℕ) → m < length (parse code 0 .blocks) → wellFormed (earlier code m) (blockAt code m) ≡ true
+      → allWellFormed (earlier code m) ≡ true
       → allWellFormed (earlier code (suc m)) ≡ true
   unfolding allWellFormed
   all-fit m h a b = ap allWellFormed (earlier-suc m h) ∙ rw (a, b)
 
-  pub all-accepted : (m : ℕ) → length (parse code 0 .blocks) ≤ m → sound code 0 start ≡ true → allWellFormed (earlier code m) ≡ true → accepted code ≡ true
+  pub all-accepted : (m : ℕ) → length (parse code 0 .blocks) ≤ m → sound code 0 start ≡ true → allWellFormed (earlier code m) ≡ true
+      → accepted code ≡ true
   unfolding accepted earlier blocksOf
   all-accepted m h s e = rw (s, ← take-all m (parse code 0 .blocks) h) e
 

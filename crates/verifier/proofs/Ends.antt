@@ -1,43 +1,35 @@
 -- The end of a block: what is refused, and what holds after it.
+--     at-scope, filled-set, filled-bound, filled-room      tables by scope
+--     reach-refused, weight-refused                        a landing past the end; overweight
+--     leave-closed, leave-idle                             one more block is closed, or none was open
+--     leave-bounds                                         the room of the tables
 -- Assumes nothing.
 use Prim.Native.Nat.{ℕ, zero, suc, _+_, _-_, _*_, _%_, _<_, _≤_}
 use mathlib.Core.Path.{_≡_, refl, sym, ap, _∙_}
-use mathlib.Core.Bool.{Bool, true, false, cond, not, _&&_, _||_, true≢false, false≢true}
-use mathlib.Core.List.{List, [], _∷_, _++_, append-assoc}
-use mathlib.Core.Logic.{_⊎_, inl, inr, ⊎-elim}
+use mathlib.Core.Bool.{true, false, cond, not}
+use mathlib.Core.List.{List, [], _∷_, _++_, append-nil}
+use mathlib.Core.Logic.{⊎-elim}
 use native.Mathlib.Omega.{arith}
-use lib.ListN.{length, getD, take, drop, set, length-drop, length-set}
-use lib.Seq.{drop-drop, getD-drop, take-add, length-take-le, getD-take, getD-set-same, getD-set-other}
-use lib.ListN.{List·getD-append}
-use lib.Dec.{eqb, leb, ltb}
-use borrow.Author.Tests.{eq-eqb, ne-eqb, lt-ltb, le-ltb, ltb-true, ltb-false, eqb-true, eqb-false, leb-true, not-true, not-false}
-use Rattle.order.proofs.Booleans.{decide, both}
-use Rattle.record.specs.Kinds.{shapeIn}
-use Rattle.record.specs.declared.Shape.{Shape}
+use lib.ListN.{length, getD, take, drop, set, length-set}
+use lib.Seq.{getD-set-same, getD-set-other, take-all}
+use lib.Dec.{eqb, ltb}
+use borrow.Author.Tests.{eq-eqb, ne-eqb, lt-ltb, ltb-false, eqb-true, eqb-false}
+use Rattle.order.proofs.Booleans.{decide}
 use Rattle.book.specs.Lists.{any}
 use Rattle.book.specs.Scopes.{sum}
-use Rattle.book.specs.Syntax.{typeOf, variableOf}
-use Rattle.book.specs.declared.Variable.{Variable}
-use Rattle.machine.specs.Blocks.{Block, Parsed, emptyBlock, bodyLength, stageOf, inFront, parse, hasBlock, variablesOf}
-use Rattle.machine.specs.Instructions.{instructionOf}
-use Rattle.machine.specs.Acceptance.{Count, start, counted, faulty, sound, lands, fits, allFit, weightIn, wellFormed, allWellFormed, accepted}
-use Rattle.verifier.specs.Instructions.{namingOf, distancePlace, named, distanceOf, farthest}
-use Rattle.verifier.specs.Tables.{blockAt, Entered, Room}
-use Rattle.verifier.specs.Pass.{countOf, faultyAt, Limited, blockRead, variableRead, subScopeRead, instructionRead, mark, Marked, Quiet, Passed, Marks, earlier, ahead, AreClosed, Head, Noted, Busy, Idle, Sized, Reading, AtInstruction}
+use Rattle.book.specs.Syntax.{typeOf}
+use Rattle.machine.specs.Blocks.{Block, hasBlock, variablesOf}
+use Rattle.machine.specs.Acceptance.{weightIn, wellFormed, accepted}
+use Rattle.verifier.specs.Tables.{blockAt, Entered}
+use Rattle.verifier.specs.Pass.{Marks, earlier, AreClosed, Busy, Reading, filled, Leaving, AllClosed}
 use Rattle.verifier.specs.declared.Progress.{Progress}
-use Rattle.verifier.proofs.Reading.{sound-at, ahead-at, Clean, clean, in-order, stage-below, front-one, front-two, front-three, front-four, NoHeads, no-heads}
-use Rattle.verifier.proofs.Blocks.{refused, sound-code, block-fits}
-use Rattle.verifier.proofs.Fitting.{fits-parts, local}
-use Rattle.verifier.proofs.Ring.{back-fits, back-inside, marks-next, quiet-next, marks-quiet}
-use Rattle.verifier.proofs.Blocks.{Formed, formed, well-formed, earlier-suc, all-fit}
+use Rattle.verifier.proofs.Blocks.{refused, block-fits, Formed, formed, well-formed, earlier-suc, all-fit}
 use Rattle.verifier.proofs.Turns.{drop-end}
+use Rattle.verifier.proofs.Entries.{entered-same}
 use Rattle.verifier.proofs.Ring.{end-refused, end-fits, end-quiet}
-use Rattle.verifier.specs.Pass.{filled, Leaving, AllClosed}
 use Rattle.book.proofs.Searches.{any-none}
 use native.Mathlib.Nat.{eq-or-lt-of-le}
 use native.Mathlib.Numerals.{add-one}
-use mathlib.Core.List.{append-nil}
-use lib.Seq.{take-all}
 
 -- Tables by scope
 
@@ -176,20 +168,27 @@ module _ (code : List ℕ) (at : ℕ) (u : Progress) (spans heads places weights
 
     head-zero : getD heads' (u .blocks * 48) 0 ≡ u .scope
     head-zero =
-        getD-set-other (set (set heads (u .blocks * 48) (u .scope)) (u .blocks * 48 + 1) (u .variables)) (u .blocks * 48 + 2) (u .blocks * 48) (u .subs) 0 (λ z. omega arith)
+        getD-set-other (set (set heads (u .blocks * 48) (u .scope)) (u .blocks * 48 + 1) (u .variables)) (u .blocks * 48 + 2) (u .blocks * 48)
+        (u .subs) 0 (λ z. omega arith)
         ∙ getD-set-other (set heads (u .blocks * 48) (u .scope)) (u .blocks * 48 + 1) (u .blocks * 48) (u .variables) 0 (λ z. omega arith)
         ∙ getD-set-same heads (u .blocks * 48) (u .scope) 0 (let y = busy .head .room in rw (r .sized .room .headRoom) (omega arith))
 
     head-one : getD heads' (u .blocks * 48 + 1) 0 ≡ u .variables
     head-one =
-        getD-set-other (set (set heads (u .blocks * 48) (u .scope)) (u .blocks * 48 + 1) (u .variables)) (u .blocks * 48 + 2) (u .blocks * 48 + 1) (u .subs) 0 (λ z. omega arith)
+        getD-set-other (set (set heads (u .blocks * 48) (u .scope)) (u .blocks * 48 + 1) (u .variables)) (u .blocks * 48 + 2) (u .blocks * 48 + 1)
+        (u .subs) 0 (λ z. omega arith)
         ∙ getD-set-same (set heads (u .blocks * 48) (u .scope)) (u .blocks * 48 + 1) (u .variables) 0
         (let y = busy .head .room in rw (length-set heads (u .blocks * 48) (u .scope), r .sized .room .headRoom) (omega arith))
 
     head-two : getD heads' (u .blocks * 48 + 2) 0 ≡ u .subs
     head-two =
         getD-set-same (set (set heads (u .blocks * 48) (u .scope)) (u .blocks * 48 + 1) (u .variables)) (u .blocks * 48 + 2) (u .subs) 0
-        (let y = busy .head .room in rw (length-set (set heads (u .blocks * 48) (u .scope)) (u .blocks * 48 + 1) (u .variables), length-set heads (u .blocks * 48) (u .scope), r .sized .room .headRoom) (omega arith))
+        (let y = busy .head .room in rw (
+          length-set (set heads (u .blocks * 48) (u .scope)) (u .blocks * 48 + 1) (u .variables),
+          length-set heads
+              (u .blocks * 48) (u .scope),
+          r .sized .room .headRoom,
+        ) (omega arith))
 
     entered-here : Entered code spans' heads' (u .blocks)
     entered-here =
@@ -214,21 +213,10 @@ module _ (code : List ℕ) (at : ℕ) (u : Progress) (spans heads places weights
 
     entered-before : (p : ℕ) → p < u .blocks → Entered code spans' heads' p
     entered-before p h =
-        let o = r .closed .entered p h in
-        let s = r .closed .small p h in
-        let x : getD spans' (p * 2) 0 ≡ getD spans (p * 2) 0 = span-other (p * 2) (omega arith) in
-        let y : getD spans' (p * 2 + 1) 0 ≡ getD spans (p * 2 + 1) 0 = span-other (p * 2 + 1) (omega arith) in
-        let low : (i : ℕ) → i < u .blocks * 48 → getD heads' i 0 ≡ getD heads i 0 = λ i l. head-other i (λ z. omega arith) (λ z. omega arith) (λ z. omega arith) in
-        record {
-          ordered = rw (x, y) (o .ordered);
-          inside = rw y (o .inside);
-          body = rw (x, y) (o .body);
-          scope = low (p * 48) (omega arith) ∙ o .scope;
-          variables = low (p * 48 + 1) (omega arith) ∙ o .variables;
-          subScopes = low (p * 48 + 2) (omega arith) ∙ o .subScopes;
-          types = λ v g. ap typeOf (low (p * 48 + 3 + v) (omega arith)) ∙ o .types v g;
-          subs = λ k g. low (p * 48 + 35 + k) (omega arith) ∙ o .subs k g;
-        }
+        entered-same code spans heads spans' heads' p (r .closed .small p h)
+        (λ i l. span-other i (omega arith))
+        (λ i l. head-other i (λ z. omega arith) (λ z. omega arith) (λ z. omega arith))
+        (r .closed .entered p h)
 
     abbrev m' : ℕ
     m' = suc (u .blocks)
@@ -283,7 +271,12 @@ module _ (code : List ℕ) (at : ℕ) (u : Progress) (spans heads places weights
     weighed-here : (i : ℕ) → weightIn (b ∷ e) i ≡ getD (set weights (u .scope) (u .weight)) i 0
     unfolding weightIn
     weighed-here i =
-        rw (at-scope weights (u .scope) (u .weight) i (scope-in weights (r .sized .weightRoom)), ← busy .head .scope, weight-sum, r .closed .weighed i)
+        rw (
+          at-scope weights (u .scope) (u .weight) i (scope-in weights (r .sized .weightRoom)),
+          ← busy .head .scope,
+          weight-sum,
+          r .closed .weighed i,
+        )
 
     light-here : (i : ℕ) → getD (set weights (u .scope) (u .weight)) i 0 ≤ 4096
     light-here i =
@@ -302,7 +295,8 @@ module _ (code : List ℕ) (at : ℕ) (u : Progress) (spans heads places weights
         (λ (q : eqb (u .scope) i ≡ false). rw q (r .closed .wide i))
         (decide (eqb (u .scope) i)))
 
-    closed-more : AreClosed code m' spans' heads' (set places (u .scope) m') (set weights (u .scope) (u .weight)) (set widths (u .scope) (u .variables))
+    closed-more : AreClosed code m' spans' heads' (set places (u .scope) m') (set weights (u .scope) (u .weight))
+        (set widths (u .scope) (u .variables))
     closed-more =
         let s = earlier-suc code (u .blocks) (busy .head .present) in
         record {
@@ -332,7 +326,8 @@ module _ (code : List ℕ) (at : ℕ) (u : Progress) (spans heads places weights
               record {
                 room =
                     record {
-                      spanRoom = length-set (set spans (u .blocks * 2) (u .begin)) (u .blocks * 2 + 1) at ∙ length-set spans (u .blocks * 2) (u .begin) ∙ r .sized .room .spanRoom;
+                      spanRoom = length-set (set spans (u .blocks * 2) (u .begin)) (u .blocks * 2 + 1) at
+                          ∙ length-set spans (u .blocks * 2) (u .begin) ∙ r .sized .room .spanRoom;
                       headRoom =
                           length-set (set (set heads (u .blocks * 48) (u .scope)) (u .blocks * 48 + 1) (u .variables)) (u .blocks * 48 + 2) (u .subs)
                           ∙ length-set (set heads (u .blocks * 48) (u .scope)) (u .blocks * 48 + 1) (u .variables)

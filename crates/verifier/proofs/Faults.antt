@@ -1,21 +1,23 @@
 -- The faults 1 to 5 of a record of code, each as the pass tests it.
+--     variable-more, sub-more, none-more                                  limits
+--     fault-kind, fault-length, fault-order, fault-limit, fault-byte      one law for each way through `is_faulty`
 -- Assumes nothing.
-use Prim.Native.Nat.{ℕ, zero, suc, _+_, _-_, _<_, _≤_}
+use Prim.Native.Nat.{ℕ, suc, _+_, _-_, _<_, _≤_}
 use mathlib.Core.Path.{_≡_, refl, sym, ap, _∙_}
-use mathlib.Core.Bool.{Bool, true, false, cond, not, _&&_, _||_, or-true, or-false, true≢false, false≢true}
-use mathlib.Core.List.{List, [], _∷_}
+use mathlib.Core.Bool.{Bool, true, false, not, _||_, or-false}
+use mathlib.Core.List.{List}
 use mathlib.Core.Logic.{⊎-elim}
 use native.Mathlib.Omega.{arith}
 use lib.ListN.{length, getD, take, drop, length-drop}
 use lib.Seq.{take-all}
 use lib.Dec.{eqb, ltb}
-use borrow.Author.Tests.{eq-eqb, ne-eqb, lt-ltb, le-ltb, ltb-true, ltb-false, not-true, not-false}
+use borrow.Author.Tests.{eq-eqb, ne-eqb, lt-ltb, le-ltb, ltb-true, ltb-false}
 use Rattle.order.proofs.Booleans.{decide}
 use Rattle.record.specs.Kinds.{shapeIn}
 use Rattle.record.specs.declared.Medium.the-variants.{Code}
 use Rattle.record.specs.declared.Shape.{Shape}
 use Rattle.book.specs.Records.{follows, invalid}
-use Rattle.machine.specs.Acceptance.{Count, counted, faulty}
+use Rattle.machine.specs.Acceptance.{counted, faulty}
 use Rattle.verifier.specs.Pass.{countOf, faultyAt, exceedsWith, Limited}
 use Rattle.verifier.specs.declared.Progress.{Progress}
 
@@ -50,7 +52,8 @@ tests code at u s =
     eqb (s .stage) 0
     || (ltb (length (drop (at + 1) code)) (s .length)
     || (not (follows (u .stage) (s .stage))
-    || (ltb 32 (counted (s .stage) (countOf u) .variables) || (ltb 8 (counted (s .stage) (countOf u) .subScopes) || invalid (getD code at 0) (drop (at + 1) code)))))
+    || (ltb 32 (counted (s .stage) (countOf u) .variables) ||
+    (ltb 8 (counted (s .stage) (countOf u) .subScopes) || invalid (getD code at 0) (drop (at + 1) code)))))
 
 or-group : (a b d : Bool) → (a || (b || d)) ≡ ((a || b) || d)
 or-group true b d = refl
@@ -61,10 +64,16 @@ module _ (code : List ℕ) (at : ℕ) (u : Progress) (s : Shape) (es : s ≡ sha
   unfolding faultyAt faulty tests
   tests-are = ap (tests code at u) es
 
-  grouped : tests code at u s ≡ (eqb (s .stage) 0 || (ltb (length code - (at + 1)) (s .length) || (not (follows (u .stage) (s .stage)) || (exceedsWith (s .stage) u || invalid (getD code at 0) (drop (at + 1) code)))))
+  grouped : tests code at u s ≡ (eqb (s .stage) 0 ||
+      (ltb (length code - (at + 1)) (s .length) ||
+      (not (follows (u .stage) (s .stage)) || (exceedsWith (s .stage) u || invalid (getD code at 0) (drop (at + 1) code)))))
   unfolding tests exceedsWith
   grouped =
-      rw (length-drop (at + 1) code, or-group (ltb 32 (counted (s .stage) (countOf u) .variables)) (ltb 8 (counted (s .stage) (countOf u) .subScopes)) (invalid (getD code at 0) (drop (at + 1) code)))
+      rw (
+        length-drop (at + 1) code,
+        or-group (ltb 32 (counted (s .stage) (countOf u) .variables))
+            (ltb 8 (counted (s .stage) (countOf u) .subScopes)) (invalid (getD code at 0) (drop (at + 1) code)),
+      )
 
   pub fault-kind : s .stage ≡ 0 → true ≡ faultyAt code at u
   fault-kind h = sym (grouped ∙ rw (eq-eqb (s .stage) 0 h)) ∙ tests-are
@@ -86,7 +95,8 @@ module _ (code : List ℕ) (at : ℕ) (u : Progress) (s : Shape) (es : s ≡ sha
         pub fault-limit : c ≡ true → true ≡ faultyAt code at u
         fault-limit h = rw h at rest-is
 
-        pub fault-byte : c ≡ false → (m : Bool) → m ≡ invalid (getD code at 0) (take (length code - (at + 1)) (drop (at + 1) code)) → m ≡ faultyAt code at u
+        pub fault-byte : c ≡ false → (m : Bool) → m ≡ invalid (getD code at 0) (take (length code - (at + 1)) (drop (at + 1) code))
+            → m ≡ faultyAt code at u
         fault-byte h m em =
             em
             ∙ ap (invalid (getD code at 0)) (take-all (length code - (at + 1)) (drop (at + 1) code) (rw length-drop (omega arith)))

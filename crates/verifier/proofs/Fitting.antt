@@ -3,23 +3,20 @@
 --     fits-parts     an instruction fits where its numbers name something and its distance lands
 --     local          an instruction depends only on its body
 -- Assumes nothing.
-use Prim.Native.Nat.{ℕ, zero, suc, _+_, _*_, _<_, _≤_}
-use mathlib.Core.Path.{_≡_, refl, sym, ap, subst, _∙_}
+use Prim.Native.Nat.{ℕ, _<_, _≤_}
+use mathlib.Core.Path.{_≡_, refl, sym, ap, subst}
 use mathlib.Core.Bool.{Bool, true, false, not, _&&_, _||_, false≢true}
-use mathlib.Core.List.{List, [], _∷_, _++_}
-use mathlib.Core.Logic.{_⊎_, ⊎-elim}
+use mathlib.Core.List.{List, [], _∷_}
+use mathlib.Core.Logic.{⊎-elim}
 use native.Mathlib.Omega.{arith}
-use lib.ListN.{length, getD, take, List·getD-eq-default}
+use lib.ListN.{length, getD, List·getD-eq-default}
 use lib.Dec.{T, eqb, ltb}
 use borrow.Author.Tests.{eqb-true, eq-eqb, ltb-true, ltb-false}
 use Rattle.order.proofs.Booleans.{decide, or-cases}
 use Rattle.record.specs.Bytes.{bigEndian, numberAt}
 use Rattle.record.specs.Kinds.{kinds, shapesOf, shapeIn}
-use Rattle.record.specs.declared.Shape.{Shape}
-use Rattle.record.specs.declared.Medium.the-variants.{Code}
 use Rattle.record.proofs.Decision.{by-range, over, isAny}
-use Rattle.calculus.specs.declared.Value.the-variants.{Truth, Number}
-use Rattle.machine.specs.Instructions.{Instruction, push, readOwn, readCalled, jump, jumpIfNo, beginTry, settle, store, override, enter, jumpIfGiven, instructionOf}
+use Rattle.machine.specs.Instructions.{instructionOf}
 use Rattle.machine.specs.Blocks.{Block, bodyLength, stageOf, variablesOf}
 use Rattle.machine.specs.Acceptance.{lands, fits}
 use Rattle.verifier.specs.Instructions.{namingOf, distancePlace, named, distanceOf}
@@ -89,8 +86,9 @@ ends false after = refl
 module _ (earlier : List Block) (b : Block) where
   abbrev Parts : ℕ → Type 0
   Parts k =
-      (r after : List ℕ) → fits earlier b (instructionOf k r) after
-      ≡ (named (namingOf k) (getD r 0 0) (getD r 1 0) (length (b .variables)) (length (b .subScopes)) (length (variablesOf earlier (getD (b .subScopes) (getD r 0 0) 0)))
+      (r after : List ℕ)
+      → fits earlier b (instructionOf k r) after ≡ (named (namingOf k) (getD r 0 0) (getD r 1 0) (length (b .variables)) (length (b .subScopes))
+      (length (variablesOf earlier (getD (b .subScopes) (getD r 0 0) 0)))
       && lands after 0 (distanceOf (distancePlace k) r))
 
   parts : Each Parts instructions

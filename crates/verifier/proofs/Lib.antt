@@ -5,6 +5,7 @@ mod Blocks
 mod Fitting
 mod Turns
 mod Steps
+mod Entries
 mod Heads
 mod Ends
 mod Opens

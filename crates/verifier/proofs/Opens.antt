@@ -1,43 +1,34 @@
 -- The start of the pass, the beginning of a block, and the end of the pass.
+--     scope-refused, repeat-refused, open-turn, open-stepped    a block begins
+--     begin-leaves, begin-stepped, left-refused, left-closed    the same, as the code takes it
+--     start-reading, empty-start                                the start
+--     stepped-refused, stepped-next                             the loop
+--     end-leaves, end-judged, judged-refused, judged-accepted   the end
 -- Assumes nothing.
-use Prim.Native.Nat.{ℕ, zero, suc, _+_, _-_, _*_, _%_, _<_, _≤_}
+use Prim.Native.Nat.{ℕ, zero, suc, _+_, _-_, _%_, _<_, _≤_}
 use mathlib.Core.Path.{_≡_, refl, sym, ap, _∙_}
-use mathlib.Core.Bool.{Bool, true, false, cond, not, _&&_, _||_, true≢false, false≢true}
-use mathlib.Core.List.{List, [], _∷_, _++_, append-assoc}
-use mathlib.Core.Logic.{_⊎_, inl, inr, ⊎-elim}
+use mathlib.Core.Bool.{true, false, false≢true}
+use mathlib.Core.List.{List, _∷_}
+use mathlib.Core.Logic.{⊎-elim}
 use native.Mathlib.Omega.{arith}
-use lib.ListN.{length, getD, take, drop, set, length-drop, length-set}
-use lib.Seq.{drop-drop, getD-drop, take-add, length-take-le, getD-take, getD-set-same, getD-set-other}
-use lib.ListN.{List·getD-append}
-use lib.Dec.{eqb, leb, ltb}
-use borrow.Author.Tests.{eq-eqb, ne-eqb, lt-ltb, le-ltb, ltb-true, ltb-false, eqb-true, eqb-false, leb-true, not-true, not-false}
-use Rattle.order.proofs.Booleans.{decide, both}
-use Rattle.record.specs.Kinds.{shapeIn}
-use Rattle.record.specs.declared.Shape.{Shape}
+use lib.ListN.{length, getD, drop, set, replicate, length-replicate, drop-of-length-le}
+use lib.Dec.{eqb, ltb}
+use borrow.Author.Tests.{lt-ltb, ltb-true, ltb-false, eqb-true, eqb-false}
+use Rattle.order.proofs.Booleans.{decide}
 use Rattle.book.specs.Lists.{any}
 use Rattle.book.specs.Scopes.{sum}
-use Rattle.book.specs.Syntax.{typeOf, variableOf}
-use Rattle.book.specs.declared.Variable.{Variable}
-use Rattle.machine.specs.Blocks.{Block, Parsed, emptyBlock, bodyLength, stageOf, inFront, parse, hasBlock, variablesOf}
-use Rattle.machine.specs.Instructions.{instructionOf}
-use Rattle.machine.specs.Acceptance.{Count, start, counted, faulty, sound, lands, fits, allFit, weightIn, wellFormed, allWellFormed, accepted}
-use Rattle.verifier.specs.Instructions.{namingOf, distancePlace, named, distanceOf, farthest}
-use Rattle.verifier.specs.Tables.{blockAt, Entered, Room}
-use Rattle.verifier.specs.Pass.{countOf, faultyAt, Limited, blockRead, variableRead, subScopeRead, instructionRead, mark, Marked, Quiet, Passed, Marks, earlier, ahead, AreClosed, Head, Noted, Busy, Idle, Sized, Reading, AtInstruction}
+use Rattle.machine.specs.Blocks.{Block, Parsed, emptyBlock, stageOf, parse, hasBlock, variablesOf}
+use Rattle.machine.specs.Acceptance.{start, counted, sound, weightIn, wellFormed, allWellFormed, accepted}
+use Rattle.verifier.specs.Tables.{blockAt, Tabled, blockCount}
+use Rattle.verifier.specs.Pass.{countOf, faultyAt, blockRead, mark, Quiet, earlier, ahead, Reading, nothingRead, filled, Leaving, AllClosed, Beginning, opening, Empty, Stepped, Judged, Left}
 use Rattle.verifier.specs.declared.Progress.{Progress}
-use Rattle.verifier.proofs.Reading.{sound-at, ahead-at, Clean, clean, in-order, stage-below, front-one, front-two, front-three, front-four, NoHeads, no-heads}
-use Rattle.verifier.proofs.Blocks.{refused, sound-code, block-fits}
-use Rattle.verifier.proofs.Fitting.{fits-parts, local}
-use Rattle.verifier.proofs.Ring.{back-fits, back-inside, marks-next, quiet-next, marks-quiet}
-use Rattle.verifier.proofs.Blocks.{Formed, formed, earlier-none, all-accepted}
-use Rattle.verifier.proofs.Reading.{ahead-end, length-below}
-use Rattle.verifier.proofs.Turns.{More, drop-more, drop-end, nextAt, is-clean, next-inside, sound-next}
+use Rattle.verifier.proofs.Reading.{ahead-at, front-one, ahead-end, length-below}
+use Rattle.verifier.proofs.Blocks.{refused, block-fits, Formed, formed, all-accepted}
+use Rattle.verifier.proofs.Ring.{quiet-next, marks-quiet}
+use Rattle.verifier.proofs.Turns.{More, drop-more, drop-end, nextAt, next-inside, sound-next}
 use Rattle.verifier.proofs.Ends.{filled-room, filled-bound}
-use Rattle.verifier.specs.Tables.{Tabled, blockCount}
-use Rattle.verifier.specs.Pass.{nothingRead, filled, Leaving, AllClosed, Beginning, opening, Empty, Stepped, Judged}
 use Rattle.verifier.specs.declared.Step.{Step}
 use Rattle.verifier.specs.declared.Step.the-variants.{Refused, Next}
-use Rattle.verifier.specs.Pass.{Left}
 use Rattle.verifier.specs.declared.Closing.{Closing}
 use Rattle.verifier.specs.declared.Closing.the-variants.{Closed}
 use Rattle.verifier.specs.declared.Closing.the-variants as closing
@@ -45,7 +36,6 @@ use Rattle.verifier.specs.declared.Verdict.{Verdict}
 use Rattle.verifier.specs.declared.Verdict.the-variants as verdict
 use Rattle.order.proofs.Matrix.{zeros}
 use native.Mathlib.Numerals.{add-one}
-use lib.ListN.{replicate, length-replicate, drop-of-length-le}
 
 -- at a record of kind 1 the present block ends
 pub begin-leaves : (code : List ℕ) (at next scope : ℕ) (u : Progress) (spans heads places weights widths ring : List ℕ)
@@ -53,7 +43,8 @@ pub begin-leaves : (code : List ℕ) (at next scope : ℕ) (u : Progress) (spans
 begin-leaves code at next scope u spans heads places weights widths ring g =
     record {
       reading = g .reading;
-      ended = ap (λ (p : Parsed). p .opened) (ahead-at code at (g .here) ∙ front-one (getD code at 0) (drop (at + 1) code) (ahead code (nextAt code at)) (g .stage));
+      ended = ap (λ (p : Parsed). p .opened) (ahead-at code at (g .here)
+          ∙ front-one (getD code at 0) (drop (at + 1) code) (ahead code (nextAt code at)) (g .stage));
     }
 
 -- a block begins
@@ -68,7 +59,12 @@ module _ (code : List ℕ) (at : ℕ) (u : Progress) (spans₀ heads₀ places�
   s = getD (drop (at + 1) code) 0 0
 
   new : Block
-  new = record { scope = s; variables = ahead code next .opened .variables; subScopes = ahead code next .opened .subScopes; body = ahead code next .opened .body }
+  new = record {
+    scope = s;
+    variables = ahead code next .opened .variables;
+    subScopes = ahead code next .opened .subScopes;
+    body = ahead code next .opened .body;
+  }
 
   front : ahead code at ≡ record { opened = emptyBlock; blocks = new ∷ ahead code next .blocks }
   unfolding new
@@ -170,7 +166,8 @@ pub begin-stepped : (code : List ℕ) (at next scope : ℕ) (u : Progress) (span
     → (r : Step) → r ≡ opening scope next m places → Stepped code at spans heads places weights widths ring r
 begin-stepped code at next scope u spans₀ heads₀ places₀ weights₀ widths₀ ring₀ g m spans heads places weights widths ring c r e =
     rw (e, g .scopeIs, g .nextIs)
-    (open-stepped code at u spans₀ heads₀ places₀ weights₀ widths₀ ring₀ (g .reading) (g .here) (g .fine) (g .stage) m spans heads places weights widths ring c)
+    (open-stepped code at u spans₀ heads₀ places₀ weights₀ widths₀ ring₀ (g .reading) (g .here) (g .fine) (g .stage) m spans heads places weights
+    widths ring c)
 
 -- a refused end
 pub left-refused : (code : List ℕ) (at : ℕ) (spans heads places weights widths ring : List ℕ) (x : Closing) → x ≡ closing.Refused
@@ -270,7 +267,8 @@ pub stepped-next : (code : List ℕ) (at : ℕ) (spans heads places weights widt
     → Stepped code at spans heads places weights widths ring x → (at < next) × Reading code next u spans heads places weights widths ring
 stepped-next code at spans heads places weights widths ring x next u e s = rw e at s
 
-pub empty-start : (code spans heads places weights widths ring : List ℕ) (u : Progress) → Empty spans heads places weights widths ring → u ≡ nothingRead
+pub empty-start : (code spans heads places weights widths ring : List ℕ) (u : Progress) → Empty spans heads places weights widths ring
+    → u ≡ nothingRead
     → Reading code 0 u spans heads places weights widths ring
 empty-start code spans heads places weights widths ring u e eu = rw eu (start-reading code spans heads places weights widths ring e)
 
@@ -278,11 +276,15 @@ pub end-judged : (code : List ℕ) (at : ℕ) (u : Progress) (spans₀ heads₀ 
     → Reading code at u spans₀ heads₀ places₀ weights₀ widths₀ ring₀ → length code ≤ at
     → (m : ℕ) (spans heads places weights widths ring : List ℕ) → AllClosed code at m spans heads places weights widths ring
     → (accepted code ≡ true) × Tabled code spans heads places m
-end-judged code at u spans₀ heads₀ places₀ weights₀ widths₀ ring₀ r h m spans heads places weights widths ring c =
-    (end-accepted code at m u spans heads places weights widths ring h (r .sound) c, end-tabled code at m u spans heads places weights widths ring h (r .sound) c)
+end-judged code at u spans₀ heads₀ places₀ weights₀ widths₀ ring₀ r h m spans heads places weights widths ring c = (
+  end-accepted code at m u spans heads places weights widths ring h (r .sound) c,
+  end-tabled code at m u spans heads places weights widths ring
+      h (r .sound) c,
+)
 
 pub judged-refused : (code spans heads places : List ℕ) (v : Verdict) → v ≡ verdict.Refused → Judged code spans heads places v → false ≡ accepted code
 judged-refused code spans heads places v e j = sym (rw e at j)
 
-pub judged-accepted : (code spans heads places : List ℕ) (v : Verdict) (m : ℕ) → v ≡ verdict.Accepted m → Judged code spans heads places v → true ≡ accepted code
+pub judged-accepted : (code spans heads places : List ℕ) (v : Verdict) (m : ℕ) → v ≡ verdict.Accepted m → Judged code spans heads places v
+    → true ≡ accepted code
 judged-accepted code spans heads places v m e j = let q : (accepted code ≡ true) × Tabled code spans heads places m = rw e at j in sym (q .0)

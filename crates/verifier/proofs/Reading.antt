@@ -1,28 +1,29 @@
 -- The records of code from a position on.
---     sound-at, ahead-at     the first of them and the others
---     Clean, clean           what a record without fault is
---     no-heads               after an instruction no variable and no sub-scope of its block follows
+--     sound-at, ahead-at, ahead-end     the first of them and the others
+--     Clean, clean                      what a record without fault is
+--     stage-below, length-below         every kind's stage and body are small
+--     front-one .. front-four           a record in front of others, by its stage
+--     no-heads                          after an instruction no variable and no sub-scope of its block follows
 -- Assumes nothing.
-use Prim.Native.Nat.{ℕ, zero, suc, _+_, _-_, _<_, _≤_}
+use Prim.Native.Nat.{ℕ, zero, suc, _+_, _<_, _≤_}
 use mathlib.Core.Path.{_≡_, refl, sym, ap, _∙_}
-use mathlib.Core.Bool.{Bool, true, false, cond, not, _&&_, _||_, true≢false, false≢true}
+use mathlib.Core.Bool.{true, false, not, _&&_, _||_}
 use mathlib.Core.List.{List, [], _∷_, _++_}
 use mathlib.Core.Logic.{⊎-elim}
 use native.Mathlib.Omega.{arith}
 use native.Mathlib.Numerals.{add-one}
-use lib.ListN.{length, getD, take, drop, length-drop, drop-of-length-le}
+use lib.ListN.{length, getD, take, drop, drop-of-length-le}
 use lib.Seq.{drop-cons, drop-drop}
-use lib.Dec.{eqb, leb, ltb, T, leb→le}
-use borrow.Author.Tests.{eq-eqb, ne-eqb, lt-ltb, le-ltb, ltb-true, ltb-false, eqb-true, eqb-false, leb-true, not-true, not-false}
-use Rattle.order.proofs.Booleans.{decide, both, neither, or-cases}
-use Rattle.record.specs.Kinds.{kinds, shapesOf, shapeIn, pickShape}
+use lib.Dec.{eqb, ltb}
+use borrow.Author.Tests.{eq-eqb, ltb-false, eqb-true, eqb-false, not-true, not-false}
+use Rattle.order.proofs.Booleans.{decide, both, neither}
+use Rattle.record.specs.Kinds.{kinds, shapesOf}
 use Rattle.record.specs.declared.Medium.the-variants.{Code}
-use Rattle.record.specs.declared.Shape.{Shape}
-use Rattle.record.proofs.Decision.{and-l, and-r}
+use Rattle.scan.proofs.Shapes.{every, shape-below, in-order}
 use Rattle.book.specs.Syntax.{variableOf}
 use Rattle.book.specs.Records.{follows, invalid}
-use Rattle.machine.specs.Blocks.{Block, Parsed, emptyBlock, bodyLength, stageOf, inFront, parse}
-use Rattle.machine.specs.Acceptance.{Count, counted, faulty, sound, start}
+use Rattle.machine.specs.Blocks.{Parsed, emptyBlock, bodyLength, stageOf, inFront, parse}
+use Rattle.machine.specs.Acceptance.{Count, counted, faulty, sound}
 use Rattle.verifier.specs.Pass.{countOf, faultyAt, ahead}
 use Rattle.verifier.specs.declared.Progress.{Progress}
 
@@ -48,7 +49,13 @@ module _ (code : List ℕ) (at : ℕ) (here : at < length code) where
       → sound (drop at code) 0 (countOf u) ≡ (not (faultyAt code at u) && sound (drop (at + 1 + bodyLength (getD code at 0)) code) 0 t)
   unfolding sound faultyAt
   sound-at u t e =
-      rw (drop-here, sound-skip (bodyLength (getD code at 0)) (drop (at + 1) code) (counted (stageOf (getD code at 0)) (countOf u)), drop-drop (bodyLength (getD code at 0)) (at + 1) code, e)
+      rw (
+        drop-here,
+        sound-skip (bodyLength (getD code at 0)) (drop (at + 1) code) (counted (stageOf (getD code at 0)) (countOf u)),
+        drop-drop
+            (bodyLength (getD code at 0)) (at + 1) code,
+        e,
+      )
 
   pub ahead-at : ahead code at ≡ inFront (getD code at 0) (drop (at + 1) code) (ahead code (at + 1 + bodyLength (getD code at 0)))
   unfolding ahead parse
@@ -90,54 +97,62 @@ clean t k rest e =
     }
 
 -- every kind's stage is at most 4, and its body at most 4 bytes
-every : {A : Type 0} → (A → Bool) → List A → Bool
-every p [] = true
-every p (x ∷ xs) = p x && every p xs
-
-at-every : {A : Type 0} (p : A → Bool) (xs : List A) (d : A) → T (every p xs) → T (p d) → (k : ℕ) → T (p (getD xs k d))
-unfolding every
-at-every p [] d h e k = e
-at-every p (x ∷ xs) d h e zero = and-l (p x) (every p xs) h
-at-every p (x ∷ xs) d h e (suc k) = at-every p xs d (and-r (p x) (every p xs) h) e k
-
 pub stage-below : (k : ℕ) → stageOf k ≤ 4
-unfolding shapeIn shapesOf kinds every
-stage-below k = leb→le (stageOf k) 4 (at-every (λ s. leb (pickShape Code s .stage) 4) kinds _ tt tt k)
+unfolding every shapesOf kinds
+stage-below k = shape-below Code (λ s. s .stage) 4 tt tt k
 
 pub length-below : (k : ℕ) → bodyLength k ≤ 4
-unfolding shapeIn shapesOf kinds every
-length-below k = leb→le (bodyLength k) 4 (at-every (λ s. leb (pickShape Code s .length) 4) kinds _ tt tt k)
-
--- a record that follows in order and begins no block
-either : (a b : Bool) → (a || b) ≡ true → a ≡ false → b ≡ true
-either true b e h = absurd (true≢false h)
-either false b e h = e
-
-pub in-order : (last st : ℕ) → follows last st ≡ true → 2 ≤ st → (1 ≤ last) × (last ≤ st)
-unfolding follows
-in-order last st e h =
-    let q = either (eqb st 1) (leb 1 last && leb last st) e (ne-eqb st 1 (omega arith)) in
-    (leb-true 1 last (both (leb 1 last) (leb last st) q .0), leb-true last st (both (leb 1 last) (leb last st) q .1))
+unfolding every shapesOf kinds
+length-below k = shape-below Code (λ s. s .length) 4 tt tt k
 
 -- the record in front of others, by its stage
 module _ (k : ℕ) (rest : List ℕ) (p : Parsed) where
-  pub front-one : stageOf k ≡ 1 → inFront k rest p
-      ≡ record { opened = emptyBlock; blocks = record { scope = getD rest 0 0; variables = p .opened .variables; subScopes = p .opened .subScopes; body = p .opened .body } ∷ p .blocks }
+  pub front-one : stageOf k ≡ 1
+      → inFront k rest p ≡ record {
+        opened = emptyBlock;
+        blocks = record
+            { scope = getD rest 0 0; variables = p .opened .variables; subScopes = p .opened .subScopes; body = p .opened .body } ∷ p .blocks;
+      }
   unfolding inFront
   front-one e = rw (eq-eqb (stageOf k) 1 e)
 
-  pub front-two : stageOf k ≡ 2 → inFront k rest p
-      ≡ record { opened = record { scope = 0; variables = variableOf rest ∷ p .opened .variables; subScopes = p .opened .subScopes; body = p .opened .body }; blocks = p .blocks }
+  pub front-two : stageOf k ≡ 2
+      → inFront k rest p ≡ record {
+        opened = record {
+          scope = 0;
+          variables = variableOf rest ∷ p .opened .variables;
+          subScopes = p .opened .subScopes;
+          body = p .opened .body;
+        };
+        blocks = p .blocks;
+      }
   unfolding inFront
   front-two e = rw e
 
-  pub front-three : stageOf k ≡ 3 → inFront k rest p
-      ≡ record { opened = record { scope = 0; variables = p .opened .variables; subScopes = getD rest 0 0 ∷ p .opened .subScopes; body = p .opened .body }; blocks = p .blocks }
+  pub front-three : stageOf k ≡ 3
+      → inFront k rest p ≡ record {
+        opened = record {
+          scope = 0;
+          variables = p .opened .variables;
+          subScopes = getD rest 0 0 ∷ p .opened .subScopes;
+          body = p .opened .body;
+        };
+        blocks = p .blocks;
+      }
   unfolding inFront
   front-three e = rw e
 
-  pub front-four : stageOf k ≡ 4 → inFront k rest p
-      ≡ record { opened = record { scope = 0; variables = p .opened .variables; subScopes = p .opened .subScopes; body = k ∷ take (bodyLength k) rest ++ p .opened .body }; blocks = p .blocks }
+  pub front-four : stageOf k ≡ 4
+      → inFront k rest p ≡ record {
+        opened = record {
+          scope = 0;
+          variables = p .opened .variables;
+          subScopes = p .opened .subScopes;
+          body = k ∷ take (bodyLength k)
+              rest ++ p .opened .body;
+        };
+        blocks = p .blocks;
+      }
   unfolding inFront
   front-four e = rw e
 
@@ -178,4 +193,5 @@ no-heads [] n t e h = record { variables = refl; subScopes = refl }
 no-heads (b ∷ rest) (suc n) t e h = no-heads rest n t e h
 no-heads (k ∷ rest) zero t e h =
     let q = both (not (faulty t k rest)) (sound rest (bodyLength k) (counted (stageOf k) t)) e in
-    heads-by t k rest (parse rest (bodyLength k)) h (clean t k rest (not-true (faulty t k rest) (q .0))) (λ l. no-heads rest (bodyLength k) (counted (stageOf k) t) (q .1) l)
+    heads-by t k rest (parse rest (bodyLength k)) h (clean t k rest (not-true (faulty t k rest) (q .0)))
+    (λ l. no-heads rest (bodyLength k) (counted (stageOf k) t) (q .1) l)

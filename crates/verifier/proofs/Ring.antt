@@ -1,16 +1,21 @@
 -- The marks of the landings that lie ahead.
+--     passed-none, passed-hit, passed-more    the search for a mark
+--     back-fits, back-inside                  what a block that fits says of its next instruction
+--     marks-next                              the landings after an instruction
+--     quiet-next, marks-quiet                 a ring without marks
+--     end-refused, end-fits, end-quiet        the end of a block
 -- Assumes nothing.
-use Prim.Native.Nat.{ℕ, zero, suc, _+_, _-_, _*_, _%_, _<_, _≤_}
+use Prim.Native.Nat.{ℕ, zero, suc, _+_, _-_, _%_, _<_, _≤_}
 use mathlib.Core.Path.{_≡_, refl, sym, ap, _∙_}
-use mathlib.Core.Bool.{Bool, true, false, cond, _&&_, true≢false, false≢true}
+use mathlib.Core.Bool.{true, false, _&&_, true≢false, false≢true}
 use mathlib.Core.List.{List, [], _∷_, _++_}
 use mathlib.Core.Logic.{_⊎_, inl, inr, ⊎-elim}
 use native.Mathlib.Omega.{arith}
 use native.Mathlib.Nat.{eq-or-lt-of-le}
-use lib.ListN.{length, getD, set, drop, length-set}
+use lib.ListN.{length, getD, set, length-set}
 use lib.Seq.{getD-set-same, getD-set-other, drop-at}
 use lib.Dec.{eqb, ltb}
-use borrow.Author.Tests.{eqb-true, eqb-false, ltb-true, ltb-false, lt-ltb, le-ltb}
+use borrow.Author.Tests.{eqb-true, eqb-false, ltb-true, ltb-false}
 use Rattle.order.proofs.Booleans.{decide, both}
 use Rattle.machine.specs.Blocks.{Block, bodyLength}
 use Rattle.machine.specs.Instructions.{instructionOf}
@@ -182,7 +187,8 @@ module _ (ring : List ℕ) (at next d : ℕ) (size : length ring ≡ 65536) (low
     landed = let h = hit-landing in record { from = omega arith; window = omega arith; set = omega arith }
 
     -- the farthest landing
-    pub reach-bound : (reach : ℕ) → ((p : ℕ) → Marked ring at p → p ≤ at + reach) → (p : ℕ) → Marked after next p → p ≤ next + farthest reach (next - at) d
+    pub reach-bound : (reach : ℕ) → ((p : ℕ) → Marked ring at p → p ≤ at + reach) → (p : ℕ) → Marked after next p
+        → p ≤ next + farthest reach (next - at) d
     unfolding farthest
     reach-bound reach bound p m =
         ⊎-elim
@@ -255,11 +261,13 @@ module _ (k : ℕ) (bs left : List ℕ) (whole : length bs ≡ bodyLength k) (ea
       record {
         onward =
             λ all e.
-            let here : lands left 0 d ≡ true = ap (lands left 0) (back-to (next + d) next d refl) ∙ all (next + d) (landed ring at next d size low high small clear) in
+            let here : lands left 0 d ≡ true = ap (lands left 0) (back-to (next + d) next d refl)
+            ∙ all (next + d) (landed ring at next d size low high small clear) in
             m .onward (old-lands all) (fit-over k bs left whole earlier b ∙ rw (fit, here) e);
         back =
             λ e.
-            let q = both (fits earlier b (instructionOf k (bs ++ left)) left) (allFit earlier b left 0) (sym (fit-over k bs left whole earlier b) ∙ m .back e .1) in
+            let q = both (fits earlier b (instructionOf k (bs ++ left)) left) (allFit earlier b left 0)
+            (sym (fit-over k bs left whole earlier b) ∙ m .back e .1) in
             (new-lands (m .back e .0) (sym fit ∙ q .0), q .1);
         bound = reach-bound ring at next d size low high small clear reach (m .bound);
         reached = λ h. reach-marked ring at next d size low high small clear reach (m .reached);
@@ -274,7 +282,8 @@ pub quiet-next : (ring : List ℕ) (at next : ℕ) → at ≤ next → next ≤ 
 unfolding mark
 quiet-next ring at next low high quiet p m =
     ⊎-elim
-    (λ (q : ltb p (at + 65536) ≡ true). let l = ltb-true p (at + 65536) q in let f = m .from in quiet p (record { from = omega arith; window = l; set = m .set }))
+    (λ (q : ltb p (at + 65536) ≡ true). let l = ltb-true p (at + 65536) q in let f = m .from in quiet p
+    (record { from = omega arith; window = l; set = m .set }))
     (λ (q : ltb p (at + 65536) ≡ false).
     let l = ltb-false p (at + 65536) q in
     let w = m .window in

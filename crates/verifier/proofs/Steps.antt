@@ -1,37 +1,31 @@
 -- An instruction: what is refused, and what holds after it.
+--     names-refused, inside-refused                       a number that names nothing; a landing inside its body
+--     instruction-turn                                    what holds after it
+--     refuse-names, refuse-marks, take-instruction        the same, as the code takes it
 -- Assumes nothing.
-use Prim.Native.Nat.{ℕ, zero, suc, _+_, _-_, _*_, _%_, _<_, _≤_}
-use mathlib.Core.Path.{_≡_, refl, sym, ap, _∙_}
-use mathlib.Core.Bool.{Bool, true, false, cond, not, _&&_, _||_, true≢false, false≢true}
-use mathlib.Core.List.{List, [], _∷_, _++_, append-assoc}
-use mathlib.Core.Logic.{_⊎_, inl, inr, ⊎-elim}
+use Prim.Native.Nat.{ℕ, suc, _+_, _-_, _*_, _%_, _<_, _≤_}
+use mathlib.Core.Path.{_≡_, sym, ap, _∙_}
+use mathlib.Core.Bool.{Bool, true, false, _&&_, false≢true}
+use mathlib.Core.List.{List, _∷_, _++_, append-assoc}
+use mathlib.Core.Logic.{⊎-elim}
 use native.Mathlib.Omega.{arith}
-use lib.ListN.{length, getD, take, drop, set, length-drop, length-set}
-use lib.Seq.{drop-drop, getD-drop, take-add, length-take-le, getD-take, getD-set-same, getD-set-other}
-use lib.ListN.{List·getD-append}
-use lib.Dec.{eqb, leb, ltb}
-use borrow.Author.Tests.{eq-eqb, ne-eqb, lt-ltb, le-ltb, ltb-true, ltb-false, eqb-true, eqb-false, leb-true, not-true, not-false}
+use lib.ListN.{length, getD, take, drop, set, length-set, List·getD-append}
+use lib.Seq.{drop-drop, take-add, length-take-le, getD-take}
+use lib.Dec.{eqb, ltb}
+use borrow.Author.Tests.{lt-ltb, ltb-true}
 use Rattle.order.proofs.Booleans.{decide, both}
-use Rattle.record.specs.Kinds.{shapeIn}
-use Rattle.record.specs.declared.Shape.{Shape}
-use Rattle.book.specs.Lists.{any}
-use Rattle.book.specs.Scopes.{sum}
-use Rattle.book.specs.Syntax.{typeOf, variableOf}
-use Rattle.book.specs.declared.Variable.{Variable}
-use Rattle.machine.specs.Blocks.{Block, Parsed, emptyBlock, bodyLength, stageOf, inFront, parse, hasBlock, variablesOf}
+use Rattle.machine.specs.Blocks.{Block, Parsed, bodyLength, stageOf, variablesOf}
 use Rattle.machine.specs.Instructions.{instructionOf}
-use Rattle.machine.specs.Acceptance.{Count, start, counted, faulty, sound, lands, fits, allFit, weightIn, wellFormed, allWellFormed, accepted}
+use Rattle.machine.specs.Acceptance.{counted, sound, lands, fits, accepted}
 use Rattle.verifier.specs.Instructions.{namingOf, distancePlace, named, distanceOf, farthest}
-use Rattle.verifier.specs.Tables.{blockAt, Entered, Room}
-use Rattle.verifier.specs.Pass.{countOf, faultyAt, namesAt, Limited, blockRead, variableRead, subScopeRead, instructionRead, mark, Marked, Quiet, Passed, Marks, earlier, ahead, AreClosed, Head, Noted, Busy, Idle, Sized, Reading, AtInstruction}
+use Rattle.verifier.specs.Tables.{blockAt}
+use Rattle.verifier.specs.Pass.{countOf, faultyAt, namesAt, instructionRead, mark, Passed, Marks, earlier, ahead, Busy, Reading, Instructed}
 use Rattle.verifier.specs.declared.Progress.{Progress}
-use Rattle.verifier.proofs.Reading.{drop-here, sound-at, ahead-at, Clean, clean, in-order, stage-below, length-below, front-one, front-two, front-three, front-four, NoHeads, no-heads}
-use Rattle.verifier.proofs.Blocks.{refused, sound-code, block-fits}
+use Rattle.verifier.proofs.Reading.{drop-here, ahead-at, length-below, front-four, NoHeads, no-heads}
+use Rattle.verifier.proofs.Blocks.{refused, sound-code, block-fits, Formed, formed}
 use Rattle.verifier.proofs.Fitting.{fits-parts, local}
-use Rattle.verifier.proofs.Ring.{back-fits, back-inside, marks-next, quiet-next, marks-quiet}
-use Rattle.verifier.proofs.Blocks.{Formed, formed}
-use Rattle.verifier.proofs.Turns.{More, drop-more, drop-end, nextAt, is-clean, next-inside, sound-next, was-open}
-use Rattle.verifier.specs.Pass.{Instructed}
+use Rattle.verifier.proofs.Ring.{back-fits, back-inside, marks-next}
+use Rattle.verifier.proofs.Turns.{drop-end, nextAt, is-clean, next-inside, sound-next, was-open}
 use Rattle.verifier.specs.declared.Step.the-variants.{Refused, Next}
 
 -- Names
@@ -83,7 +77,15 @@ module _ (code : List ℕ) (at : ℕ) (u : Progress) (spans heads places weights
   busy = r .busy opened
 
   front : ahead code at
-      ≡ record { opened = record { scope = 0; variables = ahead code (nextAt code at) .opened .variables; subScopes = ahead code (nextAt code at) .opened .subScopes; body = k ∷ bs ++ ahead code (nextAt code at) .opened .body }; blocks = ahead code (nextAt code at) .blocks }
+      ≡ record {
+        opened = record {
+          scope = 0;
+          variables = ahead code (nextAt code at) .opened .variables;
+          subScopes = ahead code (nextAt code at) .opened .subScopes;
+          body = k ∷ bs ++ ahead code (nextAt code at) .opened .body;
+        };
+        blocks = ahead code (nextAt code at) .blocks;
+      }
   unfolding k rest bs
   front = ahead-at code at here ∙ front-four (getD code at 0) (drop (at + 1) code) (ahead code (nextAt code at)) four
 
@@ -96,7 +98,8 @@ module _ (code : List ℕ) (at : ℕ) (u : Progress) (spans heads places weights
 
   whole : length bs ≡ bodyLength k
   unfolding bs k rest
-  whole = length-take-le (bodyLength (getD code at 0)) (drop (at + 1) code) (is-clean code at u spans heads places weights widths ring r here fine .whole)
+  whole = length-take-le (bodyLength (getD code at 0)) (drop (at + 1) code)
+      (is-clean code at u spans heads places weights widths ring r here fine .whole)
 
   marks : Marks e b (k ∷ bs ++ left) at (u .reach) ring
   unfolding e b
@@ -110,9 +113,6 @@ module _ (code : List ℕ) (at : ℕ) (u : Progress) (spans heads places weights
       List·getD-append bs left 0 i (let w = whole in omega arith)
       ∙ getD-take (bodyLength (getD code at 0)) (drop (at + 1) code) i 0 h)
 
-  abbrev first : ℕ
-  first = getD rest 0 0
-
   -- what the tables say of the sub-scope's variables
   called : ℕ → ℕ
   called a = getD widths (getD heads (u .blocks * 48 + 35 + a) 0) 0
@@ -125,7 +125,8 @@ module _ (code : List ℕ) (at : ℕ) (u : Progress) (spans heads places weights
   names v s c = named (namingOf k) (getD rest 0 0) (getD rest 1 0) v s c
 
   fit-is : fits e b (instructionOf k (bs ++ left)) left
-      ≡ (names (length (b .variables)) (length (b .subScopes)) (length (variablesOf e (getD (b .subScopes) (getD rest 0 0) 0))) && lands left 0 (distanceOf (distancePlace k) rest))
+      ≡ (names (length (b .variables)) (length (b .subScopes)) (length (variablesOf e (getD (b .subScopes) (getD rest 0 0) 0)))
+      && lands left 0 (distanceOf (distancePlace k) rest))
   unfolding names k
   fit-is = rw same-instruction (fits-parts e b (getD code at 0) four rest left)
 
@@ -158,8 +159,12 @@ module _ (code : List ℕ) (at : ℕ) (u : Progress) (spans heads places weights
   names-refused q =
       refused code
       (λ a.
-      let f = both (names (length (b .variables)) (length (b .subScopes)) (length (variablesOf e (getD (b .subScopes) (getD rest 0 0) 0)))) (lands left 0 (distanceOf (distancePlace k) rest)) (sym fit-is ∙ back-fits k bs left whole e b at (u .reach) ring marks (accepted-fit a .fit)) in
-      let t = named-more (namingOf k) (getD rest 0 0) (getD rest 1 0) (length (b .variables)) (length (b .subScopes)) (length (variablesOf e (getD (b .subScopes) (getD rest 0 0) 0))) (u .variables) (u .subs) (called (getD rest 0 0)) (all-variables a) (all-subs a) (λ h. sym (called-is (getD rest 0 0) (let s = all-subs a in omega arith))) (f .0) in
+      let f = both (names (length (b .variables)) (length (b .subScopes)) (length (variablesOf e (getD (b .subScopes) (getD rest 0 0) 0))))
+      (lands left 0 (distanceOf (distancePlace k) rest))
+      (sym fit-is ∙ back-fits k bs left whole e b at (u .reach) ring marks (accepted-fit a .fit)) in
+      let t = named-more (namingOf k) (getD rest 0 0) (getD rest 1 0) (length (b .variables)) (length (b .subScopes))
+      (length (variablesOf e (getD (b .subScopes) (getD rest 0 0) 0))) (u .variables) (u .subs) (called (getD rest 0 0)) (all-variables a)
+      (all-subs a) (λ h. sym (called-is (getD rest 0 0) (let s = all-subs a in omega arith))) (f .0) in
       false≢true (sym q ∙ t))
 
   pub inside-refused : (d : ℕ) → at + 1 ≤ d → d < nextAt code at → 0 < mark ring d → accepted code ≡ false
@@ -176,15 +181,19 @@ module _ (code : List ℕ) (at : ℕ) (u : Progress) (spans heads places weights
     fit-lands : fits e b (instructionOf k (bs ++ left)) left ≡ lands left 0 d
     unfolding namesAt names called k rest b
     fit-lands =
-        let t = named-more (namingOf k) (getD rest 0 0) (getD rest 1 0) (u .variables) (u .subs) (called (getD rest 0 0)) (length (b .variables)) (length (b .subScopes)) (length (variablesOf e (getD (b .subScopes) (getD rest 0 0) 0))) (busy .head .variablesRead) (busy .head .subsRead) (λ h. called-is (getD rest 0 0) h) named-ok in
+        let t = named-more (namingOf k) (getD rest 0 0) (getD rest 1 0) (u .variables) (u .subs) (called (getD rest 0 0)) (length (b .variables))
+        (length (b .subScopes)) (length (variablesOf e (getD (b .subScopes) (getD rest 0 0) 0))) (busy .head .variablesRead)
+        (busy .head .subsRead) (λ h. called-is (getD rest 0 0) h) named-ok in
         fit-is ∙ rw (t, ed)
 
-    marks-on : Marks e b left (nextAt code at) (farthest (u .reach) (nextAt code at - at) d) (set (set ring (at % 65536) 0) ((nextAt code at % 65536 + d) % 65536) 1)
+    marks-on : Marks e b left (nextAt code at) (farthest (u .reach) (nextAt code at - at) d)
+        (set (set ring (at % 65536) 0) ((nextAt code at % 65536 + d) % 65536) 1)
     unfolding k
     marks-on =
         let w = whole in
         let n = length-below (getD code at 0) in
-        marks-next k bs left whole e b at (nextAt code at) (u .reach) d ring (r .sized .ringRoom) (omega arith) (omega arith) small marks clear fit-lands
+        marks-next k bs left whole e b at (nextAt code at) (u .reach) d ring (r .sized .ringRoom) (omega arith) (omega arith) small marks clear
+        fit-lands
 
     body-on : take (nextAt code at - u .begin) (drop (u .begin) code) ++ left ≡ b .body
     unfolding k rest bs b
@@ -194,10 +203,17 @@ module _ (code : List ℕ) (at : ℕ) (u : Progress) (spans heads places weights
         let p : u .begin + (at - u .begin) ≡ at = omega arith in
         let q : drop (at - u .begin) (drop (u .begin) code) ≡ getD code at 0 ∷ drop (at + 1) code =
         drop-drop (at - u .begin) (u .begin) code ∙ ap (λ (i : ℕ). drop i code) p ∙ drop-here code at here in
-        rw (n, take-add (at - u .begin) (suc (bodyLength (getD code at 0))) (drop (u .begin) code), q, append-assoc (take (at - u .begin) (drop (u .begin) code)) (k ∷ bs) left)
+        rw (
+          n,
+          take-add (at - u .begin) (suc (bodyLength (getD code at 0))) (drop (u .begin) code),
+          q,
+          append-assoc
+              (take (at - u .begin) (drop (u .begin) code)) (k ∷ bs) left,
+        )
         (ap (λ (l : List ℕ). take (at - u .begin) (drop (u .begin) code) ++ l) (sym body-is) ∙ busy .head .body)
 
-    pub instruction-turn : Reading code (nextAt code at) (instructionRead u (farthest (u .reach) (nextAt code at - at) d)) spans heads places weights widths (set (set ring (at % 65536) 0) ((nextAt code at % 65536 + d) % 65536) 1)
+    pub instruction-turn : Reading code (nextAt code at) (instructionRead u (farthest (u .reach) (nextAt code at - at) d)) spans heads places
+        weights widths (set (set ring (at % 65536) 0) ((nextAt code at % 65536 + d) % 65536) 1)
     unfolding counted e b left
     instruction-turn =
         let h = busy .head in
@@ -207,7 +223,8 @@ module _ (code : List ℕ) (at : ℕ) (u : Progress) (spans heads places weights
                 room = r .sized .room;
                 weightRoom = r .sized .weightRoom;
                 widthRoom = r .sized .widthRoom;
-                ringRoom = length-set (set ring (at % 65536) 0) ((nextAt code at % 65536 + d) % 65536) 1 ∙ length-set ring (at % 65536) 0 ∙ r .sized .ringRoom;
+                ringRoom = length-set (set ring (at % 65536) 0) ((nextAt code at % 65536 + d) % 65536) 1 ∙ length-set ring (at % 65536) 0
+                    ∙ r .sized .ringRoom;
               };
           limited = record { stage = omega arith; variables = r .limited .variables; subs = r .limited .subs };
           inside = next-inside code at u spans heads places weights widths ring r here fine;
@@ -243,27 +260,33 @@ module _ (code : List ℕ) (at : ℕ) (u : Progress) (spans heads places weights
 
 -- What the code reads
 
-module _ (kind : ℕ) (body : List ℕ) (at next : ℕ) (u : Progress) (heads widths ring : List ℕ) (r : Bool) (er : r ≡ namesAt kind body heads widths u) where
+module _ (kind : ℕ) (body : List ℕ) (at next : ℕ) (u : Progress) (heads widths ring : List ℕ) (r : Bool)
+    (er : r ≡ namesAt kind body heads widths u) where
   names-at : (code : List ℕ) → kind ≡ getD code at 0 → body ≡ drop (at + 1) code → r ≡ namesAt (getD code at 0) (drop (at + 1) code) heads widths u
   names-at code ek eb = er ∙ rw (ek, eb)
 
   pub refuse-names : r ≡ false → (ring' : List ℕ) → Instructed kind body at next u heads widths ring ring' Refused
   refuse-names h ring' code spans places weights i rd =
-      names-refused code at u spans heads places weights widths ring rd (i .here) (i .fine) (i .stage) (sym (names-at code (i .kindIs) (i .bodyIs)) ∙ h)
+      names-refused code at u spans heads places weights widths ring rd (i .here) (i .fine) (i .stage)
+      (sym (names-at code (i .kindIs) (i .bodyIs)) ∙ h)
 
-  pub refuse-marks : (p : Bool) → Passed ring (at + 1) next p → p ≡ false → (ring' : List ℕ) → Instructed kind body at next u heads widths ring ring' Refused
+  pub refuse-marks : (p : Bool) → Passed ring (at + 1) next p → p ≡ false → (ring' : List ℕ)
+      → Instructed kind body at next u heads widths ring ring' Refused
   refuse-marks p passed h ring' code spans places weights i rd =
       let t = passed .hit h in
       let l : t .0 < nextAt code at = let z = t .2 in let y = i .nextIs in omega arith in
       inside-refused code at u spans heads places weights widths ring rd (i .here) (i .fine) (i .stage) (t .0) (t .1) l (t .3)
 
-  pub take-instruction : r ≡ true → (p : Bool) → Passed ring (at + 1) next p → p ≡ true → (place d f : ℕ) → place ≡ distancePlace kind → d ≡ distanceOf place body → d < 65536
+  pub take-instruction : r ≡ true → (p : Bool) → Passed ring (at + 1) next p → p ≡ true → (place d f : ℕ) → place ≡ distancePlace kind
+      → d ≡ distanceOf place body → d < 65536
       → f ≡ farthest (u .reach) (next - at) d
-      → Instructed kind body at next u heads widths ring (set (set ring (at % 65536) 0) ((next % 65536 + d) % 65536) 1) (Next next (instructionRead u f))
+      → Instructed kind body at next u heads widths ring (set (set ring (at % 65536) 0) ((next % 65536 + d) % 65536) 1)
+      (Next next (instructionRead u f))
   take-instruction ok p passed clear place d f ep ed small ef code spans places weights i rd =
       let n = i .nextIs in
       let e : d ≡ distanceOf (distancePlace (getD code at 0)) (drop (at + 1) code) = ed ∙ rw (ep, i .kindIs, i .bodyIs) in
       let t =
-      instruction-turn code at u spans heads places weights widths ring rd (i .here) (i .fine) (i .stage) (sym (names-at code (i .kindIs) (i .bodyIs)) ∙ ok) d e small
+      instruction-turn code at u spans heads places weights widths ring rd (i .here) (i .fine) (i .stage)
+      (sym (names-at code (i .kindIs) (i .bodyIs)) ∙ ok) d e small
       (λ q a b. passed .clear clear q a (omega arith)) in
       (omega arith, rw (ef, n) t)

@@ -1,34 +1,22 @@
--- The pass over the records of code: what holds before each record, after a record that it does not refuse.
+-- A record of the pass: what is known of it before its kind is looked at.
+--     drop-more, drop-end                                lists that are read from the left
+--     is-clean, next-inside, sound-next, was-open        a record without fault
+--     faulty-refused                                     a record with one
 -- Assumes nothing.
-use Prim.Native.Nat.{ℕ, zero, suc, _+_, _-_, _*_, _%_, _<_, _≤_}
+use Prim.Native.Nat.{ℕ, suc, _+_, _-_, _<_, _≤_}
 use mathlib.Core.Path.{_≡_, refl, sym, ap, _∙_}
-use mathlib.Core.Bool.{Bool, true, false, cond, not, _&&_, _||_, true≢false, false≢true}
-use mathlib.Core.List.{List, [], _∷_, _++_, append-assoc}
-use mathlib.Core.Logic.{_⊎_, inl, inr, ⊎-elim}
+use mathlib.Core.Bool.{true, false, false≢true}
+use mathlib.Core.List.{List, [], _∷_}
 use native.Mathlib.Omega.{arith}
-use lib.ListN.{length, getD, take, drop, set, length-drop, length-set}
-use lib.Seq.{drop-drop, getD-drop, take-add, length-take-le, getD-take, getD-set-same, getD-set-other}
-use lib.ListN.{List·getD-append}
-use lib.Dec.{eqb, leb, ltb}
-use borrow.Author.Tests.{eq-eqb, ne-eqb, lt-ltb, le-ltb, ltb-true, ltb-false, eqb-true, eqb-false, leb-true, not-true, not-false}
-use Rattle.order.proofs.Booleans.{decide, both}
-use Rattle.record.specs.Kinds.{shapeIn}
-use Rattle.record.specs.declared.Shape.{Shape}
-use Rattle.book.specs.Lists.{any}
-use Rattle.book.specs.Scopes.{sum}
-use Rattle.book.specs.Syntax.{typeOf, variableOf}
-use Rattle.book.specs.declared.Variable.{Variable}
-use Rattle.machine.specs.Blocks.{Block, Parsed, emptyBlock, bodyLength, stageOf, inFront, parse, hasBlock, variablesOf}
-use Rattle.machine.specs.Instructions.{instructionOf}
-use Rattle.machine.specs.Acceptance.{Count, start, counted, faulty, sound, lands, fits, allFit, weightIn, wellFormed, allWellFormed, accepted}
-use Rattle.verifier.specs.Instructions.{namingOf, distancePlace, named, distanceOf, farthest}
-use Rattle.verifier.specs.Tables.{blockAt, Entered, Room}
-use Rattle.verifier.specs.Pass.{countOf, faultyAt, Limited, blockRead, variableRead, subScopeRead, instructionRead, mark, Marked, Quiet, Passed, Marks, earlier, ahead, AreClosed, Head, Noted, Busy, Idle, Sized, Reading, AtInstruction}
+use lib.ListN.{length, getD, drop, length-drop}
+use lib.Seq.{drop-drop, getD-drop}
+use Rattle.machine.specs.Blocks.{bodyLength, stageOf}
+use Rattle.machine.specs.Acceptance.{start, counted, sound, accepted}
+use Rattle.verifier.specs.Pass.{countOf, faultyAt, Reading}
 use Rattle.verifier.specs.declared.Progress.{Progress}
-use Rattle.verifier.proofs.Reading.{sound-at, ahead-at, Clean, clean, in-order, stage-below, front-one, front-two, front-three, front-four, NoHeads, no-heads}
-use Rattle.verifier.proofs.Blocks.{refused, sound-code, block-fits}
-use Rattle.verifier.proofs.Fitting.{fits-parts, local}
-use Rattle.verifier.proofs.Ring.{back-fits, back-inside, marks-next, quiet-next, marks-quiet}
+use Rattle.scan.proofs.Shapes.{in-order}
+use Rattle.verifier.proofs.Reading.{sound-at, Clean, clean}
+use Rattle.verifier.proofs.Blocks.{refused, sound-code}
 
 -- Lists
 

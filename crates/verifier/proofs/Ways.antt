@@ -1,41 +1,28 @@
 -- The ways of a record, as the code takes them.
 -- Assumes nothing.
-use Prim.Native.Nat.{ℕ, zero, suc, _+_, _-_, _*_, _%_, _<_, _≤_}
+use Prim.Native.Nat.{ℕ, _+_, _-_, _*_, _<_, _≤_}
 use mathlib.Core.Path.{_≡_, refl, sym, ap, _∙_}
-use mathlib.Core.Bool.{Bool, true, false, cond, not, _&&_, _||_, true≢false, false≢true}
-use mathlib.Core.List.{List, [], _∷_, _++_, append-assoc}
-use mathlib.Core.Logic.{_⊎_, inl, inr, ⊎-elim}
+use mathlib.Core.Bool.{Bool, true, false}
+use mathlib.Core.List.{List}
+use mathlib.Core.Logic.{⊎-elim}
 use native.Mathlib.Omega.{arith}
-use lib.ListN.{length, getD, take, drop, set, length-drop, length-set}
-use lib.Seq.{drop-drop, getD-drop, take-add, length-take-le, getD-take, getD-set-same, getD-set-other}
-use lib.ListN.{List·getD-append}
-use lib.Dec.{eqb, leb, ltb}
-use borrow.Author.Tests.{eq-eqb, ne-eqb, lt-ltb, le-ltb, ltb-true, ltb-false, eqb-true, eqb-false, leb-true, not-true, not-false}
-use Rattle.order.proofs.Booleans.{decide, both}
+use lib.ListN.{length, getD, take, drop, set, length-drop}
+use lib.Seq.{getD-drop, take-all}
+use lib.Dec.{eqb}
+use borrow.Author.Tests.{eqb-true, eqb-false}
+use Rattle.order.proofs.Booleans.{decide}
 use Rattle.record.specs.Kinds.{shapeIn}
 use Rattle.record.specs.declared.Shape.{Shape}
-use Rattle.book.specs.Lists.{any}
-use Rattle.book.specs.Scopes.{sum}
-use Rattle.book.specs.Syntax.{typeOf, variableOf}
-use Rattle.book.specs.declared.Variable.{Variable}
-use Rattle.machine.specs.Blocks.{Block, Parsed, emptyBlock, bodyLength, stageOf, inFront, parse, hasBlock, variablesOf}
-use Rattle.machine.specs.Instructions.{instructionOf}
-use Rattle.machine.specs.Acceptance.{Count, start, counted, faulty, sound, lands, fits, allFit, weightIn, wellFormed, allWellFormed, accepted}
-use Rattle.verifier.specs.Instructions.{namingOf, distancePlace, named, distanceOf, farthest}
-use Rattle.verifier.specs.Tables.{blockAt, Entered, Room}
-use Rattle.verifier.specs.Pass.{countOf, faultyAt, Limited, blockRead, variableRead, subScopeRead, instructionRead, mark, Marked, Quiet, Passed, Marks, earlier, ahead, AreClosed, Head, Noted, Busy, Idle, Sized, Reading, AtInstruction}
+use Rattle.machine.specs.Blocks.{stageOf}
+use Rattle.verifier.specs.Pass.{faultyAt, variableRead, Reading, AtInstruction, Beginning, SubRoom, SubRead, Stepped, Instructing}
 use Rattle.verifier.specs.declared.Progress.{Progress}
-use Rattle.verifier.proofs.Reading.{sound-at, ahead-at, Clean, clean, in-order, stage-below, front-one, front-two, front-three, front-four, NoHeads, no-heads}
-use Rattle.verifier.proofs.Blocks.{refused, sound-code, block-fits}
-use Rattle.verifier.proofs.Fitting.{fits-parts, local}
-use Rattle.verifier.proofs.Ring.{back-fits, back-inside, marks-next, quiet-next, marks-quiet}
+use Rattle.scan.proofs.Shapes.{in-order}
+use Rattle.verifier.proofs.Reading.{stage-below}
 use Rattle.record.specs.declared.Medium.the-variants.{Code}
 use Rattle.verifier.proofs.Turns.{nextAt, is-clean, next-inside}
 use Rattle.verifier.proofs.Heads.{variable-room, variable-turn, sub-room, sub-refused, sub-turn}
-use Rattle.verifier.specs.Pass.{Beginning, SubRoom, SubRead, Stepped, Instructing, Instructed}
 use Rattle.verifier.specs.declared.Step.{Step}
-use Rattle.verifier.specs.declared.Step.the-variants.{Refused, Next}
-use lib.Seq.{take-all}
+use Rattle.verifier.specs.declared.Step.the-variants.{Next}
 
 module _ (code : List ℕ) (at : ℕ) (u : Progress) (spans heads places weights widths ring : List ℕ)
     (r : Reading code at u spans heads places weights widths ring) (here : at < length code)
@@ -60,7 +47,8 @@ module _ (code : List ℕ) (at : ℕ) (u : Progress) (spans heads places weights
     makes-beginning e = record { reading = r; here = here; fine = ok; stage = sym stage-is ∙ e; nextIs = next-is; scopeIs = first-is }
 
     pub variable-stepped : s .stage ≡ 2
-        → Stepped code at spans (set heads (u .blocks * 48 + 3 + u .variables) b) places weights widths ring (Next (at + 1 + s .length) (variableRead u (at + 1 + s .length)))
+        → Stepped code at spans (set heads (u .blocks * 48 + 3 + u .variables) b) places weights widths ring
+        (Next (at + 1 + s .length) (variableRead u (at + 1 + s .length)))
     variable-stepped e =
         rw (next-is, first-is) (omega arith, variable-turn code at u spans heads places weights widths ring r here ok (sym stage-is ∙ e))
 
@@ -103,7 +91,8 @@ module _ (code : List ℕ) (at : ℕ) (u : Progress) (spans heads places weights
 
     pub makes-instructing : Instructing at (at + 1 + s .length) u ring
     makes-instructing =
-        let o = in-order (u .stage) (stageOf (getD code at 0)) (is-clean code at u spans heads places weights widths ring r here ok .ordered) (rw four (omega arith)) in
+        let o = in-order (u .stage) (stageOf (getD code at 0)) (is-clean code at u spans heads places weights widths ring r here ok .ordered)
+        (rw four (omega arith)) in
         record { ringRoom = r .sized .ringRoom; ordered = omega arith; blocks = r .busy (o .0) .head .room }
 
     pub at-instruction : AtInstruction code (getD code at 0) (take (length code - (at + 1)) (drop (at + 1) code)) at (at + 1 + s .length) u

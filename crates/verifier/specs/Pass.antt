@@ -1,5 +1,5 @@
 -- The pass over the records of code: what was read before a record, and what is known of it.
-use Prim.Native.Nat.{ℕ, zero, suc, _+_, _-_, _*_, _%_, _<_, _≤_}
+use Prim.Native.Nat.{ℕ, suc, _+_, _-_, _*_, _%_, _<_, _≤_}
 use mathlib.Core.Path.{_≡_}
 use mathlib.Core.Bool.{Bool, true, false, cond, _||_}
 use mathlib.Core.List.{List, [], _∷_, _++_, reverse}
@@ -54,15 +54,43 @@ blockRead m scope next = record { stage = 1; variables = 0; subs = 0; blocks = m
 
 abbrev pub variableRead : Progress → ℕ → Progress
 variableRead u next =
-    record { stage = 2; variables = u .variables + 1; subs = u .subs; blocks = u .blocks; scope = u .scope; begin = next; weight = u .weight; reach = u .reach }
+    record {
+      stage = 2;
+      variables = u .variables + 1;
+      subs = u .subs;
+      blocks = u .blocks;
+      scope = u .scope;
+      begin = next;
+      weight = u .weight;
+      reach = u .reach;
+    }
 
 abbrev pub subScopeRead : Progress → ℕ → ℕ → Progress
 subScopeRead u weight next =
-    record { stage = 3; variables = u .variables; subs = u .subs + 1; blocks = u .blocks; scope = u .scope; begin = next; weight = u .weight + weight; reach = u .reach }
+    record {
+      stage = 3;
+      variables = u .variables;
+      subs = u .subs + 1;
+      blocks = u .blocks;
+      scope = u .scope;
+      begin = next;
+      weight = u .weight +
+          weight;
+      reach = u .reach;
+    }
 
 abbrev pub instructionRead : Progress → ℕ → Progress
 instructionRead u reach =
-    record { stage = 4; variables = u .variables; subs = u .subs; blocks = u .blocks; scope = u .scope; begin = u .begin; weight = u .weight; reach = reach }
+    record {
+      stage = 4;
+      variables = u .variables;
+      subs = u .subs;
+      blocks = u .blocks;
+      scope = u .scope;
+      begin = u .begin;
+      weight = u .weight;
+      reach = reach;
+    }
 
 -- The landings that lie ahead
 
@@ -238,7 +266,8 @@ pub record SubRoom (scope : ℕ) (u : Progress) (heads weights : List ℕ) : Typ
 -- one more sub-scope, unless its scope has no block yet
 pub record SubRead (scope next : ℕ) (u : Progress) (heads places weights heads' : List ℕ) (r : Step) : Type 0 where
   pub missing : getD places scope 0 ≡ 0 → r ≡ Refused
-  pub read : (getD places scope 0 ≡ 0 → ⊥) → (r ≡ Next next (subScopeRead u (getD weights scope 0) next)) × (heads' ≡ set heads (u .blocks * 48 + 35 + u .subs) scope)
+  pub read : (getD places scope 0 ≡ 0 → ⊥) → (r ≡ Next next (subScopeRead u (getD weights scope 0) next)) ×
+      (heads' ≡ set heads (u .blocks * 48 + 35 + u .subs) scope)
 
 -- tables that are still empty
 pub record Empty (spans heads places weights widths ring : List ℕ) : Type 0 where

@@ -12,7 +12,8 @@ ghost use lib.ListN.{length, getD, replicate};
 ghost use Rattle.machine.specs.Acceptance.{accepted};
 ghost use Rattle.verifier.specs.Tables.{Room};
 ghost use Rattle.verifier.specs.Instructions.{namingOf, distancePlace, named, distanceOf, farthest};
-ghost use Rattle.verifier.specs.Pass.{faultyAt, exceedsWith, Limited, namesAt, Passed, nothingRead, Reading, Stepped, Instructing, Instructed, Leaving, Left, Beginning, opening, SubRoom, SubRead, Empty, Judged};
+ghost use Rattle.verifier.specs.Pass.{faultyAt, exceedsWith, Limited, namesAt, Passed, nothingRead, Reading};
+ghost use Rattle.verifier.specs.Pass.{Stepped, Instructing, Instructed, Leaving, Left, Beginning, opening, SubRoom, SubRead, Empty, Judged};
 
 // Code is refused, or accepted with the number of its blocks.
 pub enum Verdict {
@@ -233,7 +234,8 @@ fn instruction(
     ring: &mut [u8],
 ) -> Step
     requires { ⌜ Instructing at next u (now ring) ⌝ }
-    ensures { λ r. ⌜ Instructed kind (now (body .entry)) at next u (now (heads .entry)) (now (widths .entry)) (now (ring .entry)) (now (ring .exit)) r ⌝ }
+    ensures { λ r.
+        ⌜ Instructed kind (now (body .entry)) at next u (now (heads .entry)) (now (widths .entry)) (now (ring .entry)) (now (ring .exit)) r ⌝ }
 {
     if !names_hold(kind, body, u, heads, widths) {
         return Step::Refused;
@@ -263,7 +265,9 @@ fn leave(
     ring: &mut [u8],
 ) -> Closing
     requires { ⌜ Leaving (now code) at u (now spans) (now heads) (now places) (now weights) (now widths) (now ring) ⌝ }
-    ensures { λ r. ⌜ Left (now (code .entry)) at (now (spans .exit)) (now (heads .exit)) (now (places .exit)) (now (weights .exit)) (now (widths .exit)) (now (ring .exit)) r ⌝ }
+    ensures { λ r.
+        ⌜ Left (now (code .entry)) at (now (spans .exit)) (now (heads .exit)) (now (places .exit))
+        (now (weights .exit)) (now (widths .exit)) (now (ring .exit)) r ⌝ }
 {
     let m = u.blocks;
     if u.stage == 0 {
@@ -329,7 +333,9 @@ fn begin_block(
     ring: &mut [u8],
 ) -> Step
     requires { ⌜ Beginning (now code) at next scope u (now spans) (now heads) (now places) (now weights) (now widths) (now ring) ⌝ }
-    ensures { λ r. ⌜ Stepped (now (code .entry)) at (now (spans .exit)) (now (heads .exit)) (now (places .exit)) (now (weights .exit)) (now (widths .exit)) (now (ring .exit)) r ⌝ }
+    ensures { λ r.
+        ⌜ Stepped (now (code .entry)) at (now (spans .exit)) (now (heads .exit)) (now (places .exit))
+        (now (weights .exit)) (now (widths .exit)) (now (ring .exit)) r ⌝ }
 {
     match leave(code, at, u, spans, heads, places, weights, widths, ring) {
         Closing::Refused => Step::Refused,
@@ -377,7 +383,9 @@ fn step_at(
     ring: &mut [u8],
 ) -> Step
     requires { ⌜ (at < length (now code)) × Reading (now code) at u (now spans) (now heads) (now places) (now weights) (now widths) (now ring) ⌝ }
-    ensures { λ r. ⌜ Stepped (now (code .entry)) at (now (spans .exit)) (now (heads .exit)) (now (places .exit)) (now (weights .exit)) (now (widths .exit)) (now (ring .exit)) r ⌝ }
+    ensures { λ r.
+        ⌜ Stepped (now (code .entry)) at (now (spans .exit)) (now (heads .exit)) (now (places .exit))
+        (now (weights .exit)) (now (widths .exit)) (now (ring .exit)) r ⌝ }
 {
     if is_faulty(code, at, u) {
         return Step::Refused;

@@ -1,7 +1,6 @@
 -- `verifier::begin_block` meets its contract.
 -- Assumes nothing.
 use Rattle.verifier.proofs.Opens.{begin-leaves, begin-stepped, left-refused, left-closed}
-use mathlib.Core.Path.{_∙_, sym}
 use borrow.Author.Needs.{needs}
 use Rattle.verifier.proofs.begin_block.Statement.{statement}
 use Rattle.verifier.proofs.begin_block.Tie as tie

@@ -2,7 +2,6 @@
 -- Assumes nothing.
 use Rattle.verifier.proofs.Faults.{fault-kind, fault-length, fault-order, fault-limit, fault-byte}
 use borrow.Author.Tests.{not-true, not-false}
-use mathlib.Core.Path.{_∙_, sym}
 use borrow.Author.Needs.{needs}
 use Rattle.verifier.proofs.is_faulty.Statement.{statement}
 use Rattle.verifier.proofs.is_faulty.Tie as tie

@@ -5,8 +5,8 @@ use Rattle.verifier.specs.Pass.{Reading}
 use borrow.Author.Needs.{needs}
 use lib.ListN.{length}
 use native.Mathlib.Omega.{arith}
-use mathlib.Core.Path.{_≡_, refl, sym, _∙_}
-use Prim.Native.Nat.{_≤_, _-_}
+use mathlib.Core.Path.{_≡_, refl}
+use Prim.Native.Nat.{_-_}
 use Rattle.verifier.proofs.judge_code.Statement.{statement}
 use Rattle.verifier.proofs.judge_code.Tie as tie
 

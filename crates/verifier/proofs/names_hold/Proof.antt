@@ -1,7 +1,7 @@
 -- `verifier::names_hold` meets its contract.
 -- Assumes nothing.
 use Rattle.verifier.specs.Pass.{namesAt}
-use mathlib.Core.Path.{_∙_, sym}
+use mathlib.Core.Path.{_∙_}
 use borrow.Author.Needs.{needs}
 use Rattle.verifier.proofs.names_hold.Statement.{statement}
 use Rattle.verifier.proofs.names_hold.Tie as tie

@@ -4,8 +4,7 @@ use Rattle.verifier.specs.Instructions.{namingOf}
 use Rattle.record.proofs.Decision.{by-keys, by-range, over, each, isAny}
 use lib.Dec.{eqb, eqb→eq}
 use native.Mathlib.Omega.{arith}
-use Prim.Native.Nat.{ℕ}
-use mathlib.Core.List.{List, [], _∷_}
+use mathlib.Core.List.{[], _∷_}
 use Rattle.verifier.proofs.naming_of.Statement.{statement}
 use Rattle.verifier.proofs.naming_of.Tie as tie
 

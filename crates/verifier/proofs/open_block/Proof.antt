@@ -2,7 +2,6 @@
 -- Assumes nothing.
 use Rattle.verifier.specs.Pass.{opening}
 use borrow.Author.Tests.{lt-ltb, le-ltb, eq-eqb, ne-eqb}
-use mathlib.Core.Path.{sym}
 use borrow.Author.Needs.{needs}
 use Rattle.verifier.proofs.open_block.Statement.{statement}
 use Rattle.verifier.proofs.open_block.Tie as tie

@@ -2,7 +2,6 @@
 -- Assumes nothing.
 use Rattle.verifier.proofs.Ways.{next-within, makes-beginning, variable-fits, variable-stepped, makes-sub-room, sub-stepped, makes-instructing, at-instruction}
 use Rattle.verifier.proofs.Turns.{faulty-refused}
-use lib.ListN.{length-set}
 use mathlib.Core.Path.{_∙_, sym}
 use native.Mathlib.Omega.{arith}
 use borrow.Author.Needs.{needs}

@@ -1,7 +1,6 @@
 -- `verifier::sub_scope` meets its contract.
 -- Assumes nothing.
 use Rattle.verifier.proofs.Heads.{sub-missing, sub-read, weight-room}
-use mathlib.Core.Path.{_∙_, sym}
 use native.Mathlib.Omega.{arith}
 use borrow.Author.Needs.{needs}
 use Rattle.verifier.proofs.sub_scope.Statement.{statement}

@@ -1,7 +1,6 @@
 -- `verifier::too_many` meets its contract.
 -- Assumes nothing.
 use Rattle.verifier.proofs.Faults.{variable-more, sub-more, none-more}
-use borrow.Author.Tests.{eq-eqb, ne-eqb}
 use Rattle.verifier.proofs.too_many.Statement.{statement}
 use Rattle.verifier.proofs.too_many.Tie as tie
 

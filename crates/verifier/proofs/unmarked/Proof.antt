@@ -1,15 +1,10 @@
 -- `verifier::unmarked` meets its contract.
 -- Assumes nothing.
 use Rattle.verifier.proofs.Ring.{passed-none, passed-hit, passed-more}
-use Rattle.verifier.specs.Pass.{mark, Passed}
-use lib.ListN.{length, getD}
-use borrow.Author.Needs.{needs}
-use native.Mathlib.Nat.{eq-or-lt-of-le}
+use Rattle.verifier.specs.Pass.{mark}
 use native.Mathlib.Omega.{arith}
-use mathlib.Core.Logic.{⊎-elim}
-use mathlib.Core.Bool.{true≢false, false≢true}
 use mathlib.Core.Path.{_≡_}
-use Prim.Native.Nat.{ℕ, _-_, _<_, _≤_, _%_}
+use Prim.Native.Nat.{ℕ, _-_, _<_, _≤_}
 use Rattle.verifier.proofs.unmarked.Statement.{statement}
 use Rattle.verifier.proofs.unmarked.Tie as tie
 
