@@ -52,42 +52,35 @@ fn books() -> Vec<(String, Vec<u8>, usize)> {
     books
 }
 
+/// A service on a book: the engine's time and the second program's.
+fn compare(service: &str, name: &str, ours: impl FnMut(), theirs: impl FnMut()) {
+    let (engine, second) = times(ours, theirs);
+    line(service, name, engine, second);
+}
+
+/// Judging, evaluating and compiling a book.
+fn services(name: &str, book: &[u8], scope: usize) {
+    let judge = || _ = black_box(engine::judge(black_box(book)));
+    let other = || _ = black_box(second::judge(black_box(book)));
+    compare("judge", name, judge, other);
+    let (mut ours, mut theirs) = ([0; 192], [0; 192]);
+    let evaluate = || _ = black_box(engine::evaluate(black_box(book), scope, &[], &mut ours));
+    let other = || _ = black_box(second::evaluate(black_box(book), scope, &[], &mut theirs));
+    compare("evaluate", name, evaluate, other);
+    let code = second::code_of(book).expect("an accepted book");
+    let (mut ours, mut theirs) = (code.clone(), code);
+    let compile = || _ = black_box(engine::compile(black_box(book), &mut ours));
+    let other = || _ = black_box(second::compile(black_box(book), &mut theirs));
+    compare("compile", name, compile, other);
+}
+
 pub fn run() -> bool {
     println!(
         "{:<10} {:<52} {:>10} {:>10} {:>8}",
         "service", "book", "engine us", "second us", "ratio"
     );
     for (name, book, scope) in books() {
-        let book = book.as_slice();
-        let (ours, theirs) = times(
-            || {
-                let _ = black_box(engine::judge(black_box(book)));
-            },
-            || {
-                let _ = black_box(second::judge(black_box(book)));
-            },
-        );
-        line("judge", &name, ours, theirs);
-        let (mut our_memory, mut their_memory) = ([0; 192], [0; 192]);
-        let (ours, theirs) = times(
-            || {
-                let _ = black_box(engine::evaluate(
-                    black_box(book),
-                    scope,
-                    &[],
-                    &mut our_memory,
-                ));
-            },
-            || {
-                let _ = black_box(second::evaluate(
-                    black_box(book),
-                    scope,
-                    &[],
-                    &mut their_memory,
-                ));
-            },
-        );
-        line("evaluate", &name, ours, theirs);
+        services(&name, &book, scope);
     }
     true
 }

@@ -14,6 +14,12 @@ extern "C" {
         results: *mut u8,
         results_length: usize,
     ) -> u64;
+    fn engine_compile(
+        book: *const u8,
+        book_length: usize,
+        code: *mut u8,
+        code_length: usize,
+    ) -> u64;
 }
 
 const REFUSAL: u32 = 56;
@@ -66,4 +72,11 @@ pub fn evaluate(
         )
     };
     unpack(packed).map(answer)
+}
+
+/// Length of the code written to the memory lent, or the refusal.
+pub fn compile(book: &[u8], code: &mut [u8]) -> Result<usize, u8> {
+    let packed =
+        unsafe { engine_compile(book.as_ptr(), book.len(), code.as_mut_ptr(), code.len()) };
+    unpack(packed).map(|length| length as usize)
 }

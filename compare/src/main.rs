@@ -1,6 +1,7 @@
 //! Compares the proved engine with the second program.
 
 mod bench;
+mod compiling;
 mod engine;
 mod evaluating;
 mod family;
@@ -10,7 +11,7 @@ mod tally;
 
 use std::process::ExitCode;
 
-const USAGE: &str = "compare judge CASES | compare evaluate CASES | compare runs PROGRAM STACK_KIB FILE | compare bench";
+const USAGE: &str = "compare judge CASES | compare evaluate CASES | compare compile CASES | compare runs PROGRAM STACK_KIB FILE | compare bench";
 
 fn main() -> ExitCode {
     let words: Vec<String> = std::env::args().skip(1).collect();
@@ -18,6 +19,7 @@ fn main() -> ExitCode {
     let agreed = match words[..] {
         ["judge", cases] => judging::run(cases.parse().expect(USAGE)),
         ["evaluate", cases] => evaluating::run(cases.parse().expect(USAGE)),
+        ["compile", cases] => compiling::run(cases.parse().expect(USAGE)),
         ["runs", program, stack, file] => runs::run(program, stack.parse().expect(USAGE), file),
         ["bench"] => bench::run(),
         _ => {

@@ -8,11 +8,18 @@ use Rattle.book.specs.declared.Judged.the-variants as judged
 use Rattle.evaluation.specs.Evaluate.{refusalNumber}
 use Rattle.evaluation.specs.declared.Answer.{Answer}
 use Rattle.evaluation.specs.declared.Answer.the-variants.{Values, Ended, Refused}
+use Rattle.compiler.specs.declared.Compiled.{Compiled}
+use Rattle.compiler.specs.declared.Compiled.the-variants as compiled
 
 -- refusal * 2^56 + number of scopes
 abbrev pub packedJudged : Judged → ℕ
 packedJudged (judged.Accepted n) = n
 packedJudged (judged.Refused f) = faultNumber f * 72057594037927936
+
+-- refusal * 2^56 + length of the code
+abbrev pub packedCompiled : Compiled → ℕ
+packedCompiled (compiled.Written n) = n
+packedCompiled (compiled.Refused r) = refusalNumber r * 72057594037927936
 
 -- outcome 0 values, 1 empty, 2 conflict, 3 out of range
 abbrev pub causeNumber : Cause → ℕ

@@ -1,6 +1,8 @@
 // The services as functions that C and Rust can call. A slice is passed as a pointer and a length.
 use book::Judged;
 use calculus::Cause;
+use compiler::Compiled;
+use compiler::compile;
 use evaluation::Answer;
 use evaluation::Refusal;
 use evaluator::evaluate;
@@ -10,8 +12,9 @@ ghost use mathlib.Core.Path.{_≡_};
 ghost use lib.ListN.{length};
 ghost use Rattle.book.specs.Judge.{judge as Judge·judge};
 ghost use Rattle.evaluation.specs.Evaluate.{refusalNumber};
-ghost use Rattle.capi.specs.Packed.{packedJudged, packedAnswer, causeNumber};
+ghost use Rattle.capi.specs.Packed.{packedJudged, packedCompiled, packedAnswer, causeNumber};
 ghost use Rattle.capi.specs.Evaluated.{PackedEvaluation};
+ghost use Rattle.capi.specs.Compiled.{PackedCompilation};
 
 fn wide(b: u8) -> u64
     ensures { λ r. ⌜ r ≡ b ⌝ }
@@ -42,6 +45,24 @@ pub fn refusal_number(r: Refusal) -> u8
         Refusal::BadCode => 16,
         Refusal::Stuck => 17,
     }
+}
+
+// What compiling answers, as one number.
+fn pack_compiled(c: Compiled) -> u64
+    ensures { λ r. ⌜ r ≡ packedCompiled c ⌝ }
+{
+    match c {
+        Compiled::Written(n) => n as u64,
+        Compiled::Refused(r) => wide(refusal_number(r)) * 72057594037927936,
+    }
+}
+
+// Compiles a book: refusal * 2^56 + length of the code; a refusal leaves every byte of the memory as it was.
+#[no_mangle]
+pub extern "C" fn engine_compile(book: &[u8], code: &mut [u8]) -> u64
+    ensures { λ r. ⌜ PackedCompilation (now (book .entry)) (now (code .entry)) r (now (code .exit)) ⌝ }
+{
+    pack_compiled(compile(book, code))
 }
 
 // The number of an outcome without values.

@@ -3,3 +3,4 @@ mod Reading
 pub mod Givens
 pub mod Values
 mod Writing
+pub mod Types

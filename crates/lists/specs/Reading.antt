@@ -3,23 +3,27 @@ use Prim.Native.Nat.{ℕ}
 use mathlib.Core.Path.{_≡_}
 use mathlib.Core.Bool.{Bool, true, false, _&&_, _||_}
 use mathlib.Core.List.{List, map}
-use lib.ListN.{length, getD}
+use lib.ListN.{length, getD, take}
 use lib.Dec.{eqb, ltb}
 use Rattle.calculus.specs.declared.Given.{Given}
 use Rattle.calculus.specs.declared.Given.the-variants.{Absent}
-use Rattle.cells.specs.Cells.{givenOf, givenAt}
-use Rattle.book.specs.Syntax.{Scope}
-use Rattle.book.specs.References.{scopeAt}
+use Rattle.cells.specs.Cells.{givenAt}
+use Rattle.book.specs.Syntax.{typeOf}
 use Rattle.book.specs.declared.Variable.{Variable}
-use Rattle.lists.specs.Inputs.{bad, good, inputLength, badRecord, inputs}
+use Rattle.lists.specs.Inputs.{bad, good, inputLength, inputs}
 
 -- an input record, by its kind and the bytes after it: of no known kind, cut, or misprinted
 unfoldable pub malformed : ℕ → List ℕ → Bool
 malformed k rest = eqb (inputLength k) 0 || (ltb (length rest) (inputLength k) || (eqb k 1 && ltb 1 (getD rest 1 0)))
 
--- an input record of scope i is bad, the cells holding what is given so far
-unfoldable pub badIn : List Scope → ℕ → List ℕ → ℕ → List ℕ → Bool
-badIn book i cells k rest = badRecord (scopeAt book i .variables) (map givenOf cells) k rest
+-- variables by one type byte each
+unfoldable pub typed : List ℕ → List Variable
+typed types = map (λ b. record { holds = typeOf b }) types
+
+-- the first n bytes are type bytes of the variables, one for each
+pub record Filled (variables : List Variable) (n : ℕ) (types : List ℕ) : Type 0 where
+  pub number : n ≡ length variables
+  pub bytes : typed (take n types) ≡ variables
 
 -- the list is good, and the cells hold what it gives
 pub record Taken (variables : List Variable) (bytes cells : List ℕ) : Type 0 where

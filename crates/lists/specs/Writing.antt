@@ -48,8 +48,10 @@ pub record Put (before : List ℕ) (at : ℕ) (bytes : List ℕ) (end : ℕ) (af
   pub memory : after ≡ overwrite before at bytes
   pub next : end ≡ at + length bytes
 
+-- the records of values, from the memory's first byte
+abbrev pub written : List Value → List ℕ → List ℕ
+written vs memory = results vs ++ drop (length (results vs)) memory
+
 -- "Lent memory changes only where .. values are written, from its first byte, and nothing after them"
 unfoldable pub resultMemory : List Scope → ℕ → List ℕ → List ℕ → List ℕ
-resultMemory book i cells memory =
-    let bytes = results (valuesOf cells (length (scopeAt book i .variables))) in
-    bytes ++ drop (length bytes) memory
+resultMemory book i cells memory = written (valuesOf cells (length (scopeAt book i .variables))) memory

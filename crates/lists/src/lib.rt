@@ -1,5 +1,6 @@
 // Input lists and results: a list of inputs read into cells, the results of a scope written from them.
 use book::ValueType;
+use book::type_of;
 use book::variable_at;
 use book::variable_count;
 use calculus::Given;
@@ -13,15 +14,17 @@ use record::put_number;
 ghost use mathlib.Core.Path.{_≡_};
 ghost use Prim.Native.Nat.{_+_, _≤_};
 ghost use lib.ListN.{length, replicate};
-ghost use Rattle.cells.specs.Cells.{held};
-ghost use Rattle.book.specs.Syntax.{sameType};
+ghost use mathlib.Core.List.{map};
+ghost use Rattle.cells.specs.Cells.{givenOf, held};
+ghost use Rattle.book.specs.Syntax.{typeOf, sameType};
 ghost use Rattle.book.specs.Decode.{scopesOf};
 ghost use Rattle.book.specs.References.{scopeAt};
 ghost use Rattle.book.specs.Tables.{Laid};
-ghost use Rattle.lists.specs.Inputs.{inputLength, inputType, inputValue, isGiven};
-ghost use Rattle.lists.specs.Results.{resultSize, bit, resultRecord};
-ghost use Rattle.lists.specs.Reading.{malformed, badIn, Reading};
-ghost use Rattle.lists.specs.Writing.{resultLengthAt, resultMemory, Typed, Put};
+ghost use Rattle.lists.specs.Inputs.{inputLength, inputType, inputValue, isGiven, badRecord};
+ghost use Rattle.lists.specs.Results.{resultSize, resultLength, bit, resultRecord};
+ghost use Rattle.lists.specs.Results.{results as results·of};
+ghost use Rattle.lists.specs.Reading.{malformed, typed, Filled, Reading};
+ghost use Rattle.lists.specs.Writing.{resultLengthAt, resultMemory, valuesOf, written, Typed, Put};
 
 // "3 bytes a yes/no, 6 a number"
 fn result_size(t: ValueType) -> usize
@@ -33,22 +36,57 @@ fn result_size(t: ValueType) -> usize
     }
 }
 
+// A type byte of a type.
+fn type_byte(t: ValueType) -> u8
+    ensures { λ r. ⌜ typeOf r ≡ t ⌝ }
+{
+    match t {
+        ValueType::YesNo => 1,
+        ValueType::Numeric => 2,
+    }
+}
+
+// Fills in the type bytes of scope i's variables; their number.
+fn fill_types(book: &[u8], places: &[u16], counts: &[u8], i: usize, types: &mut [u8]) -> usize
+    requires { ⌜ Laid (now book) (now places) (now counts) ⌝ }
+    requires { ⌜ length (scopeAt (scopesOf (now book)) i .variables) ≤ 32 ⌝ }
+    requires { ⌜ length (now types) ≡ 32 ⌝ }
+    ensures { λ r. ⌜ Filled (scopeAt (scopesOf (now (book .entry))) i .variables) r (now (types .exit)) ⌝ }
+{
+    let count = variable_count(book, places, counts, i);
+    let mut v = 0;
+    while v < count {
+        let variable = variable_at(book, places, counts, i, v);
+        let holds = variable.holds;
+        types[v] = type_byte(holds);
+        v += 1;
+    }
+    count
+}
+
+// The length of the results, by one type byte for each variable.
+pub fn length_by(types: &[u8]) -> usize
+    requires { ⌜ length (now types) ≤ 32 ⌝ }
+    ensures { λ r. ⌜ r ≡ resultLength (typed (now (types .entry))) ⌝ }
+{
+    let mut total = 0;
+    let mut v = 0;
+    while v < types.len() {
+        total += result_size(type_of(types[v]));
+        v += 1;
+    }
+    total
+}
+
 // The length of the results of scope i.
 pub fn result_length(book: &[u8], places: &[u16], counts: &[u8], i: usize) -> usize
     requires { ⌜ Laid (now book) (now places) (now counts) ⌝ }
     requires { ⌜ length (scopeAt (scopesOf (now book)) i .variables) ≤ 32 ⌝ }
     ensures { λ r. ⌜ r ≡ resultLengthAt (scopesOf (now (book .entry))) i ⌝ }
 {
-    let count = variable_count(book, places, counts, i);
-    let mut total = 0;
-    let mut v = 0;
-    while v < count {
-        let variable = variable_at(book, places, counts, i, v);
-        let holds = variable.holds;
-        total += result_size(holds);
-        v += 1;
-    }
-    total
+    let mut types = [0u8; 32];
+    let n = fill_types(book, places, counts, i, &mut types);
+    length_by(&types[..n])
 }
 
 // How many bytes follow the kind of an input record; 0: no such kind.
@@ -95,7 +133,7 @@ fn is_given(g: Given) -> bool
     }
 }
 
-fn same_type(a: ValueType, b: ValueType) -> bool
+pub fn same_type(a: ValueType, b: ValueType) -> bool
     ensures { λ r. ⌜ r ≡ sameType a b ⌝ }
 {
     match a {
@@ -127,32 +165,42 @@ fn is_malformed(kind: u8, rest: &[u8]) -> bool
     false
 }
 
-// Whether an input record of scope i is bad, by its kind, the bytes after it and the cells so far.
-fn is_bad(
-    book: &[u8],
-    places: &[u16],
-    counts: &[u8],
-    i: usize,
-    given: &[u64],
-    kind: u8,
-    rest: &[u8],
-) -> bool
-    requires { ⌜ Laid (now book) (now places) (now counts) ⌝ }
-    ensures { λ r. ⌜ r ≡ badIn (scopesOf (now (book .entry))) i (now (given .entry)) kind (now (rest .entry)) ⌝ }
+// Whether an input record is bad, by the type bytes, its kind, the bytes after it and the cells so far.
+fn is_bad(types: &[u8], given: &[u64], kind: u8, rest: &[u8]) -> bool
+    ensures { λ r. ⌜ r ≡ badRecord (typed (now (types .entry))) (map givenOf (now (given .entry))) kind (now (rest .entry)) ⌝ }
 {
     if is_malformed(kind, rest) {
         return true;
     }
     let v = byte_at(rest, 0) as usize;
-    if variable_count(book, places, counts, i) <= v {
+    if types.len() <= v {
         return true;
     }
-    let variable = variable_at(book, places, counts, i, v);
-    let holds = variable.holds;
-    if !same_type(input_type(kind), holds) {
+    if !same_type(input_type(kind), type_of(types[v])) {
         return true;
     }
     is_given(given_at(given, v))
+}
+
+// Reads the inputs into cells that are unset, by one type byte for each variable; whether the list is good.
+pub fn read_by(types: &[u8], inputs: &[u8], given: &mut [u64]) -> bool
+    requires { ⌜ length (now types) ≤ 32 ⌝ }
+    requires { ⌜ now given ≡ replicate 32 0 ⌝ }
+    ensures { λ r. ⌜ Reading (typed (now (types .entry))) (now (inputs .entry)) r (now (given .exit)) ⌝ }
+{
+    let mut at: usize = 0;
+    while at < inputs.len() {
+        let kind = inputs[at];
+        let start = at + 1;
+        let rest = &inputs[start..];
+        if is_bad(types, given, kind, rest) {
+            return false;
+        }
+        let v = byte_at(rest, 0) as usize;
+        given[v] = cell_of(input_value(kind, rest));
+        at = start + input_length(kind);
+    }
+    true
 }
 
 // Reads the inputs of scope i into cells that are unset; whether the list is good.
@@ -169,19 +217,9 @@ pub fn read_inputs(
     requires { ⌜ now given ≡ replicate 32 0 ⌝ }
     ensures { λ r. ⌜ Reading (scopeAt (scopesOf (now (book .entry))) i .variables) (now (inputs .entry)) r (now (given .exit)) ⌝ }
 {
-    let mut at: usize = 0;
-    while at < inputs.len() {
-        let kind = inputs[at];
-        let start = at + 1;
-        let rest = &inputs[start..];
-        if is_bad(book, places, counts, i, given, kind, rest) {
-            return false;
-        }
-        let v = byte_at(rest, 0) as usize;
-        given[v] = cell_of(input_value(kind, rest));
-        at = start + input_length(kind);
-    }
-    true
+    let mut types = [0u8; 32];
+    let n = fill_types(book, places, counts, i, &mut types);
+    read_by(&types[..n], inputs, given)
 }
 
 fn bit_of(b: bool) -> u8
@@ -221,6 +259,20 @@ fn put_result(results: &mut [u8], at: usize, v: u8, value: Value) -> usize
     }
 }
 
+// Writes the results: a record for each of n variables, from the cells that hold their values.
+pub fn write_by(n: usize, own: &[u64], results: &mut [u8])
+    requires { ⌜ n ≤ 32 ⌝ }
+    requires { ⌜ length (results·of (valuesOf (now own) n)) ≤ length (now results) ⌝ }
+    ensures { λ _. ⌜ now (results .exit) ≡ written (valuesOf (now (own .entry)) n) (now (results .entry)) ⌝ }
+{
+    let mut at: usize = 0;
+    let mut v: usize = 0;
+    while v < n {
+        at = put_result(results, at, v as u8, value_of(given_at(own, v)));
+        v += 1;
+    }
+}
+
 // Writes the results of scope i: a record for each of its variables, from the cells that hold their values.
 pub fn write_results(
     book: &[u8],
@@ -236,11 +288,5 @@ pub fn write_results(
     requires { ⌜ resultLengthAt (scopesOf (now book)) i ≤ length (now results) ⌝ }
     ensures { λ _. ⌜ now (results .exit) ≡ resultMemory (scopesOf (now (book .entry))) i (now (own .entry)) (now (results .entry)) ⌝ }
 {
-    let count = variable_count(book, places, counts, i);
-    let mut at: usize = 0;
-    let mut v: usize = 0;
-    while v < count {
-        at = put_result(results, at, v as u8, value_of(given_at(own, v)));
-        v += 1;
-    }
+    write_by(variable_count(book, places, counts, i), own, results);
 }

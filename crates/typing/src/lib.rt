@@ -64,7 +64,7 @@ fn same_type(a: ValueType, b: ValueType) -> bool
 }
 
 // What a unary operator takes and gives.
-fn unary_type(op: Unary) -> ValueType
+pub fn unary_type(op: Unary) -> ValueType
     ensures { λ r. ⌜ r ≡ unaryType op ⌝ }
 {
     match op {
@@ -87,7 +87,7 @@ fn binary_type(op: Binary) -> ValueType
 }
 
 // What a binary operator takes, its left operand's type given.
-fn operand_type(op: Binary, left: ValueType) -> ValueType
+pub fn operand_type(op: Binary, left: ValueType) -> ValueType
     ensures { λ r. ⌜ r ≡ operandType op left ⌝ }
 {
     match op {

@@ -1,74 +1,26 @@
--- `lists::write_results` meets its contract. The invariant: the records below v are written, and what is left makes the whole.
+-- `lists::write_results` meets its contract.
 -- Assumes nothing.
-use Rattle.lists.proofs.Writing.{Written, start, stop, room, turn}
 use Rattle.lists.proofs.Values.{typed-length}
 use Rattle.lists.specs.Writing.{resultLengthAt, resultMemory}
-use Rattle.book.specs.References.{scopeAt}
-use Rattle.book.specs.Decode.{scopesOf}
-use lib.ListN.{length}
-use Prim.Native.Nat.{_-_}
 use borrow.Author.Needs.{needs}
 use Rattle.lists.proofs.write_results.Statement.{statement}
 use Rattle.lists.proofs.write_results.Tie as tie
 
-abbrev Inv-loop : tie.InvT-loop
-Inv-loop book places counts i own results₀ count at₀ v₀ results at v = Written own (length (scopeAt (scopesOf book) i .variables)) results₀ results at v
-
-abbrev μ-loop : tie.MeasureT-loop
-μ-loop book places counts i own results₀ count at₀ v₀ results at v = count - v
-
-variable-count-requires : tie.Need-variable-count-requires Inv-loop μ-loop
+variable-count-requires : tie.Need-variable-count-requires
 variable-count-requires c κs = search needs
 
-loop-holds : tie.Need-loop-holds Inv-loop μ-loop
+write-by-requires : tie.Need-write-by-requires
 unfolding resultLengthAt
-loop-holds c = start _ _ _ (rw (typed-length _ _ (c .before .before .before .before .before .before .pre .1 .1 .0)) (c .before .before .before .before .before .before .pre .1 .1 .1))
+write-by-requires c κs =
+    rw (c .before .variable-count .ensures) (c .before .before .before .before .before .before .before .pre .1 .0, rw (typed-length _ _ (c .before .before .before .before .before .before .before .pre .1 .1 .0)) (c .before .before .before .before .before .before .before .pre .1 .1 .1))
 
-cast-put-result : tie.Need-cast-put-result Inv-loop μ-loop
-cast-put-result c = search needs
+same-length : tie.Need-same-length
+same-length c = search needs
 
-given-at-requires : tie.Need-given-at-requires Inv-loop μ-loop
-given-at-requires c κs = search needs
-
-value-of-requires : tie.Need-value-of-requires Inv-loop μ-loop
-value-of-requires c κs = search needs
-
-put-result-requires : tie.Need-put-result-requires Inv-loop μ-loop
-put-result-requires c κs =
-    rw (c .value-of .ensures, c .before .given-at .ensures) (room (c .before .before .before .before .loop .inv) (rw (← c .before .before .before .before .before .variable-count .ensures) (c .before .before .before .loop-test .taken)))
-
-add-v : tie.Need-add-v Inv-loop μ-loop
-add-v c = search needs
-
-loop-less : tie.Need-loop-less Inv-loop μ-loop
-loop-less c = search needs
-
-loop-again : tie.Need-loop-again Inv-loop μ-loop
-loop-again c =
-    turn (c .before .before .before .before .before .before .before .loop .inv) (rw (← c .before .before .before .before .before .before .before .before .variable-count .ensures) (c .before .before .before .before .before .before .loop-test .taken))
-    (rw (← c .before .before .before .before .given-at .ensures, ← c .before .before .before .value-of .ensures) (c .before .before .put-result .ensures))
-
-same-length : tie.Need-same-length Inv-loop μ-loop
-same-length c = c .before .loop .inv .size
-
-returns : tie.Need-returns Inv-loop μ-loop
+returns : tie.Need-returns
 unfolding resultMemory
-returns c = stop (c .before .loop .inv) (rw (← c .before .before .variable-count .ensures) (c .loop-test .left))
+returns c = rw (← c .before .before .before .before .variable-count .ensures) (c .before .before .write-by .ensures)
 
 pub write-results-spec : {M : Type 1} → statement M
 write-results-spec =
-    tie.close
-    (tie.spec
-    Inv-loop
-    μ-loop
-    variable-count-requires
-    loop-holds
-    cast-put-result
-    given-at-requires
-    value-of-requires
-    put-result-requires
-    add-v
-    loop-less
-    loop-again
-    same-length
-    returns)
+    tie.close (tie.spec variable-count-requires write-by-requires same-length returns)

@@ -1,0 +1,13 @@
+mod Stack
+mod Tries
+mod Memory
+mod Steps
+mod Positions
+mod Invariant
+mod Blocks
+mod Ends
+mod Limits
+mod Tables
+mod Entering
+mod Large
+mod Typed

@@ -1,0 +1,4 @@
+pub mod Views
+pub mod Effects
+pub mod Entries
+pub mod Service
