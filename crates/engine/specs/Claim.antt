@@ -1,0 +1,66 @@
+-- The claim about the four services together: "If a book is accepted and its code fits the memory lent, compiling writes exactly that code,
+-- the code is accepted, and for every scope number, input list and result memory running it never gets stuck and agrees with evaluating".
+use Prim.Native.Nat.{ℕ, _≤_}
+use mathlib.Core.Path.{_≡_}
+use mathlib.Core.Bool.{true}
+use mathlib.Core.List.{List}
+use lib.ListN.{length, take, drop}
+use Rattle.book.specs.Decode.{scopesOf}
+use Rattle.book.specs.Scopes.{weight}
+use Rattle.book.specs.Judge.{judge}
+use Rattle.book.specs.declared.Judged.the-variants.{Accepted}
+use Rattle.evaluation.specs.Evaluate.{countIn}
+use Rattle.evaluation.specs.declared.Refusal.the-variants.{BadCode, Stuck}
+use Rattle.evaluation.specs.declared.Answer.the-variants.{Refused}
+use Rattle.evaluator.specs.Service.{Evaluated}
+use Rattle.translation.specs.Blocks.{codeOf}
+use Rattle.machine.specs.Acceptance.{accepted}
+use Rattle.compiler.specs.Compile.{Compiles}
+use Rattle.compiler.specs.declared.Compiled.{Compiled}
+use Rattle.compiler.specs.declared.Compiled.the-variants as compiled
+use Rattle.runner.specs.Service.{Runs}
+use Rattle.engine.specs.declared.Answers.{Answers}
+
+-- the code memory, and the two result memories, before and after
+pub record Memories : Type 0 where
+  pub codeBefore : List ℕ
+  pub codeAfter : List ℕ
+  pub evaluatedBefore : List ℕ
+  pub evaluatedAfter : List ℕ
+  pub ranBefore : List ℕ
+  pub ranAfter : List ℕ
+
+-- the length of the code handed back; 0 with a refusal
+abbrev pub writtenLength : Compiled → ℕ
+writtenLength (compiled.Written n) = n
+writtenLength (compiled.Refused r) = 0
+
+-- "the bytes that compiling wrote, of the length it handed back"
+abbrev pub writtenCode : Memories → Answers → List ℕ
+writtenCode m r = take (writtenLength (r .compiled)) (m .codeAfter)
+
+-- of a book whose code is `code`, scope i being asked for
+pub record Agreed (bytes code : List ℕ) (i : ℕ) (m : Memories) (r : Answers) : Type 0 where
+  -- "compiling writes exactly that code"
+  pub sized : r .compiled ≡ compiled.Written (length code)
+  pub written : writtenCode m r ≡ code
+  pub kept : drop (length code) (m .codeAfter) ≡ drop (length code) (m .codeBefore)
+  -- "the code is accepted"
+  pub accepts : accepted (writtenCode m r) ≡ true
+  -- "running it never gets stuck"
+  pub neverBad : r .ran ≡ Refused BadCode → ⊥
+  pub neverStuck : r .ran ≡ Refused Stuck → ⊥
+  -- "same refusal, or same outcome, count and length, and the same bytes in the whole result memory"
+  pub answers : m .ranBefore ≡ m .evaluatedBefore → r .ran ≡ r .evaluated
+  pub memories : m .ranBefore ≡ m .evaluatedBefore → m .ranAfter ≡ m .evaluatedAfter
+  -- "The count never exceeds the scope's weight"
+  pub count : countIn (r .ran) ≤ weight (scopesOf bytes) i
+
+-- what each of the four services answers and writes, and the claim
+pub record Together (bytes : List ℕ) (i : ℕ) (list : List ℕ) (m : Memories) (r : Answers) : Type 0 where
+  pub judging : r .judged ≡ judge bytes
+  pub compiling : Compiles bytes (m .codeBefore) (r .compiled) (m .codeAfter)
+  pub evaluating : Evaluated bytes i list (m .evaluatedBefore) (r .evaluated) (m .evaluatedAfter)
+  pub running : Runs (writtenCode m r) i list (m .ranBefore) (r .ran) (m .ranAfter)
+  pub claim : (n : ℕ) → judge bytes ≡ Accepted n → length (codeOf (scopesOf bytes)) ≤ length (m .codeBefore)
+      → Agreed bytes (codeOf (scopesOf bytes)) i m r
