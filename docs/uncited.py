@@ -4,7 +4,7 @@
     docs/uncited.py PAPER      from the project's root; PAPER is paper 01
 
 A definition cites a sentence by quoting it, or a part of it, in a comment of a file below crates/*/specs or of the code: "..". Two dots
-inside a quotation stand for words left out. A row of a table is a sentence. 
+inside a quotation stand for words left out. A row of a table is a sentence.
 """
 import glob
 import re
