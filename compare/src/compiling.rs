@@ -3,8 +3,8 @@
 //! the code fits exactly, that is longer, and that is too short by one.
 
 use crate::engine;
-use crate::tally::Tally;
-use second::cases::{self, lend};
+use crate::tally::{Done, Tally};
+use second::cases::{lend, Case};
 
 fn shown(answer: Result<usize, u8>) -> String {
     match answer {
@@ -13,20 +13,19 @@ fn shown(answer: Result<usize, u8>) -> String {
     }
 }
 
+type Compile = fn(&[u8], &mut [u8]) -> Result<usize, u8>;
+
+fn done(compile: Compile, book: &[u8], room: usize) -> Done<Result<usize, u8>> {
+    let mut memory = lend(room);
+    let answer = compile(book, &mut memory);
+    Done { answer, memory }
+}
+
 fn compare(tally: &mut Tally, book: &[u8], room: usize, label: &str) {
-    let (mut our_memory, mut their_memory) = (lend(room), lend(room));
-    let ours = engine::compile(book, &mut our_memory);
-    let theirs = second::compile(book, &mut their_memory);
-    let difference = || {
-        let memory = if our_memory == their_memory {
-            ""
-        } else {
-            ", memories differ"
-        };
-        format!("{label}: engine {ours:?}, second program {theirs:?}{memory}: {book:02x?}")
-    };
-    let agreed = ours == theirs && our_memory == their_memory;
-    tally.count(&shown(theirs), agreed.then_some(()).ok_or_else(difference));
+    let ours = done(engine::compile, book, room);
+    let theirs = done(second::compile, book, room);
+    let on = || format!("{label}, {room} bytes lent: {book:02x?}");
+    tally.agree(&shown(theirs.answer), (&ours, &theirs), on);
 }
 
 /// The three memories of one book; a refused book gets one of some length.
@@ -45,17 +44,8 @@ fn compare_all(tally: &mut Tally, book: &[u8], label: &str) {
 
 /// All fixed cases and `random` generated ones; each answer must be met.
 pub fn run(random: u64) -> bool {
-    let mut tally = Tally::default();
-    for case in cases::fixed() {
-        compare_all(&mut tally, &case.bytes, case.label);
-    }
-    for seed in 0..random {
-        compare_all(
-            &mut tally,
-            &cases::case(seed).bytes,
-            &format!("seed {seed}"),
-        );
-    }
+    let each = |tally: &mut Tally, case: &Case, label: &str| compare_all(tally, &case.bytes, label);
+    let mut tally = Tally::of_cases(random, each);
     tally.expect_met("written");
     for refusal in (1..=12).chain([15]) {
         tally.expect_met(&format!("refused {refusal}"));

@@ -3,8 +3,8 @@
 //! are handed to evaluation, whatever service the case is for.
 
 use crate::engine;
-use crate::tally::Tally;
-use second::cases::{self, lend, Case};
+use crate::tally::{Done, Tally};
+use second::cases::{lend, Case};
 use second::{Answer, Outcome};
 
 fn shown(answer: Result<Answer, u8>) -> String {
@@ -19,31 +19,23 @@ fn shown(answer: Result<Answer, u8>) -> String {
     }
 }
 
+type Evaluate = fn(&[u8], usize, &[u8], &mut [u8]) -> Result<Answer, u8>;
+
+fn done(evaluate: Evaluate, case: &Case) -> Done<Result<Answer, u8>> {
+    let mut memory = lend(case.room);
+    let answer = evaluate(&case.bytes, case.scope, &case.inputs, &mut memory);
+    Done { answer, memory }
+}
+
 fn compare(tally: &mut Tally, case: &Case, label: &str) {
-    let (mut our_memory, mut their_memory) = (lend(case.room), lend(case.room));
-    let ours = engine::evaluate(&case.bytes, case.scope, &case.inputs, &mut our_memory);
-    let theirs = second::evaluate(&case.bytes, case.scope, &case.inputs, &mut their_memory);
-    let difference = || {
-        let memory = if our_memory == their_memory {
-            ""
-        } else {
-            ", memories differ"
-        };
-        format!("{label}: engine {ours:?}, second program {theirs:?}{memory}: {case:02x?}")
-    };
-    let agreed = ours == theirs && our_memory == their_memory;
-    tally.count(&shown(theirs), agreed.then_some(()).ok_or_else(difference));
+    let (ours, theirs) = (done(engine::evaluate, case), done(second::evaluate, case));
+    let on = || format!("{label}: {case:02x?}");
+    tally.agree(&shown(theirs.answer), (&ours, &theirs), on);
 }
 
 /// All fixed cases and `random` generated ones; each answer must be met.
 pub fn run(random: u64) -> bool {
-    let mut tally = Tally::default();
-    for case in cases::fixed() {
-        compare(&mut tally, &case, case.label);
-    }
-    for seed in 0..random {
-        compare(&mut tally, &cases::case(seed), &format!("seed {seed}"));
-    }
+    let mut tally = Tally::of_cases(random, compare);
     for outcome in ["values", "empty", "conflict", "range"] {
         tally.expect_met(outcome);
     }

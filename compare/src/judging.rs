@@ -2,8 +2,8 @@
 //! generated cases. Every case's bytes are judged as a book, code included.
 
 use crate::engine;
-use crate::tally::Tally;
-use second::cases;
+use crate::tally::{Done, Tally};
+use second::cases::Case;
 
 fn shown(answer: Result<usize, u8>) -> String {
     match answer {
@@ -12,27 +12,20 @@ fn shown(answer: Result<usize, u8>) -> String {
     }
 }
 
-fn compare(tally: &mut Tally, bytes: &[u8], label: &str) {
+fn compare(tally: &mut Tally, case: &Case, label: &str) {
+    let bytes = &case.bytes;
     let (ours, theirs) = (engine::judge(bytes), second::judge(bytes));
-    let difference =
-        || format!("{label}: engine {ours:?}, second program {theirs:?}: {bytes:02x?}");
-    let agreed = (ours == theirs).then_some(()).ok_or_else(difference);
-    tally.count(&shown(theirs), agreed);
+    let done = |answer| Done {
+        answer,
+        memory: Vec::new(),
+    };
+    let on = || format!("{label}: {bytes:02x?}");
+    tally.agree(&shown(theirs), (&done(ours), &done(theirs)), on);
 }
 
 /// All fixed cases and `random` generated ones; each answer must be met.
 pub fn run(random: u64) -> bool {
-    let mut tally = Tally::default();
-    for case in cases::fixed() {
-        compare(&mut tally, &case.bytes, case.label);
-    }
-    for seed in 0..random {
-        compare(
-            &mut tally,
-            &cases::case(seed).bytes,
-            &format!("seed {seed}"),
-        );
-    }
+    let mut tally = Tally::of_cases(random, compare);
     tally.expect_met("accepted");
     (1..=12).for_each(|refusal| tally.expect_met(&format!("refused {refusal}")));
     tally.finish()

@@ -1,6 +1,8 @@
 //! Counts of what agreed and what did not, and of the answers met.
 
+use second::cases::{self, Case};
 use std::collections::BTreeMap;
+use std::fmt::Debug;
 
 #[derive(Default)]
 pub struct Tally {
@@ -9,7 +11,48 @@ pub struct Tally {
     answers: BTreeMap<String, usize>,
 }
 
+/// What a call answered, and the memory lent to it afterwards.
+#[derive(PartialEq)]
+pub struct Done<A> {
+    pub answer: A,
+    pub memory: Vec<u8>,
+}
+
 impl Tally {
+    /// What a comparison makes of all fixed cases and of `random` generated ones.
+    pub fn of_cases(random: u64, compare: impl Fn(&mut Tally, &Case, &str)) -> Tally {
+        let mut tally = Tally::default();
+        for case in cases::fixed() {
+            compare(&mut tally, &case, case.label);
+        }
+        for seed in 0..random {
+            compare(&mut tally, &cases::case(seed), &format!("seed {seed}"));
+        }
+        tally
+    }
+
+    /// One call of the engine and of the second program, on what is shown if they differ.
+    pub fn agree<A: PartialEq + Debug>(
+        &mut self,
+        shown: &str,
+        (ours, theirs): (&Done<A>, &Done<A>),
+        on: impl FnOnce() -> String,
+    ) {
+        let difference = || {
+            let memory = if ours.memory == theirs.memory {
+                ""
+            } else {
+                ", memories differ"
+            };
+            let (engine, second) = (&ours.answer, &theirs.answer);
+            format!(
+                "engine {engine:?}, second program {second:?}{memory}: {}",
+                on()
+            )
+        };
+        self.count(shown, (ours == theirs).then_some(()).ok_or_else(difference));
+    }
+
     /// One comparison: what both answered, or how they differ.
     pub fn count(&mut self, answer: &str, agreed: Result<(), String>) {
         *self.answers.entry(answer.to_string()).or_default() += 1;
