@@ -79,7 +79,7 @@ pub data Reduces (e : Env) : Term → Term → Type 0 where
   default-false : (n : ℕ) (w : Value) (c : Term) → truthOf w ≡ false → Reduces e (default (empties n none) (literal w) c) (error Empty)
   -- D-DEFAULTONEEXCEPTION
   one-exception : (m n : ℕ) (v : Value) (j c : Term) → Reduces e (default (empties m (also (literal v) (empties n none))) j c) (literal v)
-  -- D-DEFAULTEXCEPTIONSCONFLICT; ours: only once every exception is a value, as 4.1 has it: "Each of the exceptions is evaluated"
+  -- D-DEFAULTEXCEPTIONSCONFLICT; ours: only once every exception is a value, as 4.1 has it: "Each of the exceptions .. is evaluated"
   two-exceptions : (us vs ws : List (Option Value)) (v w : Value) (j c : Term)
       → Reduces e (default (behind us (also (literal v) (behind vs (also (literal w) (behind ws none))))) j c) (error Conflict)
   -- the regular contexts of figure 5; ours: those of operators and of "if", as of application

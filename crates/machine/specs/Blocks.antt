@@ -15,7 +15,7 @@ use Rattle.book.specs.declared.Variable.{Variable}
 abbrev pub bodyLength : ℕ → ℕ
 bodyLength k = shapeIn Code k .length
 
--- "1, 2, 3, instructions": 1 to 4; 0 where the kind is unknown in code
+-- the stage of a kind: kind 1, kinds 2, kinds 3, then instructions, 1 to 4; 0 where the kind is unknown in code
 abbrev pub stageOf : ℕ → ℕ
 stageOf k = shapeIn Code k .stage
 
