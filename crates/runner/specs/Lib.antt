@@ -1,4 +1,1 @@
-pub mod Views
-pub mod Effects
-pub mod Entries
 pub mod Service

@@ -1,0 +1,110 @@
+-- A block's end.
+--     hold, hold-not, hold-all      cells looked through
+--     end-values, ..                what the end of a block comes to
+-- Assumes nothing.
+use Prim.Native.Nat.{ℕ, zero, suc, _+_, _-_, _*_, _<_, _≤_}
+use mathlib.Core.Path.{_≡_, refl, ap, sym, _∙_}
+use mathlib.Core.Bool.{Bool, true, false, not, cond, true≢false}
+use mathlib.Core.List.{List, [], _∷_}
+use mathlib.Core.Logic.{⊎-elim}
+use native.Mathlib.Omega.{arith}
+use native.Mathlib.Numerals.{add-one}
+use lib.ListN.{length, getD}
+use lib.Dec.{eqb}
+use borrow.Author.Tests.{eq-eqb, ne-eqb, eqb-true, eqb-false, not-true, not-false}
+use Rattle.order.proofs.Booleans.{decide}
+use Rattle.calculus.specs.declared.Value.{Value}
+use Rattle.calculus.specs.declared.Given.{Given}
+use Rattle.calculus.specs.declared.Given.the-variants.{Absent, Present}
+use Rattle.cells.specs.Cells.{givenOf, held}
+use Rattle.evaluation.specs.Run.{values}
+use Rattle.machine.specs.Machine.{Cell, unset, given, stored, Callee, waiting, entered, Memory, ran, stuck}
+use Rattle.machine.specs.Run.{Finals, missing, finals, inFront, finalsOf, allEntered, whole, atEnd}
+use Rattle.blocks.specs.declared.Ran.{Ran}
+use Rattle.blocks.specs.declared.Ran.the-variants as coded
+use Rattle.blocks.specs.Views.{tab, cellWith, ownCell, givensAt, valuesIn, calleeWith, calleeAt, memory}
+use Rattle.blocks.specs.Entries.{nonzero, Finished}
+use Rattle.blocks.proofs.Memory.{present, absent, tab-same}
+
+pub record Held (cells : List ℕ) (n v : ℕ) : Type 0 where
+  pub rest : nonzero cells v (n - v) ≡ nonzero cells 0 n
+  pub below : v ≤ n
+
+pub hold-start : (cells : List ℕ) (n : ℕ) → Held cells n 0
+hold-start cells n = let z : n - 0 ≡ n = omega arith in record { rest = ap (nonzero cells 0) z; below = omega arith }
+
+module _ {cells : List ℕ} {n v : ℕ} (h : Held cells n v) where
+  step : v < n → nonzero cells v (n - v) ≡ cond (eqb (getD cells v 0) 0) false (nonzero cells (suc v) (n - (v + 1)))
+  unfolding nonzero
+  step l = let e : n - v ≡ suc (n - (v + 1)) = omega arith in rw e
+
+  pub hold-not : v < n → getD cells v 0 ≡ 0 → false ≡ nonzero cells 0 n
+  hold-not l e = sym (sym (h .rest) ∙ step l ∙ rw e)
+
+  pub hold : v < n → (getD cells v 0 ≡ 0 → ⊥) → Held cells n (v + 1)
+  hold l e =
+      record {
+        rest = rw (add-one v) (sym (step l ∙ rw (ne-eqb (getD cells v 0) 0 e, add-one v)) ∙ h .rest);
+        below = omega arith;
+      }
+
+  pub hold-all : n ≤ v → true ≡ nonzero cells 0 n
+  unfolding nonzero
+  hold-all l = let z : n - v ≡ 0 = omega arith in rw z at (h .rest)
+
+-- The end of a block
+
+abbrev finalsIf : Bool → List Value → Finals
+finalsIf true vs = finals vs
+finalsIf false vs = missing
+
+front-set : (f b : Bool) (v : Value) (vs : List Value) (cs : List Cell) → finalsOf cs ≡ finalsIf b vs → finalsOf (cellWith f (Present v) ∷ cs) ≡ finalsIf b (v ∷ vs)
+front-set true true v vs cs e = rw e
+front-set true false v vs cs e = rw e
+front-set false true v vs cs e = rw e
+front-set false false v vs cs e = rw e
+
+finals-tab : (own flags : List ℕ) (v n : ℕ)
+    → finalsOf (tab (ownCell own flags) v n) ≡ finalsIf (nonzero own v n) (tab (λ x. held (givenOf (getD own x 0))) v n)
+unfolding tab nonzero ownCell
+finals-tab own flags v zero = refl
+finals-tab own flags v (suc n) =
+    ⊎-elim
+    (λ q. rw (absent (eqb-true (getD own v 0) 0 q), q))
+    (λ q.
+    let p = present (getD own v 0) (eqb-false (getD own v 0) 0 q) in
+    rw q (rw p (front-set (eqb (getD flags v 0) 0) (nonzero own (suc v) n) (held (givenOf (getD own v 0))) (tab (λ x. held (givenOf (getD own x 0))) (suc v) n)
+    (tab (ownCell own flags) (suc v) n) (finals-tab own flags (suc v) n))))
+    (decide (eqb (getD own v 0) 0))
+
+entered-tab : (called marks : List ℕ) (sizes : ℕ → ℕ) (k n : ℕ) → allEntered (tab (λ i. calleeAt called marks (sizes i) i) k n) ≡ nonzero marks k n
+unfolding tab nonzero calleeAt
+entered-tab called marks sizes k zero = refl
+entered-tab called marks sizes k (suc n) =
+    ⊎-elim
+    (λ q. rw q)
+    (λ q. rw q (entered-tab called marks sizes (suc k) n))
+    (decide (eqb (getD marks k 0) 0))
+
+values-tab : (own : List ℕ) (n : ℕ) → tab (λ x. held (givenOf (getD own x 0))) 0 n ≡ valuesIn own 0 n
+unfolding valuesIn
+values-tab own n =
+    tab-same (λ x. held (givenOf (getD own x 0))) (λ x. held (givenOf (getD own (0 + x) 0))) 0 n
+    (λ i l. let z : 0 + (0 + i) ≡ 0 + i = omega arith in rw z)
+
+end-is : (v s : ℕ) (sizes : ℕ → ℕ) (own flags called marks : List ℕ) (count : ℕ)
+    → atEnd (memory v s sizes own flags called marks count) ≡ whole (finalsIf (nonzero own 0 v) (valuesIn own 0 v)) (nonzero marks 0 s) count
+unfolding memory
+end-is v s sizes own flags called marks count = rw (finals-tab own flags 0 v, entered-tab called marks sizes 0 s, values-tab own v)
+
+module _ {own : List ℕ} {v : ℕ} {marks : List ℕ} {s count : ℕ} where
+  pub end-unset : {r : Bool} → r ≡ nonzero own 0 v → not r ≡ true → Finished own v marks s count coded.Stuck
+  end-unset {r} e n = record { shows = λ sizes flags called. end-is v s sizes own flags called marks count ∙ rw (← e, not-true r n) }
+
+  pub end-waiting : {r q : Bool} → r ≡ nonzero own 0 v → not r ≡ false → q ≡ nonzero marks 0 s → not q ≡ true → Finished own v marks s count coded.Stuck
+  end-waiting {r} {q} e n f m =
+      record { shows = λ sizes flags called. end-is v s sizes own flags called marks count ∙ rw (← e, not-false r n, ← f, not-true q m) }
+
+  pub end-values : {r q : Bool} → r ≡ nonzero own 0 v → not r ≡ false → q ≡ nonzero marks 0 s → not q ≡ false → Finished own v marks s count (coded.Values count)
+  end-values {r} {q} e n f m =
+      record { shows = λ sizes flags called. end-is v s sizes own flags called marks count ∙ rw (← e, not-false r n, ← f, not-false q m) }

@@ -1,0 +1,30 @@
+-- The values that a run of a block comes to are of its variables' types.
+-- Assumes nothing.
+use Prim.Native.Nat.{ℕ, suc, _<_, _≤_}
+use mathlib.Core.Path.{_≡_, refl, sym, _∙_}
+use mathlib.Core.List.{List, [], _∷_, map}
+use lib.ListN.{length, getD}
+use borrow.Author.Tests.{eq-eqb}
+use Rattle.calculus.specs.declared.Value.{Value}
+use Rattle.calculus.specs.declared.Given.{Given}
+use Rattle.lists.specs.Writing.{valueType}
+use Rattle.evaluation.specs.Run.{values}
+use Rattle.machine.specs.Blocks.{Block, emptyBlock, parse}
+use Rattle.machine.specs.Acceptance.{weightIn}
+use Rattle.machine.specs.Machine.{Ran, ran}
+use Rattle.machine.specs.Run.{exec, begin}
+use Rattle.verifier.specs.Tables.{blockAt, blockCount}
+use Rattle.blocks.specs.Entries.{back, runAt}
+use Rattle.blocks.proofs.Invariant.{GivensFit, RanGood, block-good, run-cons}
+use Rattle.blocks.proofs.Tables.{World, fit, below}
+use Rattle.blocks.proofs.Entering.{blk, before, envAt, weightAt}
+
+module _ {code spans heads places : List ℕ} (o : World code spans heads places) (p : ℕ) (l : p < blockCount code) (gs : List Given) (f : GivensFit (blk code p .variables) gs) where
+  run-good : RanGood (before code p) (blk code p) (envAt code p) (GivensFit (blk code p .variables) gs) (weightIn (before code p)) (weightAt code p) (runAt code p gs)
+  unfolding runAt blockAt back
+  run-good =
+      rw (run-cons (blk code p) (before code p) (blk code p .scope) gs, eq-eqb (blk code p .scope) (blk code p .scope) refl)
+      (block-good (before code p) (blk code p) (GivensFit (blk code p .variables) gs) gs (λ x. x) (below o p l) (fit o p l))
+
+  pub run-typed : (vs : List Value) (n : ℕ) → runAt code p gs ≡ ran (values vs n) → map valueType vs ≡ map (λ x. x .holds) (blk code p .variables)
+  run-typed vs n e = let g = rw e at run-good in g .1 f
