@@ -11,3 +11,4 @@ mod Tables
 mod Entering
 mod Large
 mod Typed
+pub mod Scopes

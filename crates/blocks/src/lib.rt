@@ -749,7 +749,7 @@ fn run_large(
 }
 
 // Enters block p, with a small stack and few tries at first.
-fn run_cells(
+pub fn run_cells(
     code: &[u8],
     spans: &[usize],
     heads: &[u8],

@@ -1,12 +1,45 @@
--- The service: the answer and the memory are those of running.
-use Prim.Native.Nat.{ℕ}
+-- The service, and the service over its tables.
+use Prim.Native.Nat.{ℕ, _+_, _*_, _<_, _≤_}
 use mathlib.Core.Path.{_≡_}
+use mathlib.Core.Bool.{true}
 use mathlib.Core.List.{List}
-use lib.ListN.{length}
+use lib.ListN.{length, getD, take, drop}
+use Rattle.lists.specs.Reading.{typed}
+use Rattle.lists.specs.Results.{resultLength}
+use Rattle.evaluation.specs.Types.{Fitting}
 use Rattle.evaluation.specs.Evaluate.{memoryAfter}
 use Rattle.evaluation.specs.declared.Answer.{Answer}
-use Rattle.machine.specs.Service.{run}
+use Rattle.machine.specs.Acceptance.{accepted}
+use Rattle.machine.specs.Service.{reply, run}
+use Rattle.verifier.specs.Tables.{blockAt, blockCount, Tabled, Room}
+use Rattle.blocks.specs.Views.{givensAt}
+use Rattle.blocks.specs.Entries.{runAt, variablesAt}
 
+-- the answer and the memory are those of running
 pub record Runs (code : List ℕ) (i : ℕ) (list before : List ℕ) (r : Answer) (after : List ℕ) : Type 0 where
   pub answer : r ≡ run code i list (length before) .answer
   pub memory : after ≡ memoryAfter (run code i list (length before)) before
+
+-- accepted code with its tables
+pub record Ready (code spans heads places : List ℕ) : Type 0 where
+  pub accepts : accepted code ≡ true
+  pub tabled : Tabled code spans heads places (blockCount code)
+  pub sizes : Room spans heads places
+
+-- the type bytes of block p's variables
+unfoldable pub typesIn : List ℕ → ℕ → List ℕ
+typesIn heads p = take (getD heads (p * 48 + 1) 0) (drop (p * 48 + 3) heads)
+
+-- block p is there and its variables have these type bytes, what is given fits them, and its results have room
+pub record Asked (code spans heads places : List ℕ) (p : ℕ) (types given memory : List ℕ) : Type 0 where
+  pub ready : Ready code spans heads places
+  pub block : p < blockCount code
+  pub variables : typed types ≡ blockAt code p .variables
+  pub size : length given ≡ 32
+  pub fitting : Fitting (blockAt code p .variables) (givensAt given 0 (variablesAt code p))
+  pub room : resultLength (blockAt code p .variables) ≤ length memory
+
+-- the answer and the memory are those of entering block p with what the cells give
+pub record Replied (code : List ℕ) (p : ℕ) (given before : List ℕ) (r : Answer) (after : List ℕ) : Type 0 where
+  pub answer : r ≡ reply (runAt code p (givensAt given 0 (variablesAt code p))) .answer
+  pub memory : after ≡ memoryAfter (reply (runAt code p (givensAt given 0 (variablesAt code p)))) before

@@ -1,1 +1,94 @@
 // The service that runs a scope of code, judging it first.
+use blocks::Ran;
+use blocks::run_cells;
+use evaluation::Answer;
+use evaluation::Refusal;
+use lists::length_by;
+use lists::read_by;
+use lists::write_by;
+use record::byte_at;
+use record::part_of;
+use verifier::Verdict;
+use verifier::verify;
+ghost use mathlib.Core.Path.{_≡_};
+ghost use Prim.Native.Nat.{_<_};
+ghost use Rattle.runner.specs.Service.{typesIn, Ready, Asked, Replied, Runs};
+
+// The type bytes of block p's variables.
+fn types_of(heads: &[u8], p: usize) -> &[u8]
+    requires { ⌜ p < 32 ⌝ }
+    ensures { λ r. ⌜ now r ≡ typesIn (now (heads .entry)) p ⌝ }
+{
+    let head = p * 48;
+    part_of(heads, head + 3, byte_at(heads, head + 1) as usize)
+}
+
+// Runs block p, whose variables have these type bytes, with what is given, and writes the results.
+fn run_block(
+    code: &[u8],
+    spans: &[usize],
+    heads: &[u8],
+    places: &[u8],
+    p: usize,
+    types: &[u8],
+    given: &[u64],
+    results: &mut [u8],
+) -> Answer
+    requires { ⌜ Asked (now code) (now spans) (now heads) (now places) p (now types) (now given) (now results) ⌝ }
+    ensures { λ r. ⌜ Replied (now (code .entry)) p (now (given .entry)) (now (results .entry)) r (now (results .exit)) ⌝ }
+{
+    let mut own = [0u64; 32];
+    match run_cells(code, spans, heads, places, p, given, &mut own) {
+        Ran::Values(count) => {
+            write_by(types.len(), &own, results);
+            Answer::Values(count, length_by(types))
+        }
+        Ran::Ended(c, count) => Answer::Ended(c, count),
+        Ran::Stuck => Answer::Refused(Refusal::Stuck),
+        Ran::NoRoom => Answer::Refused(Refusal::Stuck),
+    }
+}
+
+// Runs a scope of accepted code, by its tables.
+fn run_accepted(
+    code: &[u8],
+    spans: &[usize],
+    heads: &[u8],
+    places: &[u8],
+    scope: usize,
+    inputs: &[u8],
+    results: &mut [u8],
+) -> Answer
+    requires { ⌜ Ready (now code) (now spans) (now heads) (now places) ⌝ }
+    ensures { λ r. ⌜ Runs (now (code .entry)) scope (now (inputs .entry)) (now (results .entry)) r (now (results .exit)) ⌝ }
+{
+    let place = byte_at(places, scope) as usize;
+    if place == 0 {
+        return Answer::Refused(Refusal::NoSuchScope);
+    }
+    let p = place - 1;
+    let types = types_of(heads, p);
+    let mut given = [0u64; 32];
+    if !read_by(types, inputs, &mut given) {
+        return Answer::Refused(Refusal::BadInput);
+    }
+    if results.len() < length_by(types) {
+        return Answer::Refused(Refusal::BufferTooSmall);
+    }
+    run_block(code, spans, heads, places, p, types, &given, results)
+}
+
+// Runs a scope of code with an input list. The results are written only where the run ends in values.
+pub fn run(code: &[u8], scope: usize, inputs: &[u8], results: &mut [u8]) -> Answer
+    ensures { λ r. ⌜ Runs (now (code .entry)) scope (now (inputs .entry)) (now (results .entry)) r (now (results .exit)) ⌝ }
+{
+    let mut spans = [0usize; 64];
+    let mut heads = [0u8; 1536];
+    let mut places = [0u8; 32];
+    match verify(code, &mut spans, &mut heads, &mut places) {
+        Verdict::Accepted(_) => {
+            run_accepted(code, &spans, &heads, &places, scope, inputs, results)
+        }
+        Verdict::Refused => Answer::Refused(Refusal::BadCode),
+    }
+}

@@ -1,0 +1,211 @@
+-- What the service answers, by the tests that it makes.
+--     refused-code, refused-scope, refused-input, refused-room     16, 13, 14, 15
+--     ready, block-there, block-small     accepted code has its tables; a scope with a place has a block
+--     asks, answers                       a good list and enough room: what the block's run comes to
+--     entry, types-short, has-room        what the functions called ask for
+--     values-so, ends-so, stuck-so        the answer of a run
+--     never-short                         a run never lacks room for its stack
+-- Assumes nothing.
+use Prim.Native.Nat.{ℕ, _-_, _<_, _≤_}
+use mathlib.Core.Path.{_≡_, refl, sym, ap, subst, _∙_}
+use mathlib.Core.List.{List}
+use mathlib.Core.Logic.{⊎-elim}
+use native.Mathlib.Omega.{arith}
+use lib.ListN.{length, getD, List·getD-eq-default}
+use lib.Dec.{ltb}
+use borrow.Author.Tests.{le-leb, lt-leb, ltb-true, ltb-false}
+use Rattle.order.proofs.Booleans.{decide}
+use Rattle.calculus.specs.declared.Cause.{Cause}
+use Rattle.calculus.specs.declared.Given.{Given}
+use Rattle.book.specs.declared.Variable.{Variable}
+use Rattle.lists.specs.Inputs.{bad, good, inputs}
+use Rattle.lists.specs.Reading.{typed, Taken}
+use Rattle.lists.specs.Results.{resultLength, results}
+use Rattle.lists.specs.Writing.{valuesOf, written}
+use Rattle.lists.proofs.Types.{typed-count}
+use Rattle.evaluation.specs.Run.{values}
+use Rattle.evaluation.specs.Types.{Fitting}
+use Rattle.evaluation.specs.Evaluate.{Reply, memoryAfter, refuse}
+use Rattle.evaluation.specs.declared.Refusal.{Refusal}
+use Rattle.evaluation.specs.declared.Refusal.the-variants as refusal
+use Rattle.evaluation.specs.declared.Answer.{Answer}
+use Rattle.evaluation.specs.declared.Answer.the-variants.{Values, Ended, Refused}
+use Rattle.evaluation.proofs.Types.{inputs-fitting}
+use Rattle.machine.specs.Blocks.{blocksOf, variablesOf}
+use Rattle.machine.specs.Machine as machine
+use Rattle.machine.specs.Run.{runIn}
+use Rattle.machine.specs.Service.{reply, onInputs, asked, run}
+use Rattle.verifier.specs.Tables.{blockAt, blockCount, Room}
+use Rattle.verifier.specs.Pass.{Judged}
+use Rattle.verifier.specs.declared.Verdict.{Verdict}
+use Rattle.verifier.specs.declared.Verdict.the-variants as verdict
+use Rattle.blocks.specs.Views.{givensAt}
+use Rattle.blocks.specs.Entries.{runAt, variablesAt, Entry, CameTo}
+use Rattle.blocks.specs.declared.Ran.{Ran}
+use Rattle.blocks.specs.declared.Ran.the-variants as ran
+use Rattle.blocks.proofs.Scopes.{has-none, is-block, has-one, scope-variables, scope-runs, few-variables, givens-are, values-are, values-length}
+use Rattle.runner.specs.Service.{Runs, Ready, typesIn, Asked, Replied}
+use Rattle.runner.proofs.Types.{types-are}
+
+-- a reply, by what it is equal to
+replies : {code : List ℕ} {i : ℕ} {list memory : List ℕ} (p : Reply) → run code i list (length memory) ≡ p → Runs code i list memory (p .answer) (memoryAfter p memory)
+replies {code} {i} {list} {memory} p e =
+    record { answer = sym (ap (λ (q : Reply). q .answer) e); memory = sym (ap (λ (q : Reply). memoryAfter q memory) e) }
+
+refuses : {code : List ℕ} {i : ℕ} {list memory : List ℕ} (r : Refusal) → run code i list (length memory) ≡ refuse r → Runs code i list memory (Refused r) memory
+unfolding memoryAfter
+refuses r e = replies (refuse r) e
+
+-- Judging
+
+pub refused-code : {code : List ℕ} (spans heads places : List ℕ) {i : ℕ} {list memory : List ℕ} (v : Verdict) → v ≡ verdict.Refused → Judged code spans heads places v
+    → Runs code i list memory (Refused refusal.BadCode) memory
+unfolding run
+refused-code spans heads places v e j = refuses refusal.BadCode (rw (rw e at j))
+
+pub ready : {code spans heads places : List ℕ} {n : ℕ} (v : Verdict) → v ≡ verdict.Accepted n → Judged code spans heads places v → Room spans heads places
+    → Ready code spans heads places
+ready {code} {spans} {heads} {places} v e j sizes =
+    let k = rw e at j in
+    record { accepts = k .0; tabled = rw (k .1 .number) at (k .1); sizes = sizes }
+
+-- Asking
+
+module _ {code spans heads places : List ℕ} (o : Ready code spans heads places) (i : ℕ) where
+  is-asked : (list : List ℕ) (room : ℕ) → run code i list room ≡ asked (blocksOf code) i list room
+  unfolding run
+  is-asked list room = rw (o .accepts)
+
+  pub refused-scope : {list memory : List ℕ} → getD places i 0 ≡ 0 → Runs code i list memory (Refused refusal.NoSuchScope) memory
+  unfolding asked
+  refused-scope {list} {memory} z = refuses refusal.NoSuchScope (is-asked list (length memory) ∙ rw (has-none (o .accepts) (o .tabled) i z))
+
+  module _ (place : ℕ) (e : place ≡ getD places i 0) (there : place ≡ 0 → ⊥) where
+    small : i < 32
+    small =
+        ⊎-elim
+        (λ q. ltb-true i 32 q)
+        (λ q.
+        let s = o .sizes .placeRoom in
+        let none : getD places i 0 ≡ 0 = List·getD-eq-default places 0 (omega (arith, ltb-false i 32 q)) in
+        absurd (there (e ∙ none)))
+        (decide (ltb i 32))
+
+    placed : 0 < getD places i 0
+    placed = omega (arith, there)
+
+    abbrev p : ℕ
+    p = place - 1
+
+    same : getD places i 0 - 1 ≡ p
+    same = omega arith
+
+    pub block-there : p < blockCount code
+    block-there = rw same at (is-block (o .accepts) (o .tabled) i small placed)
+
+    pub block-small : p < 32
+    block-small = let b = block-there in let f = o .tabled .few in omega arith
+
+    abbrev variables : List Variable
+    variables = blockAt code p .variables
+
+    the-variables : variablesOf (blocksOf code) i ≡ variables
+    the-variables = rw same at (scope-variables (o .accepts) (o .tabled) i small placed)
+
+    the-run : (gs : List Given) → runIn (blocksOf code) i gs ≡ runAt code p gs
+    the-run gs = rw same at (scope-runs (o .accepts) (o .tabled) i small placed gs)
+
+    is-there : (list : List ℕ) (room : ℕ) → run code i list room ≡ onInputs (inputs variables list) room (blocksOf code) i
+    unfolding asked
+    is-there list room = is-asked list room ∙ rw (has-one (o .accepts) (o .tabled) i small placed, the-variables)
+
+    module _ (types : List ℕ) (t : types ≡ typesIn heads p) where
+      pub are-typed : typed types ≡ variables
+      are-typed = ap typed t ∙ types-are o p block-there
+
+      pub refused-input : {list memory : List ℕ} → inputs (typed types) list ≡ bad → Runs code i list memory (Refused refusal.BadInput) memory
+      refused-input {list} {memory} b = refuses refusal.BadInput (is-there list (length memory) ∙ rw (rw are-typed at b))
+
+      module _ {list given : List ℕ} (taken : Taken (typed types) list given) where
+        is-good : inputs variables list ≡ good (taken .givens)
+        is-good = ap (λ (vs : List Variable). inputs vs list) (sym are-typed) ∙ taken .list
+
+        pub refused-room : {memory : List ℕ} → length memory < resultLength (typed types) → Runs code i list memory (Refused refusal.BufferTooSmall) memory
+        refused-room {memory} l = refuses refusal.BufferTooSmall (is-there list (length memory) ∙ rw (is-good, the-variables, lt-leb (resultLength variables) (length memory) (rw are-typed at l)))
+
+        same-givens : givensAt given 0 (variablesAt code p) ≡ taken .givens
+        unfolding variablesAt
+        same-givens =
+            ap (givensAt given 0) (sym (taken .number ∙ ap length are-typed))
+            ∙ givens-are given (taken .givens) (taken .decoded)
+
+        pub asks : {memory : List ℕ} → length given ≡ 32 → resultLength (typed types) ≤ length memory → Asked code spans heads places p types given memory
+        asks {memory} s l =
+            record {
+              ready = o;
+              block = block-there;
+              variables = are-typed;
+              size = s;
+              fitting = subst (Fitting variables) (sym same-givens) (inputs-fitting variables list (taken .givens) is-good);
+              room = rw are-typed at l;
+            }
+
+        pub answers : {memory after : List ℕ} {r : Answer} → resultLength (typed types) ≤ length memory → Replied code p given memory r after → Runs code i list memory r after
+        answers {memory} {after} {r} l q =
+            let k : run code i list (length memory) ≡ reply (runAt code p (givensAt given 0 (variablesAt code p))) =
+            is-there list (length memory) ∙ good-list ∙ ap (λ (gs : List Given). reply (runAt code p gs)) (sym same-givens) in
+            record {
+              answer = q .answer ∙ sym (ap (λ (z : Reply). z .answer) k);
+              memory = q .memory ∙ sym (ap (λ (z : Reply). memoryAfter z memory) k);
+            }
+          where
+            good-list : onInputs (inputs variables list) (length memory) (blocksOf code) i ≡ reply (runAt code p (taken .givens))
+            good-list = rw (is-good, the-variables, le-leb (resultLength variables) (length memory) (rw are-typed at l), the-run (taken .givens))
+
+-- Running
+
+module _ {code spans heads places : List ℕ} {p : ℕ} {types given memory : List ℕ} (a : Asked code spans heads places p types given memory) where
+  pub entry : {own : List ℕ} → length own ≡ 32 → Entry code spans heads places p own
+  entry s = record { accepts = a .ready .accepts; tabled = a .ready .tabled; sizes = a .ready .sizes; block = a .block; room = s }
+
+  number : length types ≡ variablesAt code p
+  unfolding variablesAt
+  number = sym (typed-count types) ∙ ap length (a .variables)
+
+  pub types-short : length types ≤ 32
+  unfolding variablesAt
+  types-short = let n = number in let f = few-variables code (a .ready .accepts) p in omega arith
+
+  module _ {r : Ran} {own : List ℕ} (came : CameTo code p given r own) where
+    abbrev gs : List Given
+    gs = givensAt given 0 (variablesAt code p)
+
+    replied : {m : machine.Ran} {answer : Answer} {after : List ℕ} → runAt code p gs ≡ m → answer ≡ reply m .answer → after ≡ memoryAfter (reply m) memory
+        → Replied code p given memory answer after
+    replied {m} e x y = record { answer = rw e x; memory = rw e y }
+
+    pub ends-so : {c : Cause} {m : ℕ} → r ≡ ran.Ended c m → Replied code p given memory (Ended c m) memory
+    unfolding memoryAfter
+    ends-so e = replied (rw e at (came .shows)) refl refl
+
+    pub stuck-so : r ≡ ran.Stuck → Replied code p given memory (Refused refusal.Stuck) memory
+    unfolding memoryAfter
+    stuck-so e = replied (rw e at (came .shows)) refl refl
+
+    pub never-short : r ≡ ran.NoRoom → ⊥
+    never-short e = rw e at (came .shows)
+
+    module _ {m : ℕ} (e : r ≡ ran.Values m) where
+      shown : runAt code p gs ≡ machine.ran (values (valuesOf own (length types)) m)
+      shown = let k = rw e at (came .shows) in k ∙ ap (λ vs. machine.ran (values vs m)) (values-are own (variablesAt code p) ∙ ap (valuesOf own) (sym number))
+
+      size-known : length (results (valuesOf own (length types))) ≡ resultLength (typed types)
+      size-known = values-length (a .ready .accepts) (a .ready .tabled) p (a .block) gs (a .fitting) (valuesOf own (length types)) m shown ∙ ap resultLength (sym (a .variables))
+
+      pub has-room : length (results (valuesOf own (length types))) ≤ length memory
+      has-room = let k = rw (← a .variables) at (a .room) in let s = size-known in omega arith
+
+      pub values-so : {size : ℕ} {after : List ℕ} → size ≡ resultLength (typed types) → after ≡ written (valuesOf own (length types)) memory
+          → Replied code p given memory (Values m size) after
+      unfolding memoryAfter
+      values-so s q = replied shown (ap (Values m) (s ∙ sym size-known)) q
