@@ -22,9 +22,9 @@ use Rattle.machine.specs.Machine.{Cell, unset, given, stored, Callee, waiting, 
 use Rattle.machine.specs.Run.{Finals, missing, finals, inFront, finalsOf, allEntered, whole, atEnd}
 use Rattle.blocks.specs.declared.Ran.{Ran}
 use Rattle.blocks.specs.declared.Ran.the-variants as coded
-use Rattle.blocks.specs.Views.{tab, cellWith, ownCell, givensAt, valuesIn, calleeWith, calleeAt, memory}
+use Rattle.instructions.specs.Views.{tab, cellWith, ownCell, givensAt, valuesIn, calleeWith, calleeAt, memory}
 use Rattle.blocks.specs.Entries.{nonzero, Finished}
-use Rattle.blocks.proofs.Memory.{present, absent, tab-same}
+use Rattle.instructions.proofs.Memory.{present, absent, tab-same}
 
 pub record Held (cells : List ℕ) (n v : ℕ) : Type 0 where
   pub rest : nonzero cells v (n - v) ≡ nonzero cells 0 n

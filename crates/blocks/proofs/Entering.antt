@@ -35,14 +35,14 @@ use Rattle.machine.specs.Acceptance.{lands, fits, weightIn}
 use Rattle.machine.specs.Machine.{Cell, Callee, waiting, entered, Memory, Try, Ran, ran, stuck, Next, go, stop, returned, enteredWith, withCallee, Surroundings, effect}
 use Rattle.machine.specs.Run.{cellOf, begins, begin, surroundings, follow, exec, runIn, atEnd}
 use Rattle.verifier.specs.Tables.{blockAt, blockCount}
-use Rattle.blocks.specs.declared.Move.{Move}
-use Rattle.blocks.specs.declared.Move.the-variants as move
+use Rattle.instructions.specs.declared.Move.{Move}
+use Rattle.instructions.specs.declared.Move.the-variants as move
 use Rattle.blocks.specs.declared.Ran as coded-type
 use Rattle.blocks.specs.declared.Ran.the-variants as coded
-use Rattle.blocks.specs.Views.{entryOf, entries, opened, tab, cellWith, ownCell, givensAt, valuesIn, calleeWith, calleeAt, memory}
-use Rattle.blocks.specs.Effects.{Room, Ample, Moves, Bounded, Sized, Stepping, Stepped, Typing, variablesIn, subScopesIn, blockIn, sizeIn, memoryIn}
+use Rattle.instructions.specs.Views.{entryOf, entries, opened, tab, cellWith, ownCell, givensAt, valuesIn, calleeWith, calleeAt, memory}
+use Rattle.instructions.specs.Effects.{Room, Ample, Moves, Bounded, Sized, Stepping, Stepped, Typing, variablesIn, subScopesIn, blockIn, sizeIn, memoryIn}
 use Rattle.blocks.specs.Entries.{back, runAt, variablesAt, Enough, Shows, Finished, Entry, Came, Advances}
-use Rattle.blocks.proofs.Memory.{tab-length, tab-at, tab-same, tab-set, tab-map}
+use Rattle.instructions.proofs.Memory.{tab-length, tab-at, tab-same, tab-set, tab-map}
 use Rattle.blocks.proofs.Positions.{exec-past, exec-at, exec-to, lands-here, Aligned, fits-at}
 use Rattle.blocks.proofs.Invariant.{Within, MemGood, TriesGood, NextGood, Behind, step-good, begin-good, run-cons}
 use Rattle.blocks.proofs.Tables.{World, small, fit, heavy, below, variables-are, subs-are, bounded, typing, named, callee-below, callee-variables, callee-runs, size-is}

@@ -1,7 +1,3 @@
-mod Stack
-mod Tries
-mod Memory
-mod Steps
 mod Positions
 mod Invariant
 mod Blocks

@@ -17,7 +17,7 @@ use Rattle.machine.specs.Run.{atEnd, runIn}
 use Rattle.verifier.specs.Tables as tables
 use Rattle.blocks.specs.declared.Ran.{Ran}
 use Rattle.blocks.specs.declared.Ran.the-variants.{Values, Ended, Stuck, NoRoom}
-use Rattle.blocks.specs.Views.{tab, givensAt, valuesIn, memory}
+use Rattle.instructions.specs.Views.{tab, givensAt, valuesIn, memory}
 
 -- n cells from v on are not 0
 unfoldable pub nonzero : List ℕ → ℕ → ℕ → Bool

@@ -16,10 +16,10 @@ use Rattle.blocks.proofs.enter.Reads as enter
 use Rattle.blocks.proofs.enter.Kinds as enter-kinds
 use Rattle.blocks.proofs.+enter.Lts-enter as enter-lts
 use Rattle.blocks.proofs.advance.Reads as advance-reads
-use Rattle.blocks.proofs.block_of.Reads as block-of-reads
+use Rattle.instructions.proofs.block_of.Reads as block-of-reads
 use Rattle.blocks.proofs.finish.Reads as finish-reads
-use Rattle.blocks.proofs.first.Reads as first-reads
-use Rattle.blocks.proofs.step.Reads as step-reads
+use Rattle.instructions.proofs.first.Reads as first-reads
+use Rattle.instructions.proofs.step.Reads as step-reads
 use Rattle.blocks.proofs.sub_scopes_of.Reads as sub-scopes-of-reads
 use Rattle.blocks.proofs.variables_of.Reads as variables-of-reads
 use Rattle.blocks.proofs.+enter.{statement}

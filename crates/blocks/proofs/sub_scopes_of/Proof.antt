@@ -1,4 +1,4 @@
-use Rattle.blocks.specs.Effects.{subScopesIn}
+use Rattle.instructions.specs.Effects.{subScopesIn}
 use borrow.Author.Needs.{needs}
 use Rattle.blocks.proofs.sub_scopes_of.Statement.{statement}
 use Rattle.blocks.proofs.sub_scopes_of.Tie as tie

@@ -1,4 +1,4 @@
-use Rattle.blocks.specs.Effects.{variablesIn}
+use Rattle.instructions.specs.Effects.{variablesIn}
 use borrow.Author.Needs.{needs}
 use Rattle.blocks.proofs.variables_of.Statement.{statement}
 use Rattle.blocks.proofs.variables_of.Tie as tie

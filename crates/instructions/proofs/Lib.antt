@@ -1,0 +1,4 @@
+mod Stack
+mod Tries
+pub mod Memory
+mod Steps

@@ -1,0 +1,322 @@
+-- Laws of the cells: own variables and those of sub-scopes.
+--     tab-length, tab-at, tab-same, tab-set, tab-map    lists by their places
+--     read-unset, read-set, read-in, ..                 what reading, storing and handing over come to
+-- Assumes nothing.
+use Prim.Native.Nat.{ℕ, zero, suc, _+_, _-_, _*_, _%_, _<_, _≤_}
+use mathlib.Core.Path.{_≡_, refl, ap, sym, _∙_}
+use mathlib.Core.Bool.{Bool, true, false, not, cond, true≢false}
+use mathlib.Core.List.{List, [], _∷_, map}
+use mathlib.Core.Logic.{⊎-elim}
+use native.Mathlib.Omega.{arith}
+use lib.ListN.{length, getD, set, length-set}
+use lib.Seq.{getD-set-same, getD-set-other}
+use lib.Dec.{eqb, ltb}
+use borrow.Author.Tests.{lt-ltb, le-ltb, ne-eqb, eqb-true, eqb-false, not-true, not-false}
+use Rattle.order.proofs.Booleans.{decide}
+use Rattle.calculus.specs.declared.Value.{Value}
+use Rattle.calculus.specs.declared.Joined.{Joined}
+use Rattle.calculus.specs.declared.Joined.the-variants.{Nothing, One, Many}
+use Rattle.calculus.specs.declared.Given.{Given}
+use Rattle.calculus.specs.declared.Given.the-variants.{Absent, Present}
+use Rattle.cells.specs.Cells.{cellOf, givenOf, held}
+use Rattle.book.specs.Syntax.{sameType}
+use Rattle.book.specs.declared.ValueType.{ValueType}
+use Rattle.lists.specs.Writing.{valueType}
+use Rattle.machine.specs.Machine.{Cell, unset, given, stored, Callee, waiting, entered, Memory, Try, Next, go, stop, ran, stuck, taking, wanting, pushed, readFrom, readIn, valueAt, storedTo, handedTo, overridden, jumpedIfGiven, withOwn, withCallee}
+use Rattle.instructions.specs.declared.Move.{Move}
+use Rattle.instructions.specs.declared.Move.the-variants as move
+use Rattle.instructions.specs.Views.{entryOf, entries, opened, tab, cellWith, ownCell, givensAt, valuesIn, calleeWith, calleeAt}
+use Rattle.instructions.specs.Effects.{Room, Moves, Encodes, Takes, Storing, Handing}
+use Rattle.instructions.proofs.Stack.{value-entry}
+
+-- Lists by their places
+
+pub tab-length : {A : Type 0} (f : ℕ → A) (v n : ℕ) → length (tab f v n) ≡ n
+unfolding tab
+tab-length f v zero = refl
+tab-length f v (suc n) = ap suc (tab-length f (suc v) n)
+
+pub tab-at : {A : Type 0} (f : ℕ → A) (v n x : ℕ) (d : A) → x < n → getD (tab f v n) x d ≡ f (v + x)
+unfolding tab
+tab-at f v zero x d p = absurd (omega arith)
+tab-at f v (suc n) zero d p = let e : v ≡ v + 0 = omega arith in ap f e
+tab-at f v (suc n) (suc x) d p = let e : suc v + x ≡ v + suc x = omega arith in tab-at f (suc v) n x d (omega arith) ∙ ap f e
+
+pub tab-same : {A : Type 0} (f g : ℕ → A) (v n : ℕ) → ((i : ℕ) → i < n → f (v + i) ≡ g (v + i)) → tab f v n ≡ tab g v n
+unfolding tab
+tab-same f g v zero k = refl
+tab-same f g v (suc n) k =
+    let e : v + 0 ≡ v = omega arith in
+    let h : f v ≡ g v = rw e at (k 0 (omega arith)) in
+    rw (h, tab-same f g (suc v) n (λ i p. let z : suc v + i ≡ v + suc i = omega arith in rw z (k (suc i) (omega arith))))
+
+pub tab-map : {A B : Type 0} (h : A → B) (f : ℕ → A) (v n : ℕ) → map h (tab f v n) ≡ tab (λ i. h (f i)) v n
+unfolding tab
+tab-map h f v zero = refl
+tab-map h f v (suc n) = rw (tab-map h f (suc v) n)
+
+pub tab-set : {A : Type 0} (f g : ℕ → A) (v n x : ℕ) (y : A) → x < n → g (v + x) ≡ y → ((i : ℕ) → i < n → (i ≡ x → ⊥) → f (v + i) ≡ g (v + i))
+    → set (tab f v n) x y ≡ tab g v n
+unfolding tab
+tab-set f g v zero x y p e k = absurd (omega arith)
+tab-set f g v (suc n) zero y p e k =
+    let z : v + 0 ≡ v = omega arith in
+    let h : g v ≡ y = rw z at e in
+    rw (h, tab-same f g (suc v) n (λ i q. let w : suc v + i ≡ v + suc i = omega arith in rw w (k (suc i) (omega arith) (λ a. absurd (omega arith)))))
+tab-set f g v (suc n) (suc x) y p e k =
+    let z : v + 0 ≡ v = omega arith in
+    let h : f v ≡ g v = rw z at (k 0 (omega arith) (λ a. absurd (omega arith))) in
+    let w : v + suc x ≡ suc v + x = omega arith in
+    rw (h, tab-set f g (suc v) n x y (omega arith) (rw w at e) (λ i q r. let u : suc v + i ≡ v + suc i = omega arith in rw u (k (suc i) (omega arith) (λ a. r (omega arith)))))
+
+-- Cells
+
+pub absent : {c : ℕ} → c ≡ 0 → givenOf c ≡ Absent
+unfolding givenOf
+absent e = rw e
+
+pub present : (c : ℕ) → (c ≡ 0 → ⊥) → givenOf c ≡ Present (held (givenOf c))
+unfolding givenOf
+present c p = rw (ne-eqb c 0 p) (ones (eqb c 1) (eqb c 2) _ _ _)
+  where
+    ones : (a b : Bool) (x y z : Value) → cond a (Present x) (cond b (Present y) (Present z)) ≡ Present (held (cond a (Present x) (cond b (Present y) (Present z))))
+    ones true b x y z = refl
+    ones false true x y z = refl
+    ones false false x y z = refl
+
+pub cell-zero : {c : ℕ} → c ≡ 0 → entryOf 1 ≡ One (held (givenOf c))
+unfolding entryOf givenOf
+cell-zero e = rw e
+
+pub cell-small : (c : ℕ) → (c ≡ 0 → ⊥) → c < 3 → entryOf c ≡ One (held (givenOf c))
+cell-small c p q = value-entry c p (omega arith)
+
+same-number : (a b : ℕ) → 3 ≤ a → 3 ≤ b → (a - 3) % 4294967296 ≡ (b - 3) % 4294967296 → givenOf a ≡ givenOf b
+unfolding givenOf
+same-number a b p q e =
+    rw (
+      ne-eqb a 0 (λ z. absurd (omega arith)),
+      ne-eqb a 1 (λ z. absurd (omega arith)),
+      ne-eqb a 2 (λ z. absurd (omega arith)),
+      ne-eqb b 0 (λ z. absurd (omega arith)),
+      ne-eqb b 1 (λ z. absurd (omega arith)),
+      ne-eqb b 2 (λ z. absurd (omega arith)),
+      e,
+    )
+
+pub cell-number : (c : ℕ) → 3 ≤ c → entryOf ((c - 3) % 4294967296 + 3) ≡ One (held (givenOf c))
+cell-number c p =
+    let n = (c - 3) % 4294967296 in
+    let l : n < 4294967296 = omega arith in
+    value-entry (n + 3) (λ e. absurd (omega arith)) (omega arith) ∙ ap (λ (g : Given). One (held g)) (same-number (n + 3) c (omega arith) p (omega arith))
+
+-- Reading
+
+module _ (own flags : List ℕ) (x : ℕ) where
+  own-unset : getD own x 0 ≡ 0 → ownCell own flags x ≡ unset
+  unfolding ownCell
+  own-unset e = rw (absent e)
+
+  own-set : (getD own x 0 ≡ 0 → ⊥) → ownCell own flags x ≡ cellWith (eqb (getD flags x 0) 0) (Present (held (givenOf (getD own x 0))))
+  unfolding ownCell
+  own-set p = ap (cellWith (eqb (getD flags x 0) 0)) (present (getD own x 0) p)
+
+  pub read-unset : (es : List Joined) (ts : List Try) (m : Memory) → getD own x 0 ≡ 0 → readFrom (ownCell own flags x) es ts m ≡ stop stuck
+  read-unset es ts m e = rw (own-unset e)
+
+  pub read-set : (es : List Joined) (ts : List Try) (m : Memory) → (getD own x 0 ≡ 0 → ⊥)
+      → readFrom (ownCell own flags x) es ts m ≡ pushed (One (held (givenOf (getD own x 0)))) es ts m
+  read-set es ts m p = rw (own-set p) (either (eqb (getD flags x 0) 0) (held (givenOf (getD own x 0))))
+    where
+      either : (b : Bool) (v : Value) → readFrom (cellWith b (Present v)) es ts m ≡ pushed (One v) es ts m
+      either true v = refl
+      either false v = refl
+
+  pub given-unset : (d : ℕ) (es : List Joined) (ts : List Try) (m : Memory) → getD own x 0 ≡ 0 → jumpedIfGiven (ownCell own flags x) d es ts m ≡ go 0 es ts m
+  given-unset d es ts m e = rw (own-unset e)
+
+  pub given-given : (d : ℕ) (es : List Joined) (ts : List Try) (m : Memory) → (getD own x 0 ≡ 0 → ⊥) → getD flags x 0 ≡ 0
+      → jumpedIfGiven (ownCell own flags x) d es ts m ≡ go d es ts m
+  given-given d es ts m p e = rw (own-set p, e)
+
+  pub given-stored : (d : ℕ) (es : List Joined) (ts : List Try) (m : Memory) → (getD own x 0 ≡ 0 → ⊥) → (getD flags x 0 ≡ 0 → ⊥)
+      → jumpedIfGiven (ownCell own flags x) d es ts m ≡ go 0 es ts m
+  given-stored d es ts m p q = rw (own-set p, ne-eqb (getD flags x 0) 0 q)
+
+  stored-twice : (v : Value) (es : List Joined) (ts : List Try) (m : Memory) → (getD own x 0 ≡ 0 → ⊥) → storedTo (ownCell own flags x) x v es ts m ≡ stop stuck
+  stored-twice v es ts m p = rw (own-set p) (either (eqb (getD flags x 0) 0) (held (givenOf (getD own x 0))))
+    where
+      either : (b : Bool) (w : Value) → storedTo (cellWith b (Present w)) x v es ts m ≡ stop stuck
+      either true w = refl
+      either false w = refl
+
+value-tab : (f : ℕ → Value) (v n x : ℕ) → x < n → valueAt (tab f v n) x ≡ stored (f (v + x))
+unfolding tab
+value-tab f v zero x p = absurd (omega arith)
+value-tab f v (suc n) zero p = let e : v ≡ v + 0 = omega arith in ap (λ (i : ℕ). stored (f i)) e
+value-tab f v (suc n) (suc x) p = let e : suc v + x ≡ v + suc x = omega arith in value-tab f (suc v) n x (omega arith) ∙ ap (λ (i : ℕ). stored (f i)) e
+
+module _ (called marks : List ℕ) (n k x : ℕ) (es : List Joined) (ts : List Try) (m : Memory) where
+  pub read-waiting : getD marks k 0 ≡ 0 → readIn (calleeAt called marks n k) x es ts m ≡ stop stuck
+  unfolding calleeAt
+  read-waiting e = rw e
+
+  pub read-entered : (getD marks k 0 ≡ 0 → ⊥) → x < n
+      → readIn (calleeAt called marks n k) x es ts m ≡ pushed (One (held (givenOf (getD called (k * 32 + x) 0)))) es ts m
+  unfolding calleeAt valuesIn
+  read-entered p l =
+      let z : 0 + x ≡ x = omega arith in
+      let e = value-tab (λ i. held (givenOf (getD called (k * 32 + i) 0))) 0 n x l in
+      rw (ne-eqb (getD marks k 0) 0 p, e, z)
+
+-- Storing
+
+module _ {g : Given} {st : List ℕ} {h : ℕ} (top : Takes g st h) (wanted : ValueType) where
+  pub take-none : (f : Value → List Joined → Next) → g ≡ Absent → taking (entries st h) (λ y st₁. wanting wanted y (f y st₁)) ≡ stop stuck
+  take-none f e = top .none e _
+
+  module _ {v : Value} (e : g ≡ Present v) {r : Bool} (a : r ≡ sameType wanted (valueType v)) (f : Value → List Joined → Next) where
+    pub take-other : not r ≡ true → taking (entries st h) (λ y st₁. wanting wanted y (f y st₁)) ≡ stop stuck
+    take-other n = rw (top .some v e .0, ← a, not-true r n)
+
+    pub take-right : not r ≡ false → taking (entries st h) (λ y st₁. wanting wanted y (f y st₁)) ≡ f v (entries st (h - 1))
+    take-right n = rw (top .some v e .0, ← a, not-false r n)
+
+lower : {h t : ℕ} {st tr : List ℕ} → (h ≤ length st) × (h ≤ 1024) → (t ≤ 512) × (t * 2 ≤ length tr) → Room (h - 1) t st tr
+lower p q = record { height = omega arith; stack = omega arith; tries = q .0; pairs = q .1 }
+
+put-own : (own flags : List ℕ) (x b : ℕ) {y : Value} → Encodes y b → x < length own → x < length flags → ownCell (set own x b) (set flags x 1) x ≡ stored y
+unfolding ownCell
+put-own own flags x b k lo lf = rw (getD-set-same own x b 0 lo, getD-set-same flags x 1 0 lf, k .cell)
+
+put-off : (own flags : List ℕ) (x b i : ℕ) → (i ≡ x → ⊥) → ownCell own flags (0 + i) ≡ ownCell (set own x b) (set flags x 1) (0 + i)
+unfolding ownCell
+put-off own flags x b i w =
+    let z : 0 + i ≡ i = omega arith in
+    rw (z, getD-set-other own x i b 0 w, getD-set-other flags x i 1 0 w)
+
+module _ (wanted : ValueType) (x : ℕ) {st : List ℕ} {h : ℕ} (t : ℕ) (own flags : List ℕ) {g : Given} (top : Takes g st h) where
+  pub store-none : g ≡ Absent → Storing wanted x st h t own flags move.Stuck own flags
+  store-none e = record { same = λ v tr cs c l q. take-none top wanted _ e }
+
+  module _ {y : Value} (e : g ≡ Present y) {r : Bool} (a : r ≡ sameType wanted (valueType y)) where
+    pub store-other : not r ≡ true → Storing wanted x st h t own flags move.Stuck own flags
+    store-other n = record { same = λ v tr cs c l q. take-other top wanted e a _ n }
+
+    module _ (n : not r ≡ false) where
+      pub store-twice : (getD own x 0 ≡ 0 → ⊥) → Storing wanted x st h t own flags move.Stuck own flags
+      store-twice p =
+          record {
+            same = λ v tr cs c l q.
+                let z : 0 + x ≡ x = omega arith in
+                let at : getD (tab (ownCell own flags) 0 v) x unset ≡ ownCell own flags x = tab-at (ownCell own flags) 0 v x unset l ∙ ap (ownCell own flags) z in
+                take-right top wanted e a _ n
+                ∙ rw at (stored-twice own flags x y (entries st (h - 1)) (opened tr t) (record { own = tab (ownCell own flags) 0 v; callees = cs; count = c }) p);
+          }
+
+      pub store-go : {b : ℕ} → getD own x 0 ≡ 0 → Encodes y b → (h ≤ length st) × (h ≤ 1024) → x < length own → x < length flags
+          → Storing wanted x st h t own flags (move.Go 1 (h - 1) t) (set own x b) (set flags x 1)
+      store-go {b} p k room lo lf =
+          record {
+            same = λ v tr cs c l q.
+                let z : 0 + x ≡ x = omega arith in
+                let m : Memory = record { own = tab (ownCell own flags) 0 v; callees = cs; count = c } in
+                let at : getD (tab (ownCell own flags) 0 v) x unset ≡ unset =
+                tab-at (ownCell own flags) 0 v x unset l ∙ ap (ownCell own flags) z ∙ own-unset own flags x p in
+                let here : ownCell (set own x b) (set flags x 1) (0 + x) ≡ stored y = ap (ownCell (set own x b) (set flags x 1)) z ∙ put-own own flags x b k lo lf in
+                let all = tab-set (ownCell own flags) (ownCell (set own x b) (set flags x 1)) 0 v x (stored y) l here (λ i u w. put-off own flags x b i w) in
+                (take-right top wanted e a (λ y st₁. storedTo (getD (tab (ownCell own flags) 0 v) x unset) x y st₁ (opened tr t) m) n ∙ rw (at, all), omega arith, lower room q);
+          }
+
+-- Handing over
+
+givens-put : (called : List ℕ) (k x n b : ℕ) {g : Given} → givenOf b ≡ g → x < n → k * 32 + x < length called
+    → givensAt (set called (k * 32 + x) b) (k * 32) n ≡ set (givensAt called (k * 32) n) x g
+unfolding givensAt
+givens-put called k x n b {g} e l room =
+    sym (tab-set (λ i. givenOf (getD called (k * 32 + i) 0)) (λ i. givenOf (getD (set called (k * 32 + x) b) (k * 32 + i) 0)) 0 n x g l
+    (let z : 0 + x ≡ x = omega arith in rw (z, getD-set-same called (k * 32 + x) b 0 room) e)
+    (λ i p w. let z : 0 + i ≡ i = omega arith in rw (z, getD-set-other called (k * 32 + x) (k * 32 + i) b 0 (λ q. w (omega arith)))))
+
+callee-off : (called marks : List ℕ) (at b n i : ℕ) → ((y : ℕ) → y < n → i * 32 + y ≡ at → ⊥) → calleeAt called marks n i ≡ calleeAt (set called at b) marks n i
+unfolding calleeAt givensAt valuesIn
+callee-off called marks at b n i k =
+    let other : (y : ℕ) → y < n → getD called (i * 32 + (0 + y)) 0 ≡ getD (set called at b) (i * 32 + (0 + y)) 0 =
+    λ y p. sym (getD-set-other called at (i * 32 + (0 + y)) b 0 (λ q. k y p (omega arith))) in
+    rw (
+      tab-same (λ y. givenOf (getD called (i * 32 + y) 0)) (λ y. givenOf (getD (set called at b) (i * 32 + y) 0)) 0 n (λ y p. ap givenOf (other y p)),
+      tab-same (λ y. held (givenOf (getD called (i * 32 + y) 0))) (λ y. held (givenOf (getD (set called at b) (i * 32 + y) 0))) 0 n (λ y p. ap (λ (c : ℕ). held (givenOf c)) (other y p)),
+    )
+
+late : (called marks : List ℕ) (k x z : ℕ) (y : Value) (es : List Joined) (ts : List Try) (m : Memory) → (getD marks k 0 ≡ 0 → ⊥)
+    → overridden (calleeAt called marks z k) k x y es ts m ≡ stop stuck
+unfolding calleeAt
+late called marks k x z y es ts m p = rw (ne-eqb (getD marks k 0) 0 p)
+
+waits-in : (called marks : List ℕ) (k z : ℕ) → getD marks k 0 ≡ 0 → calleeAt called marks z k ≡ waiting (givensAt called (k * 32) z)
+unfolding calleeAt
+waits-in called marks k z w = rw w
+
+hand-off : (called marks : List ℕ) (k x b i : ℕ) (sizes : ℕ → ℕ) → sizes i ≤ 32 → (i ≡ k → ⊥) → x < 32
+    → calleeAt called marks (sizes (0 + i)) (0 + i) ≡ calleeAt (set called (k * 32 + x) b) marks (sizes (0 + i)) (0 + i)
+hand-off called marks k x b i sizes few v small =
+    let z : 0 + i ≡ i = omega arith in
+    rw z (callee-off called marks (k * 32 + x) b (sizes i) i (λ y l q. v (omega arith)))
+
+module _ (wanted : ValueType) (k x : ℕ) {st : List ℕ} {h : ℕ} (t : ℕ) (marks called : List ℕ) {g : Given} (top : Takes g st h) where
+  pub hand-none : g ≡ Absent → Handing wanted k x st h t marks called move.Stuck called
+  hand-none e = record { same = λ s sizes tr xs c l m b q. take-none top wanted _ e }
+
+  module _ {y : Value} (e : g ≡ Present y) {r : Bool} (a : r ≡ sameType wanted (valueType y)) where
+    pub hand-other : not r ≡ true → Handing wanted k x st h t marks called move.Stuck called
+    hand-other n = record { same = λ s sizes tr xs c l m b q. take-other top wanted e a _ n }
+
+    module _ (n : not r ≡ false) where
+      at-k : (s : ℕ) (sizes : ℕ → ℕ) → k < s → getD (tab (λ i. calleeAt called marks (sizes i) i) 0 s) k (waiting []) ≡ calleeAt called marks (sizes k) k
+      at-k s sizes l =
+          let z : 0 + k ≡ k = omega arith in
+          tab-at (λ i. calleeAt called marks (sizes i) i) 0 s k (waiting []) l ∙ ap (λ (i : ℕ). calleeAt called marks (sizes i) i) z
+
+      pub hand-late : (getD marks k 0 ≡ 0 → ⊥) → Handing wanted k x st h t marks called move.Stuck called
+      hand-late p =
+          record {
+            same = λ s sizes tr xs c l m b q.
+                take-right top wanted e a _ n ∙ rw (at-k s sizes l) (late called marks k x (sizes k) y (entries st (h - 1)) (opened tr t)
+                (record { own = xs; callees = tab (λ i. calleeAt called marks (sizes i) i) 0 s; count = c }) p);
+          }
+
+      module _ (w : getD marks k 0 ≡ 0) where
+        handed : (z : ℕ) → x < z → getD (givensAt called (k * 32) z) x Absent ≡ givenOf (getD called (k * 32 + x) 0)
+        unfolding givensAt
+        handed z l = let o : 0 + x ≡ x = omega arith in tab-at (λ i. givenOf (getD called (k * 32 + i) 0)) 0 z x Absent l ∙ rw o
+
+        pub hand-twice : (getD called (k * 32 + x) 0 ≡ 0 → ⊥) → Handing wanted k x st h t marks called move.Stuck called
+        hand-twice p =
+            record {
+              same = λ s sizes tr xs c l m b q.
+                  let there : getD (givensAt called (k * 32) (sizes k)) x Absent ≡ Present (held (givenOf (getD called (k * 32 + x) 0))) =
+                  handed (sizes k) m ∙ present (getD called (k * 32 + x) 0) p in
+                  take-right top wanted e a _ n ∙ rw (at-k s sizes l, waits-in called marks k (sizes k) w, there);
+            }
+
+        pub hand-go : {b : ℕ} → getD called (k * 32 + x) 0 ≡ 0 → Encodes y b → (h ≤ length st) × (h ≤ 1024) → k * 32 + x < length called → x < 32
+            → Handing wanted k x st h t marks called (move.Go 2 (h - 1) t) (set called (k * 32 + x) b)
+        hand-go {b} p code room inside small =
+            record {
+              same = λ s sizes tr xs c l m few q.
+                  let old : ℕ → Callee = λ i. calleeAt called marks (sizes i) i in
+                  let new : ℕ → Callee = λ i. calleeAt (set called (k * 32 + x) b) marks (sizes i) i in
+                  let mem : Memory = record { own = xs; callees = tab old 0 s; count = c } in
+                  let there : getD (givensAt called (k * 32) (sizes k)) x Absent ≡ Absent = handed (sizes k) m ∙ absent p in
+                  let z : 0 + k ≡ k = omega arith in
+                  let o : c + 0 ≡ c = omega arith in
+                  let here : new (0 + k) ≡ waiting (set (givensAt called (k * 32) (sizes k)) x (Present y)) =
+                  ap new z ∙ waits-in (set called (k * 32 + x) b) marks k (sizes k) w ∙ ap waiting (givens-put called k x (sizes k) b (code .cell) m inside) in
+                  let all = tab-set old new 0 s k (waiting (set (givensAt called (k * 32) (sizes k)) x (Present y))) l here
+                  (λ i u v. hand-off called marks k x b i sizes (few i u) v small) in (
+                    take-right top wanted e a (λ y st₁. overridden (getD (tab old 0 s) k (waiting [])) k x y st₁ (opened tr t) mem) n
+                        ∙ rw (at-k s sizes l, waits-in called marks k (sizes k) w, there, all, o),
+                    omega arith,
+                    lower room q,
+                  );
+            }

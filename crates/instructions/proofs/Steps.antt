@@ -1,0 +1,210 @@
+-- One instruction over the tables and the slices, by its kind.
+--     own-named, called-named, ..    what an instruction names is there
+--     does-own, does-called, ..      what the functions of memory ensure is the instruction's effect
+--     none-of                        any other kind
+-- Assumes nothing.
+use Prim.Native.Nat.{ℕ, zero, suc, _+_, _-_, _*_, _<_, _≤_}
+use mathlib.Core.Path.{_≡_, refl, ap, sym, _∙_}
+use mathlib.Core.Bool.{Bool, true, false, cond}
+use mathlib.Core.List.{List, [], _∷_}
+use native.Mathlib.Omega.{arith}
+use lib.ListN.{length, getD, set, drop, length-drop}
+use lib.Dec.{eqb}
+use borrow.Author.Tests.{ne-eqb}
+use Rattle.record.specs.Kinds.{kinds, shapesOf, shapeIn}
+use Rattle.record.specs.Bytes.{bigEndian, numberAt}
+use Rattle.calculus.specs.declared.Cause.the-variants.{Conflict}
+use Rattle.machine.specs.Instructions.{Instruction, unknown, instructionOf}
+use Rattle.machine.specs.Blocks.{bodyLength}
+use Rattle.machine.specs.Machine.{Cell, unset, Callee, waiting, Memory, Next, go, stop, ran, stuck, ownAt, readFrom, readIn, jumpedIfGiven, tried, Surroundings, effect}
+use Rattle.machine.specs.Machine as machine
+use Rattle.book.specs.declared.ValueType.{ValueType}
+use Rattle.instructions.specs.declared.Move.{Move}
+use Rattle.instructions.specs.declared.Move.the-variants as move
+use Rattle.instructions.specs.Views.{entryOf, entries, opened, tab, ownCell, calleeAt, memory}
+use Rattle.instructions.specs.Effects.{Room, Moves, Storing, Handing, OverrideAt, Stepping, Stepped, Typing, Bounded, Sized, variablesIn, subScopesIn, typeIn, blockIn, sizeIn, memoryIn}
+use Rattle.instructions.proofs.Memory.{tab-at}
+
+module _ {heads places : List ℕ} {p k : ℕ} {rest st : List ℕ} {h : ℕ} {tr : List ℕ} {t : ℕ} {own flags called marks : List ℕ}
+    (s : Stepping heads places p k rest st h tr t own flags called marks) where
+  pub stack-room : (h ≤ length st) × (h ≤ 1024)
+  stack-room = (s .room .stack, s .room .height)
+
+  pub tries-room : (t ≤ 512) × (t * 2 ≤ length tr)
+  tries-room = (s .room .tries, s .room .pairs)
+
+  pub own-named : k ≡ 6 → getD rest 0 0 < variablesIn heads p
+  unfolding instructionOf
+  own-named e = rw e at (s .named)
+
+  pub store-named : k ≡ 41 → getD rest 0 0 < variablesIn heads p
+  unfolding instructionOf
+  store-named e = rw e at (s .named)
+
+  pub given-named : k ≡ 44 → getD rest 0 0 < variablesIn heads p
+  unfolding instructionOf
+  given-named e = rw e at (s .named)
+
+  pub called-named : k ≡ 7 → (getD rest 0 0 < subScopesIn heads p) × (getD rest 1 0 < sizeIn heads places p (getD rest 0 0))
+  unfolding instructionOf
+  called-named e = rw e at (s .named)
+
+  pub handed-named : k ≡ 42 → (getD rest 0 0 < subScopesIn heads p) × (getD rest 1 0 < sizeIn heads places p (getD rest 0 0))
+  unfolding instructionOf
+  handed-named e = rw e at (s .named)
+
+  pub own-fits : {x : ℕ} → x < variablesIn heads p → (x < length own) × (x < length flags) × (x < 32)
+  own-fits l = let b = s .bounded .variables in let o = s .sized .ownSize in let f = s .sized .flagSize in (omega arith, omega arith, omega arith)
+
+  pub called-fits : {i x : ℕ} → (i < subScopesIn heads p) × (x < sizeIn heads places p i) → (i < 8) × (x < 32) × (length marks ≡ 8) × (length called ≡ 256)
+  called-fits {i} l =
+      let b = s .bounded .subScopes in
+      let z = s .bounded .sizes i (l .0) .1 in
+      (omega arith, omega arith, s .sized .markSize, s .sized .calledSize)
+
+  pub override-fits : k ≡ 42 → OverrideAt rest heads places p marks st h called
+  override-fits e =
+      let n = handed-named e in
+      let f = called-fits n in
+      record {
+        stack = stack-room;
+        block = s .bounded .block;
+        subScope = f .0;
+        variable = f .1;
+        callee = s .bounded .sizes (getD rest 0 0) (n .0) .0;
+        markSize = s .sized .markSize;
+        calledSize = s .sized .calledSize;
+      }
+
+  own-at : (x c : ℕ) → x < variablesIn heads p → getD (memoryIn heads places p own flags called marks c .own) x unset ≡ ownCell own flags x
+  unfolding memoryIn memory
+  own-at x c l = let z : 0 + x ≡ x = omega arith in tab-at (ownCell own flags) 0 (variablesIn heads p) x unset l ∙ ap (ownCell own flags) z
+
+  called-at : (i c : ℕ) → i < subScopesIn heads p
+      → getD (memoryIn heads places p own flags called marks c .callees) i (waiting []) ≡ calleeAt called marks (sizeIn heads places p i) i
+  unfolding memoryIn memory
+  called-at i c l =
+      let z : 0 + i ≡ i = omega arith in
+      tab-at (λ j. calleeAt called marks (sizeIn heads places p j) j) 0 (subScopesIn heads p) i (waiting []) l
+      ∙ ap (λ (j : ℕ). calleeAt called marks (sizeIn heads places p j) j) z
+
+  module _ (r : Move) where
+    pub does-own : (e : k ≡ 6) (st' : List ℕ)
+        → ((m : Memory) → Moves r 1 st' tr m (readFrom (ownCell own flags (getD rest 0 0)) (entries st h) (opened tr t) m))
+        → Stepped heads places p k rest st h tr t own flags called marks r st' tr own flags called
+    unfolding effect instructionOf shapeIn shapesOf kinds
+    does-own e st' f =
+        record {
+          same = λ env c ty.
+              let named = own-named e in
+              let at = own-at (getD rest 0 0) c named in
+              rw e (rw at (f (memoryIn heads places p own flags called marks c)));
+        }
+
+    pub does-called : (e : k ≡ 7) (st' : List ℕ)
+        → ((n : ℕ) (m : Memory) → getD rest 1 0 < n → Moves r 2 st' tr m (readIn (calleeAt called marks n (getD rest 0 0)) (getD rest 1 0) (entries st h) (opened tr t) m))
+        → Stepped heads places p k rest st h tr t own flags called marks r st' tr own flags called
+    unfolding effect instructionOf shapeIn shapesOf kinds
+    does-called e st' f =
+        record {
+          same = λ env c ty.
+              let named = called-named e in
+              let at = called-at (getD rest 0 0) c (named .0) in
+              rw e (rw at (f (sizeIn heads places p (getD rest 0 0)) (memoryIn heads places p own flags called marks c) (named .1)));
+        }
+
+    pub does-given : (e : k ≡ 44)
+        → ((m : Memory) → Moves r 3 st tr m (jumpedIfGiven (ownCell own flags (getD rest 0 0)) (bigEndian 2 rest 1) (entries st h) (opened tr t) m))
+        → Stepped heads places p k rest st h tr t own flags called marks r st tr own flags called
+    unfolding effect instructionOf shapeIn shapesOf kinds
+    does-given e f =
+        record {
+          same = λ env c ty.
+              let named = given-named e in
+              let at = own-at (getD rest 0 0) c named in
+              rw e (rw at (f (memoryIn heads places p own flags called marks c)));
+        }
+
+    pub does-store : (e : k ≡ 41) (own' flags' : List ℕ) → Storing (typeIn heads p (getD rest 0 0)) (getD rest 0 0) st h t own flags r own' flags'
+        → Stepped heads places p k rest st h tr t own flags called marks r st tr own' flags' called
+    unfolding effect instructionOf shapeIn shapesOf kinds memoryIn memory
+    does-store e own' flags' f =
+        record {
+          same = λ env c ty.
+              let named = store-named e in
+              rw (e, ty .own (getD rest 0 0) named)
+              (f .same (variablesIn heads p) tr (tab (λ i. calleeAt called marks (sizeIn heads places p i) i) 0 (subScopesIn heads p)) c named tries-room);
+        }
+
+    pub does-override : (e : k ≡ 42) (called' : List ℕ)
+        → Handing (typeIn heads (blockIn heads places p (getD rest 0 0)) (getD rest 1 0)) (getD rest 0 0) (getD rest 1 0) st h t marks called r called'
+        → Stepped heads places p k rest st h tr t own flags called marks r st tr own flags called'
+    unfolding effect instructionOf shapeIn shapesOf kinds memoryIn memory
+    does-override e called' f =
+        record {
+          same = λ env c ty.
+              let named = handed-named e in
+              rw (e, ty .called (getD rest 0 0) (getD rest 1 0) (named .0) (named .1))
+              (f .same (subScopesIn heads p) (sizeIn heads places p) tr (tab (ownCell own flags) 0 (variablesIn heads p)) c (named .0) (named .1)
+              (λ i l. s .bounded .sizes i l .1) tries-room);
+        }
+
+    pub does-try : (e : k ≡ 36) (tr' : List ℕ)
+        → ((m : Memory) → Moves r 2 st tr' m (tried (length rest - 2 - bigEndian 2 rest 0) (entries st h) (opened tr t) m))
+        → Stepped heads places p k rest st h tr t own flags called marks r st tr' own flags called
+    unfolding effect instructionOf shapeIn shapesOf kinds
+    does-try e tr' f =
+        record {
+          same = λ env c ty. rw e (rw (length-drop 2 rest) (f (memoryIn heads places p own flags called marks c)));
+        }
+
+  pub does-jump : (e : k ≡ 34) (d : ℕ) → d ≡ bigEndian 2 rest 0
+      → Stepped heads places p k rest st h tr t own flags called marks (move.Go (2 + d) h t) st tr own flags called
+  unfolding effect instructionOf shapeIn shapesOf kinds
+  does-jump e d f =
+      record {
+        same = λ env c ty.
+            let z : 2 + d - 2 ≡ d = omega arith in
+            rw (e, ← f, z) (refl, omega arith, s .room);
+      }
+
+  -- an instruction that leaves the memory alone
+  pub does-at : {j : ℕ} {r : Move} {st' tr' : List ℕ} → k ≡ j
+      → ((env : Surroundings) (m : Memory)
+      → Moves r (bodyLength j) st' tr' m (effect env (instructionOf j rest) (length (drop (bodyLength j) rest)) (entries st h) (opened tr t) m))
+      → Stepped heads places p k rest st h tr t own flags called marks r st' tr' own flags called
+  does-at e g = record { same = λ env c ty. rw e (g env (memoryIn heads places p own flags called marks c)) }
+
+  pub stuck-at : instructionOf k rest ≡ unknown → Stepped heads places p k rest st h tr t own flags called marks move.Stuck st tr own flags called
+  unfolding effect
+  stuck-at e = record { same = λ env c ty. rw e }
+
+pub none-of : (k : ℕ) (rest : List ℕ)
+    → (k ≡ 4 → ⊥)
+    → (k ≡ 5 → ⊥)
+    → (k ≡ 6 → ⊥)
+    → (k ≡ 7 → ⊥)
+    → (k ≡ 10 → ⊥)
+    → (k ≡ 11 → ⊥)
+    → (k ≡ 12 → ⊥)
+    → (k ≡ 13 → ⊥)
+    → (k ≡ 14 → ⊥)
+    → (k ≡ 15 → ⊥)
+    → (k ≡ 16 → ⊥)
+    → (k ≡ 32 → ⊥)
+    → (k ≡ 33 → ⊥)
+    → (k ≡ 34 → ⊥)
+    → (k ≡ 35 → ⊥)
+    → (k ≡ 36 → ⊥)
+    → (k ≡ 37 → ⊥)
+    → (k ≡ 38 → ⊥)
+    → (k ≡ 39 → ⊥)
+    → (k ≡ 40 → ⊥)
+    → (k ≡ 41 → ⊥)
+    → (k ≡ 42 → ⊥)
+    → (k ≡ 44 → ⊥)
+    → (k ≡ 43 → ⊥)
+    → instructionOf k rest ≡ unknown
+unfolding instructionOf
+none-of k rest n4 n5 n6 n7 n10 n11 n12 n13 n14 n15 n16 n32 n33 n34 n35 n36 n37 n38 n39 n40 n41 n42 n44 n43 =
+    rw (ne-eqb k 4 n4, ne-eqb k 5 n5, ne-eqb k 6 n6, ne-eqb k 7 n7, ne-eqb k 10 n10, ne-eqb k 11 n11, ne-eqb k 12 n12, ne-eqb k 13 n13, ne-eqb k 14 n14, ne-eqb k 15 n15, ne-eqb k 16 n16, ne-eqb k 32 n32, ne-eqb k 33 n33, ne-eqb k 34 n34, ne-eqb k 35 n35, ne-eqb k 36 n36, ne-eqb k 37 n37, ne-eqb k 38 n38, ne-eqb k 39 n39, ne-eqb k 40 n40, ne-eqb k 41 n41, ne-eqb k 42 n42, ne-eqb k 43 n43, ne-eqb k 44 n44)

@@ -1,0 +1,564 @@
+// The instructions of accepted code other than the entry of a sub-scope, over parts of a lent stack and of lent tries.
+use book::ValueType;
+use book::type_of;
+use calculus::Binary;
+use calculus::Cause;
+use calculus::Given;
+use calculus::Outcome;
+use calculus::Unary;
+use calculus::Value;
+use calculus::apply_binary;
+use calculus::apply_unary;
+use calculus::truth_of;
+use cells::cell_of;
+use cells::given_of;
+use lists::same_type;
+use record::byte_at;
+use record::distance_at;
+use record::number_at;
+use typing::operand_type;
+use typing::unary_type;
+ghost use mathlib.Core.Path.{_≡_};
+ghost use mathlib.Core.List.{List};
+ghost use Prim.Native.Nat.{ℕ, _+_, _-_, _*_, _<_, _≤_};
+ghost use lib.ListN.{length, getD};
+ghost use lib.Dec.{eqb};
+ghost use Rattle.record.specs.Bytes.{bigEndian, numberAt};
+ghost use Rattle.calculus.specs.declared.Joined.the-variants.{One};
+ghost use Rattle.calculus.specs.Defaults.{join};
+ghost use Rattle.cells.specs.Cells.{givenOf, held};
+ghost use Rattle.book.specs.Syntax.{sameType};
+ghost use Rattle.lists.specs.Writing.{valueType};
+ghost use Rattle.machine.specs.Instructions.{Instruction};
+ghost use Rattle.machine.specs.Machine.{Memory, answered, pushed, raised, tried, closed, readFrom, readIn, jumpedIfGiven, effect, Surroundings};
+ghost use Rattle.instructions.specs.Views.{entryOf, entries, opened, ownCell, calleeAt};
+ghost use Rattle.instructions.specs.Effects.{Room, Moves, Encodes, Takes, suitable, Storing, Handing, OverrideAt, Stepping, Stepped, typeIn, blockIn};
+
+// After an instruction: go on so many bytes behind its kind, with a height and so many open tries; or stop.
+pub enum Move {
+    Go(usize, usize, usize),
+    Ended(Cause),
+    Stuck,
+    NoRoom,
+}
+
+const STACK: usize = 1024;
+
+const TRIES: usize = 512;
+
+const MANY: u64 = 8589934592;
+
+// The cell of a value, which is also its entry.
+fn encode(v: Value) -> u64
+    ensures { λ r. ⌜ Encodes v r ⌝ }
+{
+    cell_of(v)
+}
+
+fn value_in(c: u64) -> Value
+    ensures { λ r. ⌜ r ≡ held (givenOf c) ⌝ }
+{
+    match given_of(c) {
+        Given::Absent => Value::Truth(false),
+        Given::Present(v) => v,
+    }
+}
+
+fn type_in(v: Value) -> ValueType
+    ensures { λ r. ⌜ r ≡ valueType v ⌝ }
+{
+    match v {
+        Value::Truth(_) => ValueType::YesNo,
+        Value::Number(_) => ValueType::Numeric,
+    }
+}
+
+fn has_type(t: ValueType, v: Value) -> bool
+    ensures { λ r. ⌜ r ≡ sameType t (valueType v) ⌝ }
+{
+    same_type(t, type_in(v))
+}
+
+// The value on top of the stack.
+fn top_value(st: &[u64], h: usize) -> Given
+    requires { ⌜ h ≤ length (now st) ⌝ }
+    ensures { λ r. ⌜ Takes r (now (st .entry)) h ⌝ }
+{
+    if h == 0 {
+        return Given::Absent;
+    }
+    let c = st[h - 1];
+    if c == 0 {
+        return Given::Absent;
+    }
+    if c < MANY {
+        return Given::Present(value_in(c));
+    }
+    Given::Absent
+}
+
+// Pushes an entry, n bytes passed behind the kind.
+fn push(st: &mut [u64], h: usize, e: u64, n: usize, t: usize) -> Move
+    ensures { λ r. ⌜ ((tr : List ℕ) (m : Memory) → Room h t (now (st .entry)) tr
+        → Moves r n (now (st .exit)) tr m (pushed (entryOf e) (entries (now (st .entry)) h) (opened tr t) m)) ⌝ }
+{
+    if STACK <= h {
+        return Move::Stuck;
+    }
+    if st.len() <= h {
+        return Move::NoRoom;
+    }
+    st[h] = e;
+    Move::Go(n, h + 1, t)
+}
+
+// Pushes what an operator gives onto a stack that had more.
+fn answer(o: Outcome, st: &mut [u64], h: usize, t: usize) -> Move
+    requires { ⌜ (h < length (now st)) × (h < 1024) ⌝ }
+    ensures { λ r. ⌜ ((tr : List ℕ) (m : Memory) → (t ≤ 512) × (t * 2 ≤ length tr)
+        → Moves r 0 (now (st .exit)) tr m (answered o (entries (now (st .entry)) h) (opened tr t) m)) ⌝ }
+{
+    match o {
+        Outcome::Gives(v) => {
+            st[h] = encode(v);
+            Move::Go(0, h + 1, t)
+        }
+        Outcome::Ends(c) => Move::Ended(c),
+    }
+}
+
+// An operator on the value on top.
+fn unary(op: Unary, st: &mut [u64], h: usize, t: usize) -> Move
+    requires { ⌜ (h ≤ length (now st)) × (h ≤ 1024) ⌝ }
+    ensures { λ r. ⌜ ((env : Surroundings) (tr : List ℕ) (m : Memory) (left : ℕ) → (t ≤ 512) × (t * 2 ≤ length tr)
+        → Moves r 0 (now (st .exit)) tr m (effect env (Instruction.unary op) left (entries (now (st .entry)) h) (opened tr t) m)) ⌝ }
+{
+    match top_value(st, h) {
+        Given::Absent => Move::Stuck,
+        Given::Present(v) => {
+            if !has_type(unary_type(op), v) {
+                return Move::Stuck;
+            }
+            answer(apply_unary(op, v), st, h - 1, t)
+        }
+    }
+}
+
+// An operator on the top two, the right operand on top.
+fn binary(op: Binary, st: &mut [u64], h: usize, t: usize) -> Move
+    requires { ⌜ (h ≤ length (now st)) × (h ≤ 1024) ⌝ }
+    ensures { λ r. ⌜ ((env : Surroundings) (tr : List ℕ) (m : Memory) (left : ℕ) → (t ≤ 512) × (t * 2 ≤ length tr)
+        → Moves r 0 (now (st .exit)) tr m (effect env (Instruction.binary op) left (entries (now (st .entry)) h) (opened tr t) m)) ⌝ }
+{
+    match top_value(st, h) {
+        Given::Absent => Move::Stuck,
+        Given::Present(w) => {
+            let less = h - 1;
+            match top_value(st, less) {
+                Given::Absent => Move::Stuck,
+                Given::Present(v) => {
+                    if !suits(op, v, w) {
+                        return Move::Stuck;
+                    }
+                    answer(apply_binary(op, v, w), st, less - 1, t)
+                }
+            }
+        }
+    }
+}
+
+// Whether two values have the types that an operator wants.
+fn suits(op: Binary, v: Value, w: Value) -> bool
+    ensures { λ r. ⌜ r ≡ suitable op v w ⌝ }
+{
+    let wanted = operand_type(op, type_in(v));
+    if !has_type(wanted, v) {
+        return false;
+    }
+    has_type(wanted, w)
+}
+
+// Joins the top two, the right one on top.
+fn join_top(st: &mut [u64], h: usize, t: usize) -> Move
+    requires { ⌜ (h ≤ length (now st)) × (h ≤ 1024) ⌝ }
+    ensures { λ r. ⌜ ((env : Surroundings) (tr : List ℕ) (m : Memory) (left : ℕ) → (t ≤ 512) × (t * 2 ≤ length tr)
+        → Moves r 0 (now (st .exit)) tr m (effect env Instruction.join left (entries (now (st .entry)) h) (opened tr t) m)) ⌝ }
+{
+    if h < 2 {
+        return Move::Stuck;
+    }
+    let a = st[h - 2];
+    let b = st[h - 1];
+    st[h - 2] = joined(a, b);
+    Move::Go(0, h - 1, t)
+}
+
+fn joined(a: u64, b: u64) -> u64
+    ensures { λ r. ⌜ entryOf r ≡ join (entryOf a) (entryOf b) ⌝ }
+{
+    if a == 0 {
+        return b;
+    }
+    if b == 0 {
+        return a;
+    }
+    MANY
+}
+
+// Takes a yes/no, and jumps on no.
+fn branch(d: usize, st: &[u64], h: usize, t: usize) -> Move
+    requires { ⌜ (h ≤ length (now st)) × (h ≤ 1024) × (d < 65536) ⌝ }
+    ensures { λ r. ⌜ ((env : Surroundings) (tr : List ℕ) (m : Memory) (left : ℕ) → (t ≤ 512) × (t * 2 ≤ length tr)
+        → Moves r 2 (now (st .entry)) tr m (effect env (Instruction.jumpIfNo d) left (entries (now (st .entry)) h) (opened tr t) m)) ⌝ }
+{
+    match top_value(st, h) {
+        Given::Absent => Move::Stuck,
+        Given::Present(v) => {
+            if !has_type(ValueType::YesNo, v) {
+                return Move::Stuck;
+            }
+            if truth_of(v) {
+                return Move::Go(2, h - 1, t);
+            }
+            Move::Go(2 + d, h - 1, t)
+        }
+    }
+}
+
+// Many ends the run, a value stays and jumps, nothing is removed.
+fn settle(d: usize, st: &[u64], h: usize, t: usize) -> Move
+    requires { ⌜ (h ≤ length (now st)) × (h ≤ 1024) × (d < 65536) ⌝ }
+    ensures { λ r. ⌜ ((env : Surroundings) (tr : List ℕ) (m : Memory) (left : ℕ) → (t ≤ 512) × (t * 2 ≤ length tr)
+        → Moves r 2 (now (st .entry)) tr m (effect env (Instruction.settle d) left (entries (now (st .entry)) h) (opened tr t) m)) ⌝ }
+{
+    if h == 0 {
+        return Move::Stuck;
+    }
+    let c = st[h - 1];
+    if c == 0 {
+        return Move::Go(2, h - 1, t);
+    }
+    if c < MANY {
+        return Move::Go(2 + d, h, t);
+    }
+    Move::Ended(Cause::Conflict)
+}
+
+// Raises empty, with so many bytes of the block left behind the raise.
+fn raise(left: usize, st: &[u64], h: usize, tr: &[usize], t: usize) -> Move
+    requires { ⌜ Room h t (now st) (now tr) ⌝ }
+    ensures { λ r. ⌜ ((m : Memory)
+        → Moves r 0 (now (st .entry)) (now (tr .entry)) m (raised left (entries (now (st .entry)) h) (opened (now (tr .entry)) t) m)) ⌝ }
+{
+    let mut i = t;
+    while 0 < i {
+        i -= 1;
+        let land = tr[i * 2];
+        if land <= left {
+            let keep = tr[i * 2 + 1];
+            if keep <= h {
+                return Move::Go(left - land, keep, i);
+            }
+            return Move::Stuck;
+        }
+    }
+    Move::Ended(Cause::Empty)
+}
+
+// How many bytes of the block remain where a try of distance d lands.
+fn landing(left: usize, d: usize) -> usize
+    requires { ⌜ d < 65536 ⌝ }
+    ensures { λ r. ⌜ r ≡ left - 2 - d ⌝ }
+{
+    if left < 2 + d {
+        return 0;
+    }
+    left - (2 + d)
+}
+
+// Opens a try that lands d bytes behind the instruction, of whose block so many bytes are left behind the kind.
+fn begin_try(left: usize, d: usize, h: usize, tr: &mut [usize], t: usize) -> Move
+    requires { ⌜ (t ≤ 512) × (t * 2 ≤ length (now tr)) × (d < 65536) ⌝ }
+    ensures { λ r. ⌜ ((st : List ℕ) (m : Memory) → (h ≤ length st) × (h ≤ 1024)
+        → Moves r 2 st (now (tr .exit)) m (tried (left - 2 - d) (entries st h) (opened (now (tr .entry)) t) m)) ⌝ }
+{
+    if TRIES <= t {
+        return Move::Stuck;
+    }
+    if tr.len() - t * 2 < 2 {
+        return Move::NoRoom;
+    }
+    tr[t * 2] = landing(left, d);
+    tr[t * 2 + 1] = h;
+    Move::Go(2, h, t + 1)
+}
+
+// Closes the latest try.
+fn end_try(h: usize, t: usize) -> Move
+    ensures { λ r. ⌜ ((st tr : List ℕ) (m : Memory) → Room h t st tr
+        → Moves r 0 st tr m (closed (entries st h) (opened tr t) m)) ⌝ }
+{
+    if t == 0 {
+        Move::Stuck
+    } else {
+        Move::Go(0, h, t - 1)
+    }
+}
+
+// The entry of the value in a cell.
+fn value_cell(c: u64) -> u64
+    ensures { λ r. ⌜ entryOf r ≡ One (held (givenOf c)) ⌝ }
+{
+    if c == 0 {
+        return 1;
+    }
+    if c < 3 {
+        return c;
+    }
+    (c - 3) % 4294967296 + 3
+}
+
+pub fn first(rest: &[u8]) -> usize
+    ensures { λ r. ⌜ r ≡ getD (now (rest .entry)) 0 0 ⌝ }
+{
+    byte_at(rest, 0) as usize
+}
+
+fn second(rest: &[u8]) -> usize
+    ensures { λ r. ⌜ r ≡ getD (now (rest .entry)) 1 0 ⌝ }
+{
+    byte_at(rest, 1) as usize
+}
+
+// A distance that stands behind so many bytes.
+fn distance(rest: &[u8], at: usize) -> usize
+    ensures { λ r. ⌜ (r ≡ bigEndian 2 (now (rest .entry)) at) × (r < 65536) ⌝ }
+{
+    distance_at(rest, at)
+}
+
+fn push_truth(rest: &[u8], st: &mut [u64], h: usize, t: usize) -> Move
+    ensures { λ r. ⌜ ((tr : List ℕ) (m : Memory) → Room h t (now (st .entry)) tr
+        → Moves r 1 (now (st .exit)) tr m
+        (pushed (One (Value.Truth (eqb (getD (now (rest .entry)) 0 0) 1))) (entries (now (st .entry)) h) (opened tr t) m)) ⌝ }
+{
+    push(st, h, encode(Value::Truth(byte_at(rest, 0) == 1)), 1, t)
+}
+
+fn push_number(rest: &[u8], st: &mut [u64], h: usize, t: usize) -> Move
+    ensures { λ r. ⌜ ((tr : List ℕ) (m : Memory) → Room h t (now (st .entry)) tr
+        → Moves r 4 (now (st .exit)) tr m
+        (pushed (One (Value.Number (numberAt (now (rest .entry)) 0))) (entries (now (st .entry)) h) (opened tr t) m)) ⌝ }
+{
+    push(st, h, encode(Value::Number(number_at(rest, 0))), 4, t)
+}
+
+// Pushes own variable x.
+fn read_own(x: usize, own: &[u64], st: &mut [u64], h: usize, t: usize) -> Move
+    requires { ⌜ x < length (now own) ⌝ }
+    ensures { λ r. ⌜ ((flags tr : List ℕ) (m : Memory) → Room h t (now (st .entry)) tr
+        → Moves r 1 (now (st .exit)) tr m (readFrom (ownCell (now (own .entry)) flags x) (entries (now (st .entry)) h) (opened tr t) m)) ⌝ }
+{
+    let c = own[x];
+    if c == 0 {
+        return Move::Stuck;
+    }
+    push(st, h, value_cell(c), 1, t)
+}
+
+// Pushes variable x of sub-scope k.
+fn read_called(
+    k: usize,
+    x: usize,
+    marks: &[u64],
+    called: &[u64],
+    st: &mut [u64],
+    h: usize,
+    t: usize,
+) -> Move
+    requires { ⌜ (k < 8) × (x < 32) × (length (now marks) ≡ 8) × (length (now called) ≡ 256) ⌝ }
+    ensures { λ r. ⌜ ((n : ℕ) (tr : List ℕ) (m : Memory) → x < n → Room h t (now (st .entry)) tr
+        → Moves r 2 (now (st .exit)) tr m
+        (readIn (calleeAt (now (called .entry)) (now (marks .entry)) n k) x (entries (now (st .entry)) h) (opened tr t) m)) ⌝ }
+{
+    if marks[k] == 0 {
+        return Move::Stuck;
+    }
+    push(st, h, value_cell(called[k * 32 + x]), 2, t)
+}
+
+// Stores into own variable x of a type.
+fn store(
+    wanted: ValueType,
+    x: usize,
+    st: &[u64],
+    h: usize,
+    t: usize,
+    own: &mut [u64],
+    flags: &mut [u8],
+) -> Move
+    requires { ⌜ (h ≤ length (now st)) × (h ≤ 1024) × (x < length (now own)) × (x < length (now flags)) ⌝ }
+    ensures { λ r. ⌜ Storing wanted x (now (st .entry)) h t (now (own .entry)) (now (flags .entry)) r (now (own .exit)) (now (flags .exit)) ⌝ }
+{
+    match top_value(st, h) {
+        Given::Absent => Move::Stuck,
+        Given::Present(v) => {
+            if !has_type(wanted, v) {
+                return Move::Stuck;
+            }
+            if own[x] != 0 {
+                return Move::Stuck;
+            }
+            own[x] = encode(v);
+            flags[x] = 1;
+            Move::Go(1, h - 1, t)
+        }
+    }
+}
+
+// Hands over to variable x, of a type, of sub-scope k.
+fn hand_over(
+    wanted: ValueType,
+    k: usize,
+    x: usize,
+    st: &[u64],
+    h: usize,
+    t: usize,
+    marks: &[u64],
+    called: &mut [u64],
+) -> Move
+    requires { ⌜ (h ≤ length (now st)) × (h ≤ 1024) × (k < 8) × (x < 32) × (length (now marks) ≡ 8) × (length (now called) ≡ 256) ⌝ }
+    ensures { λ r. ⌜ Handing wanted k x (now (st .entry)) h t (now (marks .entry)) (now (called .entry)) r (now (called .exit)) ⌝ }
+{
+    match top_value(st, h) {
+        Given::Absent => Move::Stuck,
+        Given::Present(v) => {
+            if !has_type(wanted, v) {
+                return Move::Stuck;
+            }
+            if marks[k] != 0 {
+                return Move::Stuck;
+            }
+            let at = k * 32 + x;
+            if called[at] != 0 {
+                return Move::Stuck;
+            }
+            called[at] = encode(v);
+            Move::Go(2, h - 1, t)
+        }
+    }
+}
+
+// Jumps where own variable x is given.
+fn jump_if_given(x: usize, d: usize, own: &[u64], flags: &[u8], h: usize, t: usize) -> Move
+    requires { ⌜ (x < length (now own)) × (x < length (now flags)) × (d < 65536) ⌝ }
+    ensures { λ r. ⌜ ((st tr : List ℕ) (m : Memory) → Room h t st tr
+        → Moves r 3 st tr m (jumpedIfGiven (ownCell (now (own .entry)) (now (flags .entry)) x) d (entries st h) (opened tr t) m)) ⌝ }
+{
+    if own[x] == 0 {
+        return Move::Go(3, h, t);
+    }
+    if flags[x] == 0 {
+        return Move::Go(3 + d, h, t);
+    }
+    Move::Go(3, h, t)
+}
+
+// The type of variable x of block p.
+fn type_at(heads: &[u8], p: usize, x: usize) -> ValueType
+    requires { ⌜ (p < 32) × (x < 32) ⌝ }
+    ensures { λ r. ⌜ r ≡ typeIn (now (heads .entry)) p x ⌝ }
+{
+    type_of(byte_at(heads, p * 48 + 3 + x))
+}
+
+// The block of sub-scope k of block p.
+pub fn block_of(heads: &[u8], places: &[u8], p: usize, k: usize) -> usize
+    requires { ⌜ (p < 32) × (k < 8) ⌝ }
+    ensures { λ r. ⌜ r ≡ blockIn (now (heads .entry)) (now (places .entry)) p k ⌝ }
+{
+    let place = byte_at(places, byte_at(heads, p * 48 + 35 + k) as usize) as usize;
+    if place == 0 {
+        return 0;
+    }
+    place - 1
+}
+
+// Hands over to the variable that an instruction names.
+fn override_at(
+    rest: &[u8],
+    heads: &[u8],
+    places: &[u8],
+    p: usize,
+    marks: &[u64],
+    st: &[u64],
+    h: usize,
+    t: usize,
+    called: &mut [u64],
+) -> Move
+    requires { ⌜ OverrideAt (now rest) (now heads) (now places) p (now marks) (now st) h (now called) ⌝ }
+    ensures { λ r. ⌜ Handing (typeIn (now (heads .entry)) (blockIn (now (heads .entry)) (now (places .entry)) p (getD (now (rest .entry)) 0 0)) (getD (now (rest .entry)) 1 0))
+        (getD (now (rest .entry)) 0 0) (getD (now (rest .entry)) 1 0) (now (st .entry)) h t (now (marks .entry)) (now (called .entry)) r (now (called .exit)) ⌝ }
+{
+    let k = first(rest);
+    let x = second(rest);
+    let q = block_of(heads, places, p, k);
+    hand_over(type_at(heads, q, x), k, x, st, h, t, marks, called)
+}
+
+// Does an instruction other than the entry of a sub-scope, by its kind and the bytes of the block behind it.
+pub fn step(
+    kind: u8,
+    rest: &[u8],
+    heads: &[u8],
+    places: &[u8],
+    p: usize,
+    marks: &[u64],
+    st: &mut [u64],
+    h: usize,
+    tr: &mut [usize],
+    t: usize,
+    own: &mut [u64],
+    flags: &mut [u8],
+    called: &mut [u64],
+) -> Move
+    requires { ⌜ Stepping (now heads) (now places) p kind (now rest) (now st) h (now tr) t (now own) (now flags) (now called) (now marks) ⌝ }
+    ensures { λ r. ⌜ Stepped (now (heads .entry)) (now (places .entry)) p kind (now (rest .entry)) (now (st .entry)) h (now (tr .entry)) t
+        (now (own .entry)) (now (flags .entry)) (now (called .entry)) (now (marks .entry))
+        r (now (st .exit)) (now (tr .exit)) (now (own .exit)) (now (flags .exit)) (now (called .exit)) ⌝ }
+{
+    match kind {
+        4 => push_truth(rest, st, h, t),
+        5 => push_number(rest, st, h, t),
+        6 => read_own(first(rest), own, st, h, t),
+        7 => read_called(first(rest), second(rest), marks, called, st, h, t),
+        10 => unary(Unary::Not, st, h, t),
+        11 => unary(Unary::Negate, st, h, t),
+        12 => binary(Binary::And, st, h, t),
+        13 => binary(Binary::Add, st, h, t),
+        14 => binary(Binary::Subtract, st, h, t),
+        15 => binary(Binary::Equal, st, h, t),
+        16 => binary(Binary::Less, st, h, t),
+        32 => raise(rest.len(), st, h, tr, t),
+        33 => Move::Ended(Cause::Conflict),
+        34 => Move::Go(2 + distance(rest, 0), h, t),
+        35 => branch(distance(rest, 0), st, h, t),
+        36 => begin_try(rest.len(), distance(rest, 0), h, tr, t),
+        37 => end_try(h, t),
+        38 => push(st, h, 0, 0, t),
+        39 => join_top(st, h, t),
+        40 => settle(distance(rest, 0), st, h, t),
+        41 => store(
+            type_at(heads, p, first(rest)),
+            first(rest),
+            st,
+            h,
+            t,
+            own,
+            flags,
+        ),
+        42 => override_at(rest, heads, places, p, marks, st, h, t, called),
+        44 => jump_if_given(first(rest), distance(rest, 1), own, flags, h, t),
+        _ => Move::Stuck,
+    }
+}
