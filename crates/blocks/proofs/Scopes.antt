@@ -34,7 +34,7 @@ use Rattle.machine.specs.Acceptance.{accepted}
 use Rattle.machine.specs.Machine.{ran}
 use Rattle.machine.specs.Run.{exec, begin, surroundings, runIn, cellOf}
 use Rattle.verifier.specs.Tables.{blockAt, blockCount, Tabled}
-use Rattle.blocks.specs.Views.{tab, givensAt, valuesIn}
+use Rattle.instructions.specs.Views.{tab, givensAt, valuesIn}
 use Rattle.blocks.specs.Entries.{back, runAt}
 use Rattle.blocks.proofs.Invariant.{CellFits, GivensFit, run-cons}
 use Rattle.blocks.proofs.Blocks.{back-all, has-place, found-at}

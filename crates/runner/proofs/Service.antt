@@ -39,7 +39,7 @@ use Rattle.verifier.specs.Tables.{blockAt, blockCount, Room}
 use Rattle.verifier.specs.Pass.{Judged}
 use Rattle.verifier.specs.declared.Verdict.{Verdict}
 use Rattle.verifier.specs.declared.Verdict.the-variants as verdict
-use Rattle.blocks.specs.Views.{givensAt}
+use Rattle.instructions.specs.Views.{givensAt}
 use Rattle.blocks.specs.Entries.{runAt, variablesAt, Entry, CameTo}
 use Rattle.blocks.specs.declared.Ran.{Ran}
 use Rattle.blocks.specs.declared.Ran.the-variants as ran

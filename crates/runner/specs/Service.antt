@@ -12,7 +12,7 @@ use Rattle.evaluation.specs.declared.Answer.{Answer}
 use Rattle.machine.specs.Acceptance.{accepted}
 use Rattle.machine.specs.Service.{reply, run}
 use Rattle.verifier.specs.Tables.{blockAt, blockCount, Tabled, Room}
-use Rattle.blocks.specs.Views.{givensAt}
+use Rattle.instructions.specs.Views.{givensAt}
 use Rattle.blocks.specs.Entries.{runAt, variablesAt}
 
 -- the answer and the memory are those of running
