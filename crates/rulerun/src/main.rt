@@ -1,10 +1,10 @@
 // Evaluates standard input: book length (2 bytes, high first), book, scope byte, inputs. Prints the outcome and the count of scopes
 // entered, then number and value of each variable.
-use calculus::Cause;
 use calculus::magnitude;
-use capi::refusal_number;
-use evaluation::Answer;
-use evaluator::evaluate;
+use engine::Answer;
+use engine::Cause;
+use engine::evaluate;
+use engine::refusal_number;
 use libc::STDIN_FILENO;
 use libc::STDOUT_FILENO;
 use record::byte_at;
