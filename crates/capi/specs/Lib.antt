@@ -1,3 +1,3 @@
 pub mod Packed
-pub mod Evaluated
+pub mod Replies
 pub mod Compiled

@@ -1,7 +1,5 @@
 -- Answers as one number of 64 bits: the refusal in the highest byte.
 use Prim.Native.Nat.{ℕ, _+_, _*_, _%_}
-use Rattle.calculus.specs.declared.Cause.{Cause}
-use Rattle.calculus.specs.declared.Cause.the-variants.{Empty, Conflict, OutOfRange}
 use Rattle.book.specs.Judge.{faultNumber}
 use Rattle.book.specs.declared.Judged.{Judged}
 use Rattle.book.specs.declared.Judged.the-variants as judged
@@ -10,6 +8,7 @@ use Rattle.evaluation.specs.declared.Answer.{Answer}
 use Rattle.evaluation.specs.declared.Answer.the-variants.{Values, Ended, Refused}
 use Rattle.compiler.specs.declared.Compiled.{Compiled}
 use Rattle.compiler.specs.declared.Compiled.the-variants as compiled
+use Rattle.engine.specs.Numbers.{causeNumber}
 
 -- refusal * 2^56 + number of scopes
 abbrev pub packedJudged : Judged → ℕ
@@ -20,12 +19,6 @@ packedJudged (judged.Refused f) = faultNumber f * 72057594037927936
 abbrev pub packedCompiled : Compiled → ℕ
 packedCompiled (compiled.Written n) = n
 packedCompiled (compiled.Refused r) = refusalNumber r * 72057594037927936
-
--- outcome 0 values, 1 empty, 2 conflict, 3 out of range
-abbrev pub causeNumber : Cause → ℕ
-causeNumber Empty = 1
-causeNumber Conflict = 2
-causeNumber OutOfRange = 3
 
 -- refusal * 2^56 + outcome * 2^48 + count * 2^32 + length; a count is at most 4,096 and a length at most 192
 abbrev pub packedAnswer : Answer → ℕ

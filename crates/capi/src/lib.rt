@@ -1,19 +1,19 @@
 // The services as functions that C and Rust can call. A slice is passed as a pointer and a length.
-use book::Judged;
-use calculus::Cause;
-use compiler::Compiled;
-use compiler::compile;
-use evaluation::Answer;
-use evaluation::Refusal;
-use evaluator::evaluate;
-use judge::fault_number;
-use judge::judge;
+use engine::Answer;
+use engine::Compiled;
+use engine::Judged;
+use engine::cause_number;
+use engine::compile;
+use engine::evaluate;
+use engine::fault_number;
+use engine::judge;
+use engine::refusal_number;
+use engine::run;
 ghost use mathlib.Core.Path.{_≡_};
 ghost use lib.ListN.{length};
 ghost use Rattle.book.specs.Judge.{judge as Judge·judge};
-ghost use Rattle.evaluation.specs.Evaluate.{refusalNumber};
-ghost use Rattle.capi.specs.Packed.{packedJudged, packedCompiled, packedAnswer, causeNumber};
-ghost use Rattle.capi.specs.Evaluated.{PackedEvaluation};
+ghost use Rattle.capi.specs.Packed.{packedJudged, packedCompiled, packedAnswer};
+ghost use Rattle.capi.specs.Replies.{PackedEvaluation, PackedRun};
 ghost use Rattle.capi.specs.Compiled.{PackedCompilation};
 
 fn wide(b: u8) -> u64
@@ -33,20 +33,6 @@ pub extern "C" fn engine_judge(book: &[u8]) -> u64
     }
 }
 
-// The paper's number of a refusal.
-pub fn refusal_number(r: Refusal) -> u8
-    ensures { λ n. ⌜ n ≡ refusalNumber r ⌝ }
-{
-    match r {
-        Refusal::Book(f) => fault_number(f),
-        Refusal::NoSuchScope => 13,
-        Refusal::BadInput => 14,
-        Refusal::BufferTooSmall => 15,
-        Refusal::BadCode => 16,
-        Refusal::Stuck => 17,
-    }
-}
-
 // What compiling answers, as one number.
 fn pack_compiled(c: Compiled) -> u64
     ensures { λ r. ⌜ r ≡ packedCompiled c ⌝ }
@@ -63,17 +49,6 @@ pub extern "C" fn engine_compile(book: &[u8], code: &mut [u8]) -> u64
     ensures { λ r. ⌜ PackedCompilation (now (book .entry)) (now (code .entry)) r (now (code .exit)) ⌝ }
 {
     pack_compiled(compile(book, code))
-}
-
-// The number of an outcome without values.
-fn cause_number(c: Cause) -> u8
-    ensures { λ n. ⌜ n ≡ causeNumber c ⌝ }
-{
-    match c {
-        Cause::Empty => 1,
-        Cause::Conflict => 2,
-        Cause::OutOfRange => 3,
-    }
 }
 
 // An answer as one number.
@@ -101,4 +76,12 @@ pub extern "C" fn engine_evaluate(
         ⌜ PackedEvaluation (now (book .entry)) scope (now (inputs .entry)) (now (results .entry)) r (now (results .exit)) ⌝ }
 {
     pack(evaluate(book, scope, inputs, results))
+}
+
+// Runs a scope of code, judging the code first: as engine_evaluate.
+#[no_mangle]
+pub extern "C" fn engine_run(code: &[u8], scope: usize, inputs: &[u8], results: &mut [u8]) -> u64
+    ensures { λ r. ⌜ PackedRun (now (code .entry)) scope (now (inputs .entry)) (now (results .entry)) r (now (results .exit)) ⌝ }
+{
+    pack(run(code, scope, inputs, results))
 }

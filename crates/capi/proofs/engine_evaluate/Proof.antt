@@ -1,8 +1,8 @@
 -- `capi::engine_evaluate` meets its contract.
 -- Assumes nothing.
-use Rattle.capi.specs.Packed.{packedAnswer}
-use mathlib.Core.Path.{_∙_, ap}
 use borrow.Author.Needs.{needs}
+use Rattle.evaluation.specs.Evaluate.{evaluate}
+use Rattle.capi.proofs.Replies.{packed}
 use Rattle.capi.proofs.engine_evaluate.Statement.{statement}
 use Rattle.capi.proofs.engine_evaluate.Tie as tie
 
@@ -17,7 +17,8 @@ same-length c = search needs
 
 returns : tie.Need-returns
 returns c =
-    record { answer = c .pack .ensures ∙ ap packedAnswer (c .before .before .before .evaluate .ensures .answer); memory = c .before .before .before .evaluate .ensures .memory }
+    packed (evaluate _ _ _) _ _ _ _ (c .before .before .before .evaluate .ensures .answer) (c .before .before .before .evaluate .ensures .memory)
+    (c .pack .ensures)
 
 pub engine-evaluate-spec : {M : Type 1} → statement M
 engine-evaluate-spec = tie.close (tie.spec evaluate-requires pack-requires same-length returns)
