@@ -4,9 +4,11 @@ use super::books::{any_book, book, Plan};
 use super::damage::{damage, noise};
 use super::draft::{results_length, Draft};
 use super::faults::{self, fault, WAYS};
-use super::handmade::handmade;
+use super::handmade::{handmade, Handmade};
 use super::inputs;
 use super::random::Random;
+use super::sequences::sequence;
+use super::spoiled::{self, spoil};
 use super::stuck::Directed;
 use super::terms::Term;
 use super::{badcode, shapes, stuck, terms};
@@ -52,6 +54,29 @@ impl Mix {
             95..=97 => self.directed_run(rng),
             _ => self.unaccepted_run(rng),
         }
+    }
+
+    /// Runs of code that no compiler wrote, some of them on a scope, inputs or a room
+    /// that do not fit.
+    pub fn foreign_code(&self, seed: u64) -> Case {
+        let rng = &mut Random::new(seed);
+        let mut case = match rng.below(100) {
+            0..=9 => run_bytes(noise(rng)),
+            10..=29 => sequence_run(rng),
+            30..=49 => handmade_run(rng),
+            50..=79 => spoiled_run(rng),
+            80..=87 => damaged_run(rng),
+            88..=94 => self.directed_run(rng),
+            _ => self.unaccepted_run(rng),
+        };
+        match rng.below(12) {
+            0 => case.scope = rng.pick(&[0, 1, 31, 32, 255, 256, 1 << 40, usize::MAX]),
+            1 => case.inputs = noise(rng),
+            2 => case.room = rng.below(case.room + 1),
+            3 => case.room = 0,
+            _ => return case,
+        }
+        case.expecting(Expected::Anything)
     }
 
     fn directed_run(&self, rng: &mut Random) -> Case {
@@ -228,8 +253,7 @@ fn any_bytes(rng: &mut Random) -> Case {
     if rng.percent(60) {
         return on_book(rng, "random bytes", bytes);
     }
-    let scope = bytes.get(1).map_or(0, |&number| usize::from(number));
-    Case::new("random bytes", Service::Run, bytes).asking(scope, Vec::new(), 200)
+    run_bytes(bytes)
 }
 
 /// The code of an accepted book, run.
@@ -255,9 +279,36 @@ fn damaged_run(rng: &mut Random) -> Case {
 
 fn handmade_run(rng: &mut Random) -> Case {
     let made = handmade(rng);
+    well_formed(rng, "hand-made code", made)
+}
+
+fn sequence_run(rng: &mut Random) -> Case {
+    let made = sequence(rng);
+    well_formed(rng, "well-formed code", made)
+}
+
+/// Accepted code, run on the scope it names.
+fn well_formed(rng: &mut Random, label: &'static str, made: Handmade) -> Case {
     let list = inputs::good(rng, &made.types);
     let room = enough(rng, results_length(&made.types));
-    Case::new("hand-made code", Service::Run, made.code)
+    Case::new(label, Service::Run, made.code)
         .expecting(Expected::Accepted)
         .asking(made.scope, list, room)
+}
+
+/// Random bytes run as code.
+fn run_bytes(bytes: Vec<u8>) -> Case {
+    let scope = bytes.get(1).map_or(0, |&number| usize::from(number));
+    Case::new("random bytes", Service::Run, bytes).asking(scope, Vec::new(), 200)
+}
+
+/// Compiled code with one thing wrong, run.
+fn spoiled_run(rng: &mut Random) -> Case {
+    let draft = any_book(rng);
+    let mut code = code_of(&draft.bytes()).unwrap_or_default();
+    let way = rng.below(spoiled::WAYS);
+    spoil(rng, &mut code, way);
+    let (scope, types) = asked(rng, &draft);
+    let list = inputs::good(rng, &types);
+    Case::new("spoiled code", Service::Run, code).asking(scope, list, 200)
 }

@@ -11,9 +11,13 @@ pub mod faults;
 pub mod fixed;
 pub mod handmade;
 pub mod inputs;
+pub mod long;
 pub mod mix;
+pub mod named;
 pub mod random;
+pub mod sequences;
 pub mod shapes;
+pub mod spoiled;
 pub mod stdin;
 pub mod stuck;
 pub mod terms;
@@ -24,6 +28,8 @@ use crate::{compile, evaluate, judge, run};
 use std::sync::OnceLock;
 
 pub use fixed::fixed;
+pub use long::long;
+pub use named::named;
 pub use stdin::standard_input;
 
 use mix::Mix;
@@ -130,8 +136,17 @@ impl Case {
     }
 }
 
+fn mix() -> &'static Mix {
+    static MIX: OnceLock<Mix> = OnceLock::new();
+    MIX.get_or_init(Mix::new)
+}
+
 /// The case of a seed; the same one for the same seed.
 pub fn case(seed: u64) -> Case {
-    static MIX: OnceLock<Mix> = OnceLock::new();
-    MIX.get_or_init(Mix::new).case(seed)
+    mix().case(seed)
+}
+
+/// The case of a seed among runs of code that no compiler wrote.
+pub fn foreign_code(seed: u64) -> Case {
+    mix().foreign_code(seed)
 }

@@ -53,6 +53,8 @@ const LABELS: &[&str] = &[
     "compiled code",
     "damaged code",
     "hand-made code",
+    "well-formed code",
+    "spoiled code",
     "directed code",
     "code of the acceptance table",
 ];
@@ -220,7 +222,7 @@ fn expected_outcomes() -> Vec<(Service, u8)> {
 }
 
 /// Each cause with each kind that meets it; 0 is the end of a block.
-fn expected_stuck() -> Vec<Stuck> {
+pub fn expected_stuck() -> Vec<Stuck> {
     use StuckCause::*;
     let table: &[(StuckCause, &[u8])] = &[
         (
@@ -248,7 +250,8 @@ fn expected_stuck() -> Vec<Stuck> {
     pairs.collect()
 }
 
-fn expected_code_faults() -> Vec<CodeFault> {
+/// Each cause of refusal 16, with each kind that meets it where the kind matters.
+pub fn expected_code_faults() -> Vec<CodeFault> {
     use CodeFault::*;
     let mut all = vec![
         Truncated,

@@ -4,9 +4,11 @@
 mod checks;
 mod coverage;
 
-use crate::cases::{case, fixed, standard_input, Case};
+use crate::cases::{case, fixed, foreign_code, standard_input, Case};
 use coverage::Coverage;
 use std::panic::{catch_unwind, AssertUnwindSafe};
+
+pub use coverage::{expected_code_faults, expected_stuck};
 
 /// Most failures that are printed in full.
 const SHOWN: usize = 20;
@@ -64,12 +66,18 @@ pub fn selfcheck(random: u64) -> (usize, usize) {
         let result = checked(|| checks::check(&case, &mut coverage));
         tally.count(|| format!("seed {seed}, {}", described(&case)), result);
     }
+    for seed in 0..random / 4 {
+        let case = foreign_code(seed);
+        let result = checked(|| checks::check(&case, &mut coverage));
+        tally.count(|| format!("code {seed}, {}", described(&case)), result);
+    }
     for seed in 0..random / 20 {
         let bytes = standard_input(seed);
         let result = checked(|| checks::check_rulerun(&bytes, &mut coverage));
         tally.count(|| format!("standard input {seed}"), result);
     }
-    println!("{} fixed cases, {random} random cases", fixed.len());
+    let (fixed, codes) = (fixed.len(), random / 4);
+    println!("{fixed} fixed cases, {random} random cases, {codes} codes that no compiler wrote");
     coverage.print();
     for (class, hits) in coverage.classes() {
         let met = if hits > 0 {
