@@ -20,6 +20,15 @@ extern "C" {
         code: *mut u8,
         code_length: usize,
     ) -> u64;
+    fn engine_run(
+        code: *const u8,
+        code_length: usize,
+        scope: usize,
+        inputs: *const u8,
+        inputs_length: usize,
+        results: *mut u8,
+        results_length: usize,
+    ) -> u64;
 }
 
 const REFUSAL: u32 = 56;
@@ -79,4 +88,20 @@ pub fn compile(book: &[u8], code: &mut [u8]) -> Result<usize, u8> {
     let packed =
         unsafe { engine_compile(book.as_ptr(), book.len(), code.as_mut_ptr(), code.len()) };
     unpack(packed).map(|length| length as usize)
+}
+
+/// Outcome, count and length, or the refusal; the results are written to the memory lent.
+pub fn run(code: &[u8], scope: usize, inputs: &[u8], results: &mut [u8]) -> Result<Answer, u8> {
+    let packed = unsafe {
+        engine_run(
+            code.as_ptr(),
+            code.len(),
+            scope,
+            inputs.as_ptr(),
+            inputs.len(),
+            results.as_mut_ptr(),
+            results.len(),
+        )
+    };
+    unpack(packed).map(answer)
 }

@@ -5,25 +5,29 @@
 use crate::engine;
 use crate::tally::{Done, Tally};
 use second::cases::{lend, Case};
-use second::{Answer, Outcome};
+use second::Answer;
+
+pub const OUTCOMES: [&str; 4] = ["values", "empty", "conflict", "range"];
+
+/// How an evaluation or a run ended.
+pub fn outcome(answer: Answer) -> &'static str {
+    OUTCOMES[answer.outcome as usize]
+}
 
 fn shown(answer: Result<Answer, u8>) -> String {
     match answer {
-        Ok(answer) => match answer.outcome {
-            Outcome::Values => "values".to_string(),
-            Outcome::Empty => "empty".to_string(),
-            Outcome::Conflict => "conflict".to_string(),
-            Outcome::OutOfRange => "range".to_string(),
-        },
+        Ok(answer) => outcome(answer).to_string(),
         Err(refusal) => format!("refused {refusal}"),
     }
 }
 
-type Evaluate = fn(&[u8], usize, &[u8], &mut [u8]) -> Result<Answer, u8>;
+/// Evaluating or running.
+pub type Service = fn(&[u8], usize, &[u8], &mut [u8]) -> Result<Answer, u8>;
 
-fn done(evaluate: Evaluate, case: &Case) -> Done<Result<Answer, u8>> {
+/// What a service does on bytes, scope, inputs and room of a case.
+pub fn done(service: Service, case: &Case) -> Done<Result<Answer, u8>> {
     let mut memory = lend(case.room);
-    let answer = evaluate(&case.bytes, case.scope, &case.inputs, &mut memory);
+    let answer = service(&case.bytes, case.scope, &case.inputs, &mut memory);
     Done { answer, memory }
 }
 
@@ -36,9 +40,9 @@ fn compare(tally: &mut Tally, case: &Case, label: &str) {
 /// All fixed cases and `random` generated ones; each answer must be met.
 pub fn run(random: u64) -> bool {
     let mut tally = Tally::of_cases(random, compare);
-    for outcome in ["values", "empty", "conflict", "range"] {
-        tally.expect_met(outcome);
-    }
+    OUTCOMES
+        .iter()
+        .for_each(|outcome| tally.expect_met(outcome));
     (1..=15).for_each(|refusal| tally.expect_met(&format!("refused {refusal}")));
     tally.finish()
 }

@@ -6,12 +6,13 @@ mod engine;
 mod evaluating;
 mod family;
 mod judging;
+mod running;
 mod runs;
 mod tally;
 
 use std::process::ExitCode;
 
-const USAGE: &str = "compare judge CASES | compare evaluate CASES | compare compile CASES | compare runs PROGRAM STACK_KIB FILE | compare bench";
+const USAGE: &str = "compare judge CASES | compare evaluate CASES | compare compile CASES | compare run CASES | compare runs PROGRAM STACK_KIB FILE | compare bench";
 
 fn main() -> ExitCode {
     let words: Vec<String> = std::env::args().skip(1).collect();
@@ -20,6 +21,7 @@ fn main() -> ExitCode {
         ["judge", cases] => judging::run(cases.parse().expect(USAGE)),
         ["evaluate", cases] => evaluating::run(cases.parse().expect(USAGE)),
         ["compile", cases] => compiling::run(cases.parse().expect(USAGE)),
+        ["run", cases] => running::run(cases.parse().expect(USAGE)),
         ["runs", program, stack, file] => runs::run(program, stack.parse().expect(USAGE), file),
         ["bench"] => bench::run(),
         _ => {

@@ -83,3 +83,36 @@ impl Tally {
         self.failed == 0
     }
 }
+
+#[cfg(test)]
+mod tests {
+    use super::*;
+
+    fn agreed(ours: (u8, &[u8]), theirs: (u8, &[u8])) -> bool {
+        let done = |(answer, memory): (u8, &[u8])| Done {
+            answer,
+            memory: memory.to_vec(),
+        };
+        let mut tally = Tally::default();
+        tally.agree("an answer", (&done(ours), &done(theirs)), String::new);
+        tally.finish()
+    }
+
+    #[test]
+    fn another_answer_or_byte_is_a_failure() {
+        assert!(agreed((1, &[7, 8]), (1, &[7, 8])));
+        assert!(!agreed((1, &[7, 8]), (2, &[7, 8])));
+        assert!(!agreed((1, &[7, 8]), (1, &[7, 9])));
+        assert!(!agreed((1, &[7, 8]), (1, &[7])));
+    }
+
+    #[test]
+    fn an_answer_never_met_is_a_failure() {
+        let mut tally = Tally::default();
+        tally.count("met", Ok(()));
+        tally.expect_met("met");
+        assert!(tally.finish());
+        tally.expect_met("never met");
+        assert!(!tally.finish());
+    }
+}

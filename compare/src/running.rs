@@ -1,0 +1,195 @@
+//! Running: the engine's answer and memory and the second program's. Code that the
+//! engine compiled from accepted books, on every scope, is compared with evaluating too.
+//! Then code that no compiler wrote, and named code for each way of refusals 16 and 17.
+
+use crate::engine;
+use crate::evaluating::{done, outcome, OUTCOMES};
+use crate::tally::{Done, Tally};
+use second::cases::draft::{results_length, Draft};
+use second::cases::random::Random;
+use second::cases::{self, books, damage, inputs, lend, Case, Expected, Service, Success};
+use second::run::{observed_run, Denial};
+use second::selfcheck::{expected_code_faults, expected_stuck};
+use second::Answer;
+
+type Ran = Done<Result<Answer, u8>>;
+
+/// An answer of the second program, with the cause behind 16 and 17.
+fn shown(answer: Result<Answer, Denial>) -> String {
+    match answer {
+        Ok(answer) => outcome(answer).to_string(),
+        Err(denial) => refused(denial),
+    }
+}
+
+fn refused(denial: Denial) -> String {
+    let cause = match denial {
+        Denial::Refused(_) => String::new(),
+        Denial::BadCode(fault) => format!(", {fault:?}"),
+        Denial::Stuck(stuck) => format!(", {:?} at kind {}", stuck.cause, stuck.kind),
+    };
+    format!("refused {}{cause}", u8::from(denial))
+}
+
+fn described(case: &Case, label: &str) -> String {
+    let (all, shown) = (case.bytes.len(), case.bytes.len().min(1_000));
+    let (scope, inputs, room) = (case.scope, &case.inputs, case.room);
+    let code = &case.bytes[..shown];
+    format!("{label}, scope {scope}, inputs {inputs:02x?}, room {room}, {all} bytes: {code:02x?}")
+}
+
+/// One run by both; what the engine did, and why the second program refused.
+fn compare(tally: &mut Tally, case: &Case, label: &str) -> (Ran, Option<Denial>) {
+    let ours = done(engine::run, case);
+    let mut memory = lend(case.room);
+    let ran = observed_run(&case.bytes, case.scope, &case.inputs, &mut memory, ());
+    let theirs = Done {
+        answer: ran.map_err(u8::from),
+        memory,
+    };
+    let on = || described(case, label);
+    tally.agree(&shown(ran), (&ours, &theirs), on);
+    (ours, ran.err())
+}
+
+fn run_of(bytes: Vec<u8>) -> Case {
+    Case {
+        label: "",
+        service: Service::Run,
+        bytes,
+        scope: 0,
+        inputs: Vec::new(),
+        room: 0,
+        expected: Expected::Anything,
+    }
+}
+
+/// The code that the engine compiles from an accepted book, of at most 16 bytes for each
+/// of the book's; a refusal is a failure.
+fn compiled(tally: &mut Tally, book: &[u8], label: &str) -> Vec<u8> {
+    let mut code = vec![0; 16 * book.len()];
+    let written = engine::compile(book, &mut code);
+    code.truncate(written.unwrap_or(0));
+    let on = |refusal| format!("{label}: compiling is refused with {refusal}: {book:02x?}");
+    tally.count("compiled", written.map(|_| ()).map_err(on));
+    code
+}
+
+/// A book and its code, each as the case of its service.
+struct Pair<'a> {
+    book: Case,
+    code: Case,
+    label: &'a str,
+}
+
+impl Pair<'_> {
+    fn of<'a>(tally: &mut Tally, book: &[u8], label: &'a str) -> Pair<'a> {
+        Pair {
+            book: run_of(book.to_vec()),
+            code: run_of(compiled(tally, book, label)),
+            label,
+        }
+    }
+
+    /// Runs the code, and evaluates the book on the same: "equal result memories".
+    fn compare(&mut self, tally: &mut Tally, scope: usize, inputs: &[u8], room: usize) {
+        for case in [&mut self.book, &mut self.code] {
+            (case.scope, case.room) = (scope, room);
+            case.inputs = inputs.to_vec();
+        }
+        let (ran, _) = compare(tally, &self.code, self.label);
+        let evaluated = done(engine::evaluate, &self.book);
+        let difference = || {
+            let (run, evaluate) = (&ran.answer, &evaluated.answer);
+            let on = described(&self.book, self.label);
+            format!("run {run:?}, evaluated {evaluate:?}, or their memories: {on}")
+        };
+        let agreed = (ran == evaluated).then_some(()).ok_or_else(difference);
+        tally.count("as evaluated", agreed);
+    }
+}
+
+/// A generated book: each scope with a good list into memory of each length, and with a
+/// bad list; and scopes that are not there.
+fn compare_book(tally: &mut Tally, seed: u64) {
+    let rng = &mut Random::new(seed);
+    let draft: Draft = books::any_book(rng);
+    let label = format!("book of seed {seed}");
+    let mut pair = Pair::of(tally, &draft.bytes(), &label);
+    for (number, scope) in draft.scopes.iter().enumerate() {
+        let types = &scope.variables;
+        let exact = results_length(types);
+        let good = inputs::good(rng, types);
+        for room in [exact, exact.saturating_sub(1), exact + 7, 0] {
+            pair.compare(tally, number, &good, room);
+        }
+        let way = rng.below(inputs::WAYS);
+        let bad = inputs::bad(rng, types, way);
+        pair.compare(tally, number, &bad, rng.below(exact + 2));
+    }
+    let count = draft.scopes.len();
+    let absent = rng.pick(&[count + 1, 31, 32, 255, 256, 1 << 32, usize::MAX]);
+    for number in [count, absent.max(count)] {
+        pair.compare(tally, number, &damage::noise(rng), rng.below(40));
+    }
+}
+
+/// A fixed case: its bytes as code, and the code of what is an accepted book.
+fn compare_fixed(tally: &mut Tally, case: &Case) {
+    compare(tally, case, case.label);
+    if engine::judge(&case.bytes).is_ok() {
+        let mut pair = Pair::of(tally, &case.bytes, case.label);
+        pair.compare(tally, case.scope, &case.inputs, case.room);
+    }
+}
+
+/// Code with a name: refused by both, for the cause that the name says.
+fn compare_named(tally: &mut Tally, named: cases::named::Named) {
+    let mut case = run_of(named.code);
+    (case.scope, case.inputs, case.room) = (named.scope, named.inputs, 200);
+    let (_, denial) = compare(tally, &case, named.name);
+    let other = || format!("{}: {denial:?}, not {:?}", named.name, named.denial);
+    let caused = (denial == Some(named.denial))
+        .then_some(())
+        .ok_or_else(other);
+    tally.count(named.name, caused);
+}
+
+/// A megabyte of code, with the answer that is expected of it.
+fn compare_long(tally: &mut Tally, case: &Case) {
+    let label = format!("a megabyte, {}", case.label);
+    let (ran, _) = compare(tally, case, &label);
+    let other = || format!("{label}: {:?}, not {:?}", ran.answer, case.expected);
+    let expected = case.is_expected(ran.answer.map(Success::Answer));
+    tally.count(&label, expected.then_some(()).ok_or_else(other));
+}
+
+/// All fixed and named cases, a megabyte of code, `random` generated codes that no
+/// compiler wrote and a fifth as many books; each answer and each cause must be met.
+pub fn run(random: u64) -> bool {
+    let mut tally = Tally::default();
+    cases::named()
+        .into_iter()
+        .for_each(|named| compare_named(&mut tally, named));
+    cases::fixed()
+        .iter()
+        .for_each(|case| compare_fixed(&mut tally, case));
+    for case in cases::long() {
+        compare_long(&mut tally, &case);
+    }
+    for seed in 0..random {
+        let case = cases::foreign_code(seed);
+        compare(&mut tally, &case, &format!("{} of seed {seed}", case.label));
+    }
+    (0..random / 5).for_each(|seed| compare_book(&mut tally, seed));
+    OUTCOMES
+        .iter()
+        .for_each(|outcome| tally.expect_met(outcome));
+    (13..=15).for_each(|refusal| tally.expect_met(&format!("refused {refusal}")));
+    let faults = expected_code_faults().into_iter().map(Denial::BadCode);
+    let stuck = expected_stuck().into_iter().map(Denial::Stuck);
+    faults
+        .chain(stuck)
+        .for_each(|denial| tally.expect_met(&refused(denial)));
+    tally.finish()
+}
