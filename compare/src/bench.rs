@@ -1,6 +1,7 @@
 //! Time a call, the engine's and the second program's, on named books, in one run.
 
 use crate::engine;
+use crate::evaluating::outcome;
 use crate::family;
 use second::cases;
 use std::hint::black_box;
@@ -25,7 +26,7 @@ fn times(mut ours: impl FnMut(), mut theirs: impl FnMut()) -> (f64, f64) {
 
 fn line(service: &str, book: &str, engine: f64, second: f64) {
     let ratio = engine / second;
-    println!("{service:<10} {book:<52} {engine:>10.2} {second:>10.2} {ratio:>8.2}");
+    println!("| {service} | {book} | {engine:.2} | {second:.2} | {ratio:.2} |");
 }
 
 /// The smallest worked example of the specification, a book of a real law's size, and
@@ -52,35 +53,67 @@ fn books() -> Vec<(String, Vec<u8>, usize)> {
     books
 }
 
-/// A service on a book: the engine's time and the second program's.
-fn compare(service: &str, name: &str, ours: impl FnMut(), theirs: impl FnMut()) {
+/// A service on a book: the engine's time and the second program's; hands back the
+/// engine's.
+fn compare(service: &str, name: &str, ours: impl FnMut(), theirs: impl FnMut()) -> f64 {
     let (engine, second) = times(ours, theirs);
     line(service, name, engine, second);
+    engine
 }
 
-/// Judging, evaluating and compiling a book.
-fn services(name: &str, book: &[u8], scope: usize) {
+/// The code of a book, as the engine writes it.
+fn compiled(book: &[u8]) -> Vec<u8> {
+    let length = second::code_of(book).expect("an accepted book").len();
+    let mut code = vec![0; length];
+    assert_eq!(engine::compile(book, &mut code), Ok(length), "the code");
+    code
+}
+
+/// Judging, evaluating and compiling a book and running its code; hands back the
+/// engine's times of evaluating and of running.
+fn services(name: &str, book: &[u8], scope: usize) -> (f64, f64) {
     let judge = || _ = black_box(engine::judge(black_box(book)));
     let other = || _ = black_box(second::judge(black_box(book)));
     compare("judge", name, judge, other);
     let (mut ours, mut theirs) = ([0; 192], [0; 192]);
     let evaluate = || _ = black_box(engine::evaluate(black_box(book), scope, &[], &mut ours));
     let other = || _ = black_box(second::evaluate(black_box(book), scope, &[], &mut theirs));
-    compare("evaluate", name, evaluate, other);
-    let code = second::code_of(book).expect("an accepted book");
-    let (mut ours, mut theirs) = (code.clone(), code);
+    let evaluated = compare("evaluate", name, evaluate, other);
+    let code = compiled(book);
+    let (mut ours, mut theirs) = (code.clone(), code.clone());
     let compile = || _ = black_box(engine::compile(black_box(book), &mut ours));
     let other = || _ = black_box(second::compile(black_box(book), &mut theirs));
     compare("compile", name, compile, other);
+    let (mut ours, mut theirs) = ([0; 192], [0; 192]);
+    let run = || _ = black_box(engine::run(black_box(&code), scope, &[], &mut ours));
+    let other = || _ = black_box(second::run(black_box(&code), scope, &[], &mut theirs));
+    (evaluated, compare("run", name, run, other))
+}
+
+/// How the evaluation of a book ends.
+fn ending(book: &[u8], scope: usize) -> &'static str {
+    let answer = engine::evaluate(book, scope, &[], &mut [0; 192]);
+    outcome(answer.expect("an accepted book"))
+}
+
+/// Evaluating and running side by side.
+fn side_by_side(books: &[(String, Vec<u8>, usize)], times: &[(f64, f64)]) {
+    println!("\n| book | ends in | evaluate us | run us | run/evaluate |");
+    println!("|---|---|---|---|---|");
+    for ((name, book, scope), &(evaluated, ran)) in books.iter().zip(times) {
+        let (ending, ratio) = (ending(book, *scope), ran / evaluated);
+        println!("| {name} | {ending} | {evaluated:.2} | {ran:.2} | {ratio:.2} |");
+    }
 }
 
 pub fn run() -> bool {
-    println!(
-        "{:<10} {:<52} {:>10} {:>10} {:>8}",
-        "service", "book", "engine us", "second us", "ratio"
-    );
-    for (name, book, scope) in books() {
-        services(&name, &book, scope);
-    }
+    println!("| service | book | engine us | second us | ratio |");
+    println!("|---|---|---|---|---|");
+    let books = books();
+    let services = books
+        .iter()
+        .map(|(name, book, scope)| services(name, book, *scope));
+    let times: Vec<(f64, f64)> = services.collect();
+    side_by_side(&books, &times);
     true
 }
