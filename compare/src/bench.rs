@@ -3,6 +3,7 @@
 use crate::engine;
 use crate::evaluating::outcome;
 use crate::family;
+use crate::ocaml;
 use second::cases;
 use std::hint::black_box;
 use std::time::Instant;
@@ -90,19 +91,45 @@ fn services(name: &str, book: &[u8], scope: usize) -> (f64, f64) {
     (evaluated, compare("run", name, run, other))
 }
 
+/// The book's program in OCaml: its time, once its answer is found to be the engine's.
+fn in_ocaml(name: &str, book: &[u8], scope: usize) -> Option<f64> {
+    let (shown, time) = match ocaml::measured(book, scope) {
+        Ok(measured) => measured,
+        Err(error) => {
+            eprintln!("{name}: no program in OCaml: {error}");
+            return None;
+        }
+    };
+    assert_eq!(
+        shown,
+        ocaml::expected(book, scope),
+        "{name}: OCaml's answer"
+    );
+    Some(time)
+}
+
 /// How the evaluation of a book ends.
 fn ending(book: &[u8], scope: usize) -> &'static str {
     let answer = engine::evaluate(book, scope, &[], &mut [0; 192]);
     outcome(answer.expect("an accepted book"))
 }
 
-/// Evaluating and running side by side.
+/// Evaluating, running and OCaml side by side.
 fn side_by_side(books: &[(String, Vec<u8>, usize)], times: &[(f64, f64)]) {
-    println!("\n| book | ends in | evaluate us | run us | run/evaluate |");
-    println!("|---|---|---|---|---|");
+    match ocaml::version() {
+        Some(version) => println!("\nOCaml is ocamlopt {version}.\n"),
+        None => println!("\nOCaml is not installed (no ocamlopt).\n"),
+    }
+    println!("| book | ends in | evaluate us | run us | run/evaluate | OCaml us | run/OCaml |");
+    println!("|---|---|---|---|---|---|---|");
     for ((name, book, scope), &(evaluated, ran)) in books.iter().zip(times) {
         let (ending, ratio) = (ending(book, *scope), ran / evaluated);
-        println!("| {name} | {ending} | {evaluated:.2} | {ran:.2} | {ratio:.2} |");
+        print!("| {name} | {ending} | {evaluated:.2} | {ran:.2} | {ratio:.2} |");
+        let ocaml = ocaml::version().and_then(|_| in_ocaml(name, book, *scope));
+        match ocaml {
+            Some(time) => println!(" {time:.2} | {:.1} |", ran / time),
+            None => println!(" - | - |"),
+        }
     }
 }
 

@@ -6,13 +6,14 @@ mod engine;
 mod evaluating;
 mod family;
 mod judging;
+mod ocaml;
 mod running;
 mod runs;
 mod tally;
 
 use std::process::ExitCode;
 
-const USAGE: &str = "compare judge CASES | compare evaluate CASES | compare compile CASES | compare run CASES | compare runs PROGRAM STACK_KIB FILE | compare bench";
+const USAGE: &str = "compare judge CASES | compare evaluate CASES | compare compile CASES | compare run CASES | compare runs PROGRAM STACK_KIB FILE | compare ocaml CASES | compare bench";
 
 fn main() -> ExitCode {
     let words: Vec<String> = std::env::args().skip(1).collect();
@@ -23,6 +24,7 @@ fn main() -> ExitCode {
         ["compile", cases] => compiling::run(cases.parse().expect(USAGE)),
         ["run", cases] => running::run(cases.parse().expect(USAGE)),
         ["runs", program, stack, file] => runs::run(program, stack.parse().expect(USAGE), file),
+        ["ocaml", cases] => ocaml::run(cases.parse().expect(USAGE)),
         ["bench"] => bench::run(),
         _ => {
             eprintln!("{USAGE}");
