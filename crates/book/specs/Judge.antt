@@ -36,7 +36,7 @@ faultNumber ScopeCycle = 10
 faultNumber WeightExceeded = 11
 faultNumber DependencyCycle = 12
 
--- a fault is in a book; scope and dependency cycle are those of reaching
+-- "A book is accepted when none of faults 1 to 12 is in it": when a fault is; scope and dependency cycle are those of reaching
 abbrev pub InBook : Fault → List ℕ → Type 0
 InBook Truncated bytes = any truncated (records bytes) ≡ true
 InBook UnknownKind bytes = any unknownKind (records bytes) ≡ true
@@ -51,7 +51,7 @@ InBook ScopeCycle bytes = HasScopeCycle (scopesOf bytes)
 InBook WeightExceeded bytes = overweight (scopesOf bytes) ≡ true
 InBook DependencyCycle bytes = HasDependencyCycle (scopesOf bytes)
 
--- "then per record 2, 1, 3, 4, 5": the first faulty record decides
+-- "then per record 2, 1, 3, 4, 5": the first faulty record decides; so "An empty book is accepted and has no scopes"
 unfoldable pub scan : List Met → Scanned
 scan [] = Sound
 scan (m ∷ ms) =

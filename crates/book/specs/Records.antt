@@ -64,7 +64,7 @@ follows last s = eqb s 1 || (leb 1 last && leb last s)
 abbrev pub outOfOrder : Met → Bool
 outOfOrder m = not (unknownKind m || follows (m .before .stage) (stageOf m))
 
--- "Limits: 32 scopes; per scope 32 variables, 8 sub-scopes, 250 nodes, 128 clauses"
+-- "32 scopes; per scope 32 variables, 8 sub-scopes, 250 nodes, 128 clauses"; "32 scopes pass and 33 are crowded"
 unfoldable pub exceeds : Tally → Bool
 exceeds t = ltb 32 (t .scopes) || (ltb 32 (t .variables) || (ltb 8 (t .subs) || (ltb 250 (t .nodes) || ltb 128 (t .clauses))))
 
@@ -84,6 +84,6 @@ invalid k body =
 abbrev pub invalidByte : Met → Bool
 invalidByte m = not (truncated m) && invalid (m .kind) (bodyOf m)
 
--- "book 32,768 bytes"
+-- "book 32,768 bytes"; "32,768 bytes may pass and 32,769 are crowded"
 unfoldable pub tooLong : List ℕ → Bool
 tooLong bytes = ltb 32768 (length bytes)

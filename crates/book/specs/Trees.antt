@@ -45,7 +45,7 @@ termBelow nodes (suc l) n =
 unfoldable pub termOf : Scope → ℕ → Term
 termOf s n = termBelow (s .nodes) (length (s .nodes)) n
 
--- "condition (255: always)"
+-- "condition (255: always)"; "'Always' is constant yes"
 abbrev pub conditionTerm : Scope → ℕ → Term
 conditionTerm s n = cond (eqb n 255) (literal (Truth true)) (termOf s n)
 

@@ -34,6 +34,7 @@ empty = error Empty
 abbrev conflict : Term
 conflict = error Conflict
 
+-- "big is 2,147,483,647"
 abbrev big : ℕ
 big = 2147483647
 
@@ -59,33 +60,33 @@ pub data Row : Type 0 where
 
 abbrev pub strips : List Row
 strips =
-    -- a [ | yes : 5]
+    -- a [ | yes : 5] gives 5
     row (eval nothing (default none yes′ (num 5))) (value 5)
-    -- b [ | no : 5]
+    -- b [ | no : 5] empty
     ∷ row (eval nothing (default none no′ (num 5))) (Ends Empty)
-    -- c [7 | no : 5]
+    -- c [7 | no : 5] 7
     ∷ row (eval nothing (default (one (num 7)) no′ (num 5))) (value 7)
-    -- d [empty, 7 | yes : 5]
+    -- d [empty, 7 | yes : 5] 7
     ∷ row (eval nothing (default (two empty (num 7)) yes′ (num 5))) (value 7)
-    -- e [7, 7 | yes : 5]
+    -- e [7, 7 | yes : 5] conflict
     ∷ row (eval nothing (default (two (num 7) (num 7)) yes′ (num 5))) (Ends Conflict)
-    -- f [empty | empty : 5]
+    -- f [empty | empty : 5] empty
     ∷ row (eval nothing (default (one empty) empty (num 5))) (Ends Empty)
-    -- g [[ | no : 1] | yes : 2]
+    -- g [[ | no : 1] | yes : 2] 2
     ∷ row (eval nothing (default (one (default none no′ (num 1))) yes′ (num 2))) (value 2)
-    -- h [conflict, big+1 | yes : 5]
+    -- h [conflict, big+1 | yes : 5] conflict
     ∷ row (eval nothing (default (two conflict past) yes′ (num 5))) (Ends Conflict)
-    -- i [1, 2, big+1 | yes : 5]
+    -- i [1, 2, big+1 | yes : 5] out of range
     ∷ row (eval nothing (default (three (num 1) (num 2) past) yes′ (num 5))) (Ends OutOfRange)
-    -- j empty + conflict
+    -- j empty + conflict is empty
     ∷ row (eval nothing (binary Add empty conflict)) (Ends Empty)
-    -- k conflict + empty
+    -- k conflict + empty is conflict
     ∷ row (eval nothing (binary Add conflict empty)) (Ends Conflict)
-    -- l negate −2,147,483,648
+    -- l negate −2,147,483,648 is out of range, (big−1)+1 is big
     ∷ row (eval nothing (unary Negate (literal (Number lowest)))) (Ends OutOfRange)
     -- l (big−1)+1
     ∷ row (eval nothing (binary Add (num (big - 1)) (num 1))) (value big)
-    -- m given 9 where the definition is conflict
+    -- m given 9 where the definition is conflict: 9
     ∷ row (step (Present (Number (pos 9))) nothing conflict) (value 9)
     ∷ []
 
@@ -97,7 +98,7 @@ abbrev pub expected : List Row → List Outcome
 expected [] = []
 expected (row a b ∷ rows) = b ∷ expected rows
 
--- every strip gives what it is to give
+-- "Strips a–m are for proof": every strip gives what it is to give
 pub strips-hold : results strips ≡ expected strips
 unfolding eval exceptions
 strips-hold = refl

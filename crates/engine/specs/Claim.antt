@@ -56,7 +56,8 @@ pub record Agreed (bytes code : List ℕ) (i : ℕ) (m : Memories) (r : Answers)
   -- "The count never exceeds the scope's weight"
   pub count : countIn (r .ran) ≤ weight (scopesOf bytes) i
 
--- what each of the four services answers and writes, and the claim
+-- "The engine has four services: judge a book; evaluate a scope of it; compile it; run compiled code, judging that first": what each
+-- answers and writes, and the claim
 pub record Together (bytes : List ℕ) (i : ℕ) (list : List ℕ) (m : Memories) (r : Answers) : Type 0 where
   pub judging : r .judged ≡ judge bytes
   pub compiling : Compiles bytes (m .codeBefore) (r .compiled) (m .codeAfter)

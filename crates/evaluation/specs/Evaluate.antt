@@ -19,7 +19,7 @@ use Rattle.evaluation.specs.declared.Refusal.the-variants.{Book, NoSuchS
 use Rattle.evaluation.specs.declared.Answer.{Answer}
 use Rattle.evaluation.specs.declared.Answer.the-variants.{Values, Ended, Refused}
 
--- the paper's number of a refusal
+-- "Where an answer is an enum, a definition sets out this paper's number and values for each of its cases"
 abbrev pub refusalNumber : Refusal → ℕ
 refusalNumber (Book f) = faultNumber f
 refusalNumber NoSuchScope = 13
@@ -62,7 +62,7 @@ abbrev pub onInputs : Inputs → ℕ → List Scope → ℕ → Reply
 onInputs bad room book i = refuse BadInput
 onInputs (good given) room book i = fitting room (scopeAt book i) (replyOf (enter book (reverse (blocks book)) i given))
 
--- "then 13, 14, 15"
+-- "then 13, 14, 15"; 13: "scope asked for is absent"
 unfoldable pub asked : List Scope → ℕ → List ℕ → ℕ → Reply
 asked book i bytes room =
     cond (ltb i (length book)) (onInputs (inputs (scopeAt book i .variables) bytes) room book i) (refuse NoSuchScope)

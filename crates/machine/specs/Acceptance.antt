@@ -118,6 +118,6 @@ unfoldable pub allWellFormed : List Block → Bool
 allWellFormed [] = true
 allWellFormed (b ∷ earlier) = wellFormed earlier b && allWellFormed earlier
 
--- code is accepted
+-- "A book is accepted when none of faults 1 to 12 is in it, code when 16 is not"
 unfoldable pub accepted : List ℕ → Bool
 accepted code = sound code 0 start && allWellFormed (blocksOf code)

@@ -49,7 +49,7 @@ abbrev pub follow : Next → (ℕ → List Joined → List Try → Memory → Ra
 follow (go d st ts m) f = f d st ts m
 follow (stop r) f = r
 
--- the bytes of a block from here on, n of them to pass first
+-- the bytes of a block from here on, n of them to pass first: "So nothing ever goes back"
 unfoldable pub exec : Surroundings → List ℕ → ℕ → List Joined → List Try → Memory → Ran
 exec env [] n st ts m = atEnd m
 exec env (b ∷ rest) (suc n) st ts m = exec env rest n st ts m

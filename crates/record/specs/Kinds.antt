@@ -19,7 +19,7 @@ unfoldable pub kinds : List Shapes
 kinds =
     -- 0
     unknown
-    -- 1 scope, in code with the scope number
+    -- 1 scope: none; in code the scope number
     ∷ row 0 1 1 1
     -- 2 variable: type
     ∷ row 1 2 1 2
@@ -47,10 +47,11 @@ kinds =
     ∷ row 2 4 0 4
     -- 17 if: condition, then, else
     ∷ row 3 4 0 0
-    -- 18 default: three exceptions, justification, consequence
+    -- 18 default: three exceptions (255: none), justification, consequence
     ∷ row 5 4 0 0
-    -- 19 definition, 20 rule: sub-scope, variable, parent, condition, consequence
+    -- 19 definition: sub-scope (255: own), variable, parent clause (255: none), condition (255: always), consequence
     ∷ row 5 5 0 0
+    -- 20 rule: as 19, but the last byte is 0 or 1 for no or yes
     ∷ row 5 5 0 0
     -- 21 to 31
     ∷ unknown
@@ -71,7 +72,7 @@ kinds =
     ∷ row 0 0 2 4
     ∷ row 0 0 2 4
     ∷ row 0 0 2 4
-    -- 37 end of try, 38 push nothing, 39 join
+    -- 37 none: end of try; 38 push "nothing", 39 join
     ∷ row 0 0 0 4
     ∷ row 0 0 0 4
     ∷ row 0 0 0 4

@@ -1,5 +1,5 @@
-// Evaluates standard input: book length (2 bytes, high first), book, scope byte, inputs. Prints the outcome and the count of scopes
-// entered, then number and value of each variable.
+// "Program rulerun evaluates standard input: book length (2 bytes, high first), book, scope byte, inputs." It prints "outcome and count,
+// then number and value of each variable".
 use calculus::magnitude;
 use engine::Answer;
 use engine::Cause;
@@ -27,6 +27,7 @@ fn write_refused(number: u8) {
     write(b"\n");
 }
 
+// "Other first lines: `conflict N`, `range N`, `refused R`"
 fn write_cause(c: Cause) {
     match c {
         Cause::Empty => write(b"empty "),
@@ -89,7 +90,7 @@ fn write_answer(a: Answer, results: &[u8]) {
     }
 }
 
-// Missing bytes of length, book or scope are refused with 1.
+// "Missing bytes print `refused 1`": those of length, book or scope.
 fn run(input: &[u8]) {
     let length = distance_at(input, 0);
     if input.len() < 3 {
