@@ -201,7 +201,7 @@ mod tests {
     use super::*;
     use crate::reading::to_rulebook;
 
-    const TEXT: &str = "scope reel
+    const TEXT: &str = "scope film
   variable speed : number
   variable frames : number
   label general

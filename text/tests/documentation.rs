@@ -21,14 +21,14 @@ fn block(text: &str, first: &str) -> String {
 #[test]
 fn the_example_is_explained_as_printed() {
     let document = document();
-    let book = to_rulebook(&block(&document, "scope reel")).expect("a book");
-    let reel = find_scope(&book, "reel").expect("scope reel");
-    let given = read_inputs(&book, reel, &["shrunken=yes", "polyester=no"]).expect("inputs");
+    let book = to_rulebook(&block(&document, "scope film")).expect("a book");
+    let film = find_scope(&book, "film").expect("scope film");
+    let given = read_inputs(&book, film, &["shrunken=yes", "polyester=no"]).expect("inputs");
     let printed = block(
         &document,
-        "scope reel, given shrunken = yes, polyester = no",
+        "scope film, given shrunken = yes, polyester = no",
     );
-    assert_eq!(explain(&book, "vault.rules", reel, given), printed);
+    assert_eq!(explain(&book, "vault.rules", film, given), printed);
 }
 
 #[test]

@@ -10,7 +10,7 @@ fn explained(text: &str, inputs: &[&str]) -> String {
     explain(&book, "f", 0, given)
 }
 
-const REEL: &str = "scope reel
+const FILM: &str = "scope film
 variable speed : number
 variable shrunken : yes/no
 variable polyester : yes/no
@@ -26,7 +26,7 @@ define speed under condition shrunken and polyester as 4
 #[test]
 fn the_clause_that_held_and_those_passed_over() {
     let expected = "\
-scope reel, given shrunken = yes, polyester = no
+scope film, given shrunken = yes, polyester = no
 shrunken = yes, given
 polyester = no, given
 speed = 2, by the exception 'gentle' at f:7:1
@@ -35,19 +35,19 @@ speed = 2, by the exception 'gentle' at f:7:1
       the exception at f:10:1: passed over, 'shrunken and polyester' is no (shrunken = yes, polyester = no)
 every variable has a value; scopes entered: 1
 ";
-    assert_eq!(explained(REEL, &["shrunken=yes", "polyester=no"]), expected);
+    assert_eq!(explained(FILM, &["shrunken=yes", "polyester=no"]), expected);
 }
 
 #[test]
 fn a_variable_that_nothing_defines() {
     let expected = "\
-scope reel, given shrunken = yes
+scope film, given shrunken = yes
 shrunken = yes, given
 polyester is empty: nothing defines it
 not reached: speed
 the run ends empty: something needed has no value; scopes entered: 1
 ";
-    assert_eq!(explained(REEL, &["shrunken=yes"]), expected);
+    assert_eq!(explained(FILM, &["shrunken=yes"]), expected);
 }
 
 #[test]

@@ -138,7 +138,7 @@ fn blanks_and_comments_only_separate() {
 #[test]
 fn printed_text_is_plain() {
     let bytes = book(
-        "scope reel variable speed : number variable shrunken : yes/no sub-scope store : bin
+        "scope film variable speed : number variable shrunken : yes/no sub-scope store : bin
       label usual define speed as 4
       exception to usual define speed under condition shrunken as -(2) + store.low
       exception to usual define speed under condition store.dry as default [ none, 1 | yes : 2 ]
