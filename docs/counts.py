@@ -19,7 +19,7 @@ NAME = r"[^\s(){}.,:;λ]+"
 
 
 class File:
-    """A file of definitions: its blocks, each with the names that it defines and its text, and the names that it imports."""
+    """A file of definitions: its lines, its blocks (each with the names that it defines, and its text), and what its imports name."""
 
     def __init__(self, path):
         text = open(path, encoding="utf-8").read()
@@ -37,32 +37,34 @@ class File:
                 self.imports[name.split(" as ")[-1]] = (target, name.split(" as ")[0])
         code = re.sub(r"(?m)^\s*--.*\n", "", text)
         for block in re.split(r"\n(?=(?:pub |abbrev |unfoldable |module |data |record |mutual)\S)", code):
-            named = re.findall(rf"^(?:  )?(?:(?:unfoldable|abbrev|pub|data|record)\s+)+({NAME})", block, re.M)
-            if re.match(r"(pub )?record ", block):
-                named = named[:1]
-            constructors = re.findall(rf"^    ?({NAME}(?: {NAME})*) : ", block, re.M) if "data " in block else []
-            constructors += re.findall(rf"^  ({NAME}(?: {NAME})*) : ", block, re.M) if "data " in block else []
-            self.blocks.append((set(named) | {name for names in constructors for name in names.split()}, block))
+            self.blocks.append((defined(block), block))
 
+
+def defined(block):
+    """The names that a block defines: of a record its own and not its fields', of a data type also its constructors'."""
+    names = re.findall(rf"^(?:  )?(?:(?:unfoldable|abbrev|pub|data|record)\s+)+({NAME})", block, re.M)
+    if re.match(r"(pub )?record ", block):
+        return set(names[:1])
+    constructors = re.findall(rf"^  (?:  )?({NAME}(?: {NAME})*) : ", block, re.M) if "data " in block else []
+    return set(names).union(*(each.split() for each in constructors))
 
 
 def follow(roots):
-    """Every file met, with the blocks of it that are reached."""
-    files, met, todo = {}, {}, list(roots)
-    while todo:
-        path, name = todo.pop()
-        file = files.setdefault(path, File(path)) if path not in files else files[path]
-        for index, (named, block) in enumerate(file.blocks):
-            if name not in named or index in met.setdefault(path, set()):
+    """Every file met, with the numbers of the blocks of it that are reached."""
+    files, met, left = {}, {}, list(roots)
+    while left:
+        path, name = left.pop()
+        if path not in files:
+            files[path], met[path] = File(path), set()
+        file = files[path]
+        for index, (names, block) in enumerate(file.blocks):
+            if name not in names or index in met[path]:
                 continue
             met[path].add(index)
             for word in set(re.findall(NAME, block)):
-                todo.append((path, word))
-                if word in file.imports:
-                    todo.append(file.imports[word])
+                left += [(path, word), file.imports.get(word, (path, word))]
             for alias, word in re.findall(rf"\b(\w+)\.({NAME})", block):
-                if alias in file.modules:
-                    todo.append((file.modules[alias], word))
+                left += [(file.modules[alias], word)] if alias in file.modules else []
     return {path: (files[path], blocks) for path, blocks in met.items() if blocks}
 
 
@@ -83,26 +85,21 @@ def roots():
 
 
 def main():
-    met = follow(roots())
+    met = {path.removeprefix("crates/"): file.lines for path, (file, _) in follow(roots()).items()}
     text = open(READING, encoding="utf-8").read()
-    listed = dict(re.findall(r"^\| `([\w/]+\.antt)`[^|]*\| (\d+) \|", text, re.M))
-    wrong = 0
-    for path in sorted(met):
-        short, lines = path.removeprefix("crates/"), met[path][0].lines
-        note = "" if listed.get(short) == str(lines) else f"   {READING}: {listed.get(short, 'not listed')}"
-        if "--write" in sys.argv and short in listed:
-            text = re.sub(rf"^(\| `{re.escape(short)}`[^|]*\|) \d+ \|", rf"\1 {lines} |", text, flags=re.M)
-            note = ""
-        wrong += note != ""
-        print(f"{lines:5} {short}{note}")
-    print(f"{sum(file.lines for file, _ in met.values()):5} in {len(met)} files")
-    must = text.split("## What must be believed")[1].split("\n## ")[0] if "## What must be believed" in text else ""
-    for short in re.findall(r"^\| `([\w/]+\.antt)`", must, re.M):
-        if "crates/" + short not in met:
-            wrong += 1
-            print(f"      {short}   {READING}: listed, but no promise rests on it")
+    believed = text.split("## What must be believed\n")[1].split("\n## ")[0]
+    listed = dict(re.findall(r"^\| `([\w/]+\.antt)` \| (\d+) \|", believed, re.M))
     if "--write" in sys.argv:
+        for path in listed.keys() & met.keys():
+            text = text.replace(f"| `{path}` | {listed[path]} |", f"| `{path}` | {met[path]} |")
+            listed[path] = str(met[path])
         open(READING, "w", encoding="utf-8").write(text)
+    wrong = 0
+    for path in sorted(met.keys() | listed.keys()):
+        now, said = met.get(path, "no promise rests on it"), listed.get(path, "not listed")
+        wrong += str(now) != said
+        print(f"{path}: {now}" + (f"; {READING}: {said}" if str(now) != said else ""))
+    print(f"{sum(met.values())} lines in {len(met)} files")
     sys.exit(wrong != 0)
 
 
