@@ -1,5 +1,5 @@
-// "Program rulerun evaluates standard input: book length (2 bytes, high first), book, scope byte, inputs." It prints "outcome and count,
-// then number and value of each variable".
+// Evaluates standard input: book length (2 bytes, high first), book, scope byte, inputs. Prints the outcome and the count of scopes
+// entered, then number and value of each variable.
 use calculus::magnitude;
 use engine::Answer;
 use engine::Cause;
@@ -75,6 +75,7 @@ fn write_results(results: &[u8], length: usize) {
     }
 }
 
+// "outcome and count, then number and value of each variable"
 fn write_answer(a: Answer, results: &[u8]) {
     match a {
         Answer::Values(count, length) => {
@@ -90,7 +91,8 @@ fn write_answer(a: Answer, results: &[u8]) {
     }
 }
 
-// "Missing bytes print `refused 1`": those of length, book or scope.
+// "evaluates standard input: book length (2 bytes, high first), book, scope byte, inputs"; "Missing bytes print `refused 1`": those of length,
+// book or scope.
 fn run(input: &[u8]) {
     let length = distance_at(input, 0);
     if input.len() < 3 {
