@@ -28,7 +28,7 @@ def plain(text):
 
 
 def sentences(paper):
-    """The sentences of a paper, each with the number of its line; a printed example belongs to the sentence before it."""
+    """The sentences of a paper, each with the number of its line; a printed example and a few words belong to the sentence before."""
     found = []
     lines = paper.splitlines()
     printed = False
@@ -40,7 +40,10 @@ def sentences(paper):
         if printed or heads or not line or line.startswith(("#", "|---", "```")):
             continue
         parts = [line] if line.startswith("|") else re.split(SPLIT, line)
-        found += [(number, part) for part in parts if plain(part)]
+        for part in filter(plain, parts):
+            if len(plain(part)) < SHORT and "[" not in part:
+                number, part = found[-1][0], f"{found.pop()[1]} {part}"
+            found.append((number, part))
     return found
 
 
