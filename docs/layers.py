@@ -162,12 +162,14 @@ def draw(groups, rests):
     shift = LEFT + RIGHT - min(x[n] - width(n) / 2 for n in x)
     x = {node: at + shift for node, at in x.items()}
     wide = max(x[n] + width(n) / 2 for n in x) + RIGHT
-    tops, y = [], BAND
-    for first, last in bands:
-        for _ in range(first, last + 1):
-            tops.append(y + (ROW - BOX) / 2)
-            y += ROW
-        y += BAND
+    titles = [textwrap.wrap(comment.rstrip("."), TITLES) for comment, _ in groups]
+    tops, spans, y = [], [], BAND
+    for (first, last), lines in zip(bands, titles):
+        tall = max((last - first + 1) * ROW, 16 * len(lines) + 26)
+        spare = (tall - (last - first + 1) * ROW) / 2
+        tops += [y + spare + (ROW - BOX) / 2 + ROW * r for r in range(last - first + 1)]
+        spans.append((y, tall))
+        y += tall + BAND
     out = [
         f'<svg xmlns="http://www.w3.org/2000/svg" viewBox="0 0 {wide:.0f} {y:.0f}" font-family="DejaVu Sans, Verdana, sans-serif">',
         "<title>The crates by layer</title>",
@@ -175,11 +177,8 @@ def draw(groups, rests):
         '<path d="M0 0.8 L7 4 L0 7.2 Z" fill="#5b6770"/></marker></defs>',
         f'<rect width="{wide:.0f}" height="{y:.0f}" fill="#ffffff"/>',
     ]
-    for ((comment, _), (first, last), tint) in zip(groups, bands, TINTS * len(groups)):
-        top = tops[first] - (ROW - BOX) / 2
-        tall = (last - first + 1) * ROW
+    for (top, tall), lines, tint in zip(spans, titles, TINTS * len(groups)):
         out.append(f'<rect x="10" y="{top:.1f}" width="{wide - 20:.1f}" height="{tall}" rx="10" fill="{tint}"/>')
-        lines = textwrap.wrap(comment.rstrip("."), TITLES)
         start = top + tall / 2 - 8 * (len(lines) - 1) + 4.5
         for i, line in enumerate(lines):
             out.append(f'<text x="26" y="{start + 16 * i:.1f}" font-size="13" fill="#3d4852">{html.escape(line)}</text>')
