@@ -22,7 +22,7 @@ use Rattle.book.specs.declared.ValueType.{ValueType}
 use Rattle.instructions.specs.declared.Move.{Move}
 use Rattle.instructions.specs.declared.Move.the-variants as move
 use Rattle.instructions.specs.Views.{entryOf, entries, opened, tab, ownCell, calleeAt, memory}
-use Rattle.instructions.specs.Effects.{Room, Moves, Storing, Handing, OverrideAt, Stepping, Stepped, Typing, Bounded, Sized, variablesIn, subScopesIn, typeIn, blockIn, sizeIn, memoryIn}
+use Rattle.instructions.specs.Effects.{Room, Moves, Storing, Handing, StoreAt, OverrideAt, Controls, Computes, Passed, Stepping, Stepped, Typing, Bounded, Sized, variablesIn, subScopesIn, typeIn, blockIn, sizeIn, memoryIn}
 use Rattle.instructions.proofs.Memory.{tab-at}
 
 module _ {heads places : List ℕ} {p k : ℕ} {rest st : List ℕ} {h : ℕ} {tr : List ℕ} {t : ℕ} {own flags called marks : List ℕ}
@@ -61,6 +61,11 @@ module _ {heads places : List ℕ} {p k : ℕ} {rest st : List ℕ} {h : ℕ} {t
       let b = s .bounded .subScopes in
       let z = s .bounded .sizes i (l .0) .1 in
       (omega arith, omega arith, s .sized .markSize, s .sized .calledSize)
+
+  pub store-fits : k ≡ 41 → StoreAt rest p st h own flags
+  store-fits e =
+      let f = own-fits (store-named e) in
+      record { stack = stack-room; block = s .bounded .block; variable = f .2; cell = f .0; flag = f .1 }
 
   pub override-fits : k ≡ 42 → OverrideAt rest heads places p marks st h called
   override-fits e =
@@ -149,41 +154,39 @@ module _ {heads places : List ℕ} {p k : ℕ} {rest st : List ℕ} {h : ℕ} {t
               (λ i l. s .bounded .sizes i l .1) tries-room);
         }
 
-    pub does-try : (e : k ≡ 36) (tr' : List ℕ)
-        → ((m : Memory) → Moves r 2 st tr' m (tried (length rest - 2 - bigEndian 2 rest 0) (entries st h) (opened tr t) m))
-        → Stepped heads places p k rest st h tr t own flags called marks r st tr' own flags called
-    unfolding effect instructionOf shapeIn shapesOf kinds
-    does-try e tr' f =
-        record {
-          same = λ env c ty. rw e (rw (length-drop 2 rest) (f (memoryIn heads places p own flags called marks c)));
-        }
+  -- an instruction that leaves every variable as it is
+  pub does-pass : {r : Move} {st' tr' : List ℕ} → Passed k rest st h tr t r st' tr' → Stepped heads places p k rest st h tr t own flags called marks r st' tr' own flags called
+  does-pass f = record { same = λ env c ty. f .same env (memoryIn heads places p own flags called marks c) }
 
-  pub does-jump : (e : k ≡ 34) (d : ℕ) → d ≡ bigEndian 2 rest 0
-      → Stepped heads places p k rest st h tr t own flags called marks (move.Go (2 + d) h t) st tr own flags called
-  unfolding effect instructionOf shapeIn shapesOf kinds
-  does-jump e d f =
-      record {
-        same = λ env c ty.
-            let z : 2 + d - 2 ≡ d = omega arith in
-            rw (e, ← f, z) (refl, omega arith, s .room);
-      }
-
-  -- an instruction that leaves the memory alone
-  pub does-at : {j : ℕ} {r : Move} {st' tr' : List ℕ} → k ≡ j
+module _ {k : ℕ} {rest st : List ℕ} {h : ℕ} {tr : List ℕ} {t : ℕ} where
+  pub pass-at : {j : ℕ} {r : Move} {st' tr' : List ℕ} → k ≡ j
       → ((env : Surroundings) (m : Memory)
       → Moves r (bodyLength j) st' tr' m (effect env (instructionOf j rest) (length (drop (bodyLength j) rest)) (entries st h) (opened tr t) m))
-      → Stepped heads places p k rest st h tr t own flags called marks r st' tr' own flags called
-  does-at e g = record { same = λ env c ty. rw e (g env (memoryIn heads places p own flags called marks c)) }
+      → Passed k rest st h tr t r st' tr'
+  pass-at e g = record { same = λ env m. rw e (g env m) }
 
-  pub stuck-at : instructionOf k rest ≡ unknown → Stepped heads places p k rest st h tr t own flags called marks move.Stuck st tr own flags called
+  pub pass-try : {r : Move} (e : k ≡ 36) (tr' : List ℕ)
+      → ((m : Memory) → Moves r 2 st tr' m (tried (length rest - 2 - bigEndian 2 rest 0) (entries st h) (opened tr t) m))
+      → Passed k rest st h tr t r st tr'
+  unfolding effect instructionOf shapeIn shapesOf kinds
+  pass-try e tr' f = record { same = λ env m. rw e (rw (length-drop 2 rest) (f m)) }
+
+  pub pass-jump : (e : k ≡ 34) (d : ℕ) → d ≡ bigEndian 2 rest 0 → Room h t st tr → Passed k rest st h tr t (move.Go (2 + d) h t) st tr
+  unfolding effect instructionOf shapeIn shapesOf kinds
+  pass-jump e d f w =
+      record {
+        same = λ env m.
+            let z : 2 + d - 2 ≡ d = omega arith in
+            rw (e, ← f, z) (refl, omega arith, w);
+      }
+
+  pub pass-stuck : instructionOf k rest ≡ unknown → Passed k rest st h tr t move.Stuck st tr
   unfolding effect
-  stuck-at e = record { same = λ env c ty. rw e }
+  pass-stuck e = record { same = λ env m. rw e }
 
-pub none-of : (k : ℕ) (rest : List ℕ)
+pub none-of : (k : ℕ) (rest : List ℕ) → Computes k
     → (k ≡ 4 → ⊥)
     → (k ≡ 5 → ⊥)
-    → (k ≡ 6 → ⊥)
-    → (k ≡ 7 → ⊥)
     → (k ≡ 10 → ⊥)
     → (k ≡ 11 → ⊥)
     → (k ≡ 12 → ⊥)
@@ -191,20 +194,10 @@ pub none-of : (k : ℕ) (rest : List ℕ)
     → (k ≡ 14 → ⊥)
     → (k ≡ 15 → ⊥)
     → (k ≡ 16 → ⊥)
-    → (k ≡ 32 → ⊥)
-    → (k ≡ 33 → ⊥)
-    → (k ≡ 34 → ⊥)
-    → (k ≡ 35 → ⊥)
-    → (k ≡ 36 → ⊥)
-    → (k ≡ 37 → ⊥)
     → (k ≡ 38 → ⊥)
     → (k ≡ 39 → ⊥)
-    → (k ≡ 40 → ⊥)
-    → (k ≡ 41 → ⊥)
-    → (k ≡ 42 → ⊥)
-    → (k ≡ 44 → ⊥)
-    → (k ≡ 43 → ⊥)
     → instructionOf k rest ≡ unknown
 unfolding instructionOf
-none-of k rest n4 n5 n6 n7 n10 n11 n12 n13 n14 n15 n16 n32 n33 n34 n35 n36 n37 n38 n39 n40 n41 n42 n44 n43 =
-    rw (ne-eqb k 4 n4, ne-eqb k 5 n5, ne-eqb k 6 n6, ne-eqb k 7 n7, ne-eqb k 10 n10, ne-eqb k 11 n11, ne-eqb k 12 n12, ne-eqb k 13 n13, ne-eqb k 14 n14, ne-eqb k 15 n15, ne-eqb k 16 n16, ne-eqb k 32 n32, ne-eqb k 33 n33, ne-eqb k 34 n34, ne-eqb k 35 n35, ne-eqb k 36 n36, ne-eqb k 37 n37, ne-eqb k 38 n38, ne-eqb k 39 n39, ne-eqb k 40 n40, ne-eqb k 41 n41, ne-eqb k 42 n42, ne-eqb k 43 n43, ne-eqb k 44 n44)
+none-of k rest c n4 n5 n10 n11 n12 n13 n14 n15 n16 n38 n39 =
+    let d = c .controls in
+    rw (ne-eqb k 4 n4, ne-eqb k 5 n5, ne-eqb k 6 (d .readsOwn), ne-eqb k 7 (d .readsCalled), ne-eqb k 10 n10, ne-eqb k 11 n11, ne-eqb k 12 n12, ne-eqb k 13 n13, ne-eqb k 14 n14, ne-eqb k 15 n15, ne-eqb k 16 n16, ne-eqb k 32 (c .raises), ne-eqb k 33 (c .raisesConflict), ne-eqb k 34 (c .jumps), ne-eqb k 35 (c .jumpsIfNo), ne-eqb k 36 (c .beginsTry), ne-eqb k 37 (c .endsTry), ne-eqb k 38 n38, ne-eqb k 39 n39, ne-eqb k 40 (c .settles), ne-eqb k 41 (d .stores), ne-eqb k 42 (d .overrides), ne-eqb k 43 (d .enters), ne-eqb k 44 (d .asksGiven))

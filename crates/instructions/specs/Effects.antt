@@ -116,6 +116,31 @@ pub record Sized (own flags called marks : List ℕ) : Type 0 where
   pub calledSize : length called ≡ 256
   pub markSize : length marks ≡ 8
 
+-- not the entry of a sub-scope, and naming no variable
+pub record Controls (k : ℕ) : Type 0 where
+  pub readsOwn : k ≡ 6 → ⊥
+  pub readsCalled : k ≡ 7 → ⊥
+  pub stores : k ≡ 41 → ⊥
+  pub overrides : k ≡ 42 → ⊥
+  pub enters : k ≡ 43 → ⊥
+  pub asksGiven : k ≡ 44 → ⊥
+
+-- nor a raise, a jump or a try
+pub record Computes (k : ℕ) : Type 0 where
+  pub controls : Controls k
+  pub raises : k ≡ 32 → ⊥
+  pub raisesConflict : k ≡ 33 → ⊥
+  pub jumps : k ≡ 34 → ⊥
+  pub jumpsIfNo : k ≡ 35 → ⊥
+  pub beginsTry : k ≡ 36 → ⊥
+  pub endsTry : k ≡ 37 → ⊥
+  pub settles : k ≡ 40 → ⊥
+
+-- an instruction that leaves every variable as it is
+pub record Passed (k : ℕ) (rest st : List ℕ) (h : ℕ) (tr : List ℕ) (t : ℕ) (r : Move) (st' tr' : List ℕ) : Type 0 where
+  pub same : (env : Surroundings) (m : Memory)
+      → Moves r (bodyLength k) st' tr' m (effect env (instructionOf k rest) (length (drop (bodyLength k) rest)) (entries st h) (opened tr t) m)
+
 pub record Stepping (heads places : List ℕ) (p k : ℕ) (rest st : List ℕ) (h : ℕ) (tr : List ℕ) (t : ℕ) (own flags called marks : List ℕ) : Type 0 where
   pub bounded : Bounded heads places p
   pub sized : Sized own flags called marks
@@ -145,6 +170,13 @@ pub record Handing (wanted : ValueType) (k x : ℕ) (st : List ℕ) (h t : ℕ) 
       (taking (entries st h) (λ y st₁. wanting wanted y
       (overridden (getD (tab (λ i. calleeAt called marks (sizes i) i) 0 s) k (waiting [])) k x y st₁ (opened tr t)
       (record { own = xs; callees = tab (λ i. calleeAt called marks (sizes i) i) 0 s; count = c }))))
+
+pub record StoreAt (rest : List ℕ) (p : ℕ) (st : List ℕ) (h : ℕ) (own flags : List ℕ) : Type 0 where
+  pub stack : (h ≤ length st) × (h ≤ 1024)
+  pub block : p < 32
+  pub variable : getD rest 0 0 < 32
+  pub cell : getD rest 0 0 < length own
+  pub flag : getD rest 0 0 < length flags
 
 pub record OverrideAt (rest heads places : List ℕ) (p : ℕ) (marks st : List ℕ) (h : ℕ) (called : List ℕ) : Type 0 where
   pub stack : (h ≤ length st) × (h ≤ 1024)

@@ -32,7 +32,7 @@ ghost use Rattle.lists.specs.Writing.{valueType};
 ghost use Rattle.machine.specs.Instructions.{Instruction};
 ghost use Rattle.machine.specs.Machine.{Memory, answered, pushed, raised, tried, closed, readFrom, readIn, jumpedIfGiven, effect, Surroundings};
 ghost use Rattle.instructions.specs.Views.{entryOf, entries, opened, ownCell, calleeAt};
-ghost use Rattle.instructions.specs.Effects.{Room, Moves, Encodes, Takes, suitable, Storing, Handing, OverrideAt, Stepping, Stepped, typeIn, blockIn};
+ghost use Rattle.instructions.specs.Effects.{Room, Moves, Encodes, Takes, suitable, Storing, Handing, StoreAt, OverrideAt, Computes, Controls, Passed, Stepping, Stepped, typeIn, blockIn};
 
 // After an instruction: go on so many bytes behind its kind, with a height and so many open tries; or stop.
 pub enum Move {
@@ -506,6 +506,64 @@ fn override_at(
     hand_over(type_at(heads, q, x), k, x, st, h, t, marks, called)
 }
 
+// Stores into the variable that an instruction names.
+fn store_at(
+    rest: &[u8],
+    heads: &[u8],
+    p: usize,
+    st: &[u64],
+    h: usize,
+    t: usize,
+    own: &mut [u64],
+    flags: &mut [u8],
+) -> Move
+    requires { ⌜ StoreAt (now rest) p (now st) h (now own) (now flags) ⌝ }
+    ensures { λ r. ⌜ Storing (typeIn (now (heads .entry)) p (getD (now (rest .entry)) 0 0)) (getD (now (rest .entry)) 0 0)
+        (now (st .entry)) h t (now (own .entry)) (now (flags .entry)) r (now (own .exit)) (now (flags .exit)) ⌝ }
+{
+    let x = first(rest);
+    store(type_at(heads, p, x), x, st, h, t, own, flags)
+}
+
+// Does an instruction that works on the stack alone.
+fn compute(kind: u8, rest: &[u8], st: &mut [u64], h: usize, t: usize) -> Move
+    requires { ⌜ (h ≤ length (now st)) × (h ≤ 1024) × Computes kind ⌝ }
+    ensures { λ r. ⌜ ((tr : List ℕ) → (t ≤ 512) × (t * 2 ≤ length tr)
+        → Passed kind (now (rest .entry)) (now (st .entry)) h tr t r (now (st .exit)) tr) ⌝ }
+{
+    match kind {
+        4 => push_truth(rest, st, h, t),
+        5 => push_number(rest, st, h, t),
+        10 => unary(Unary::Not, st, h, t),
+        11 => unary(Unary::Negate, st, h, t),
+        12 => binary(Binary::And, st, h, t),
+        13 => binary(Binary::Add, st, h, t),
+        14 => binary(Binary::Subtract, st, h, t),
+        15 => binary(Binary::Equal, st, h, t),
+        16 => binary(Binary::Less, st, h, t),
+        38 => push(st, h, 0, 0, t),
+        39 => join_top(st, h, t),
+        _ => Move::Stuck,
+    }
+}
+
+// Does an instruction that works on stack and tries alone.
+fn control(kind: u8, rest: &[u8], st: &mut [u64], h: usize, tr: &mut [usize], t: usize) -> Move
+    requires { ⌜ Room h t (now st) (now tr) × Controls kind ⌝ }
+    ensures { λ r. ⌜ Passed kind (now (rest .entry)) (now (st .entry)) h (now (tr .entry)) t r (now (st .exit)) (now (tr .exit)) ⌝ }
+{
+    match kind {
+        32 => raise(rest.len(), st, h, tr, t),
+        33 => Move::Ended(Cause::Conflict),
+        34 => Move::Go(2 + distance(rest, 0), h, t),
+        35 => branch(distance(rest, 0), st, h, t),
+        36 => begin_try(rest.len(), distance(rest, 0), h, tr, t),
+        37 => end_try(h, t),
+        40 => settle(distance(rest, 0), st, h, t),
+        _ => compute(kind, rest, st, h, t),
+    }
+}
+
 // Does an instruction other than the entry of a sub-scope, by its kind and the bytes of the block behind it.
 pub fn step(
     kind: u8,
@@ -528,37 +586,11 @@ pub fn step(
         r (now (st .exit)) (now (tr .exit)) (now (own .exit)) (now (flags .exit)) (now (called .exit)) ⌝ }
 {
     match kind {
-        4 => push_truth(rest, st, h, t),
-        5 => push_number(rest, st, h, t),
         6 => read_own(first(rest), own, st, h, t),
         7 => read_called(first(rest), second(rest), marks, called, st, h, t),
-        10 => unary(Unary::Not, st, h, t),
-        11 => unary(Unary::Negate, st, h, t),
-        12 => binary(Binary::And, st, h, t),
-        13 => binary(Binary::Add, st, h, t),
-        14 => binary(Binary::Subtract, st, h, t),
-        15 => binary(Binary::Equal, st, h, t),
-        16 => binary(Binary::Less, st, h, t),
-        32 => raise(rest.len(), st, h, tr, t),
-        33 => Move::Ended(Cause::Conflict),
-        34 => Move::Go(2 + distance(rest, 0), h, t),
-        35 => branch(distance(rest, 0), st, h, t),
-        36 => begin_try(rest.len(), distance(rest, 0), h, tr, t),
-        37 => end_try(h, t),
-        38 => push(st, h, 0, 0, t),
-        39 => join_top(st, h, t),
-        40 => settle(distance(rest, 0), st, h, t),
-        41 => store(
-            type_at(heads, p, first(rest)),
-            first(rest),
-            st,
-            h,
-            t,
-            own,
-            flags,
-        ),
+        41 => store_at(rest, heads, p, st, h, t, own, flags),
         42 => override_at(rest, heads, places, p, marks, st, h, t, called),
         44 => jump_if_given(first(rest), distance(rest, 1), own, flags, h, t),
-        _ => Move::Stuck,
+        _ => control(kind, rest, st, h, tr, t),
     }
 }

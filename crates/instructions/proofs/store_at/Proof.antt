@@ -1,0 +1,34 @@
+use borrow.Author.Needs.{needs}
+use Rattle.instructions.proofs.store_at.Statement.{statement}
+use Rattle.instructions.proofs.store_at.Tie as tie
+use Rattle.instructions.proofs.store_at.Reads as reads
+use Rattle.instructions.proofs.store_at.Lts as lts
+
+first-requires : tie.Need-first-requires
+first-requires c κs = search needs
+
+type-at-requires : tie.Need-type-at-requires
+type-at-requires c κs = rw (c .first .ensures) (c .before .before .before .before .before .before .pre .block, c .before .before .before .before .before .before .pre .variable)
+
+store-requires : tie.Need-store-requires
+store-requires c κs = rw (c .before .before .before .first .ensures) (c .before .before .before .before .before .before .before .before .before .pre .stack .0, c .before .before .before .before .before .before .before .before .before .pre .stack .1, c .before .before .before .before .before .before .before .before .before .pre .cell, c .before .before .before .before .before .before .before .before .before .pre .flag)
+
+same-length : tie.Need-same-length
+same-length c = search needs
+
+same-length-2 : tie.Need-same-length-2
+same-length-2 c = search needs
+
+returns : tie.Need-returns
+returns c = rw (← c .before .before .before .before .before .before .before .before .first .ensures, ← c .before .before .before .before .before .before .before .type-at .ensures) (c .before .before .before .before .store .ensures)
+
+pub store-at-spec : {M : Type 1} → statement M
+store-at-spec =
+    tie.close
+    (tie.spec
+    first-requires
+    type-at-requires
+    store-requires
+    same-length
+    same-length-2
+    returns)
