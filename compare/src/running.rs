@@ -5,9 +5,9 @@
 use crate::engine;
 use crate::evaluating::{done, outcome, OUTCOMES};
 use crate::tally::{Done, Tally};
-use second::cases::draft::{results_length, Draft};
+use second::cases::draft::results_length;
 use second::cases::random::Random;
-use second::cases::{self, books, damage, inputs, lend, Case, Expected, Service, Success};
+use second::cases::{self, damage, inputs, lend, mix, Case, Expected, Service, Success};
 use second::run::{observed_run, Denial};
 use second::selfcheck::{expected_code_faults, expected_stuck};
 use second::Answer;
@@ -113,7 +113,7 @@ impl Pair<'_> {
 /// bad list; and scopes that are not there.
 fn compare_book(tally: &mut Tally, seed: u64) {
     let rng = &mut Random::new(seed);
-    let draft: Draft = books::any_book(rng);
+    let draft = mix::some_book(rng);
     let label = format!("book of seed {seed}");
     let mut pair = Pair::of(tally, &draft.bytes(), &label);
     for (number, scope) in draft.scopes.iter().enumerate() {

@@ -129,7 +129,7 @@ fn enough(rng: &mut Random, length: usize) -> usize {
 }
 
 /// An accepted book, now and then a large or extreme one.
-fn some_book(rng: &mut Random) -> Draft {
+pub fn some_book(rng: &mut Random) -> Draft {
     match rng.below(400) {
         0 => {
             let plan = Plan::large(rng);
