@@ -70,8 +70,12 @@ fn compiled(book: &[u8]) -> Vec<u8> {
     code
 }
 
-/// Judging, evaluating and compiling a book and running its code; hands back the
-/// engine's times of evaluating and of running.
+/// A scope that is in no code: it is refused once the code is judged.
+const ABSENT: usize = 32;
+
+/// Judging, evaluating and compiling a book, judging its code (a run that is refused for
+/// an absent scope) and running it; hands back the engine's times of evaluating and of
+/// running.
 fn services(name: &str, book: &[u8], scope: usize) -> (f64, f64) {
     let judge = || _ = black_box(engine::judge(black_box(book)));
     let other = || _ = black_box(second::judge(black_box(book)));
@@ -85,6 +89,9 @@ fn services(name: &str, book: &[u8], scope: usize) -> (f64, f64) {
     let compile = || _ = black_box(engine::compile(black_box(book), &mut ours));
     let other = || _ = black_box(second::compile(black_box(book), &mut theirs));
     compare("compile", name, compile, other);
+    let judge = || _ = black_box(engine::run(black_box(&code), ABSENT, &[], &mut []));
+    let other = || _ = black_box(second::run(black_box(&code), ABSENT, &[], &mut []));
+    compare("judge code", name, judge, other);
     let (mut ours, mut theirs) = ([0; 192], [0; 192]);
     let run = || _ = black_box(engine::run(black_box(&code), scope, &[], &mut ours));
     let other = || _ = black_box(second::run(black_box(&code), scope, &[], &mut theirs));
