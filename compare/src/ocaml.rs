@@ -91,7 +91,8 @@ impl Writer<'_> {
         self.text.push_str(text);
     }
 
-    /// C-SCOPE and C-EMPTY: a function of a thunk for each variable; all of them, forced.
+    /// C-SCOPE and C-EMPTY: a function of a thunk for each variable, and of a unit so
+    /// that a scope without variables is one too; it gives all of them, forced.
     fn write(&mut self, number: usize) {
         let variables = &self.scope.variables;
         let thunk = |v: usize| format!("(x{v} : unit -> {})", type_name(variables[v]));
@@ -116,7 +117,8 @@ impl Writer<'_> {
         self.put(" in\n");
     }
 
-    /// C-CALL: the overrides are evaluated, the call gets them as thunks.
+    /// C-CALL: the overrides are evaluated, the call gets them as thunks. Figure 7 begins
+    /// each with an exception that is always empty; it is left out.
     fn call(&mut self, k: usize) {
         let callee = usize::from(self.scope.subscopes[k]);
         let variables = &self.book.scopes[callee].variables;
