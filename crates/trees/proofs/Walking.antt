@@ -1,6 +1,6 @@
 -- Walking along a chain: what the clauses met so far came to, and what is left.
 --     clause-chain    a clause's outcome, by what the chain of its exceptions comes to; clause-past
---     Walking         what holds at a clause of the chain; begin, deeper, rises, again, and the two ways out, ended and stop
+--     Walking         what holds at a clause of the chain; begin, deeper, rises, again, and the ways out, ended, stop and none-there
 -- Assumes nothing.
 use Prim.Native.Nat.{ℕ, suc, _<_, _≤_, _+_, _-_}
 use mathlib.Core.Path.{_≡_, sym, ap, _∙_}
@@ -140,3 +140,7 @@ module _ (bytes places counts links own called : List ℕ) (i k : ℕ) (w : Walk
               has = λ m. found (inChain k) cs few d m (suc c) f .1;
               left = gathered ∙ ap (exceptions (envOf own called) h) (from-first scope k few (suc c) d f);
             }
+
+  -- a chain that begins with no clause
+  pub none-there : (d : ℕ) → d ≡ getD links k 0 → length cs ≤ d → SoFar Nothing ≡ chainOutcome bytes own called i k
+  none-there d e l = stop (SoFar Nothing) d (begin d e) l

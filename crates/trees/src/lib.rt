@@ -189,7 +189,10 @@ fn eval_chain(
     let mut g = Gathered::SoFar(Joined::Nothing);
     let mut c = byte_at(links, cell) as usize;
     while c < count {
-        let x = eval_chain(book, places, counts, links, own, called, i, EXCEPTIONS + c);
+        let mut x = Gathered::SoFar(Joined::Nothing);
+        if (byte_at(links, EXCEPTIONS + c) as usize) < count {
+            x = eval_chain(book, places, counts, links, own, called, i, EXCEPTIONS + c);
+        }
         let o = settle_clause(book, places, counts, own, called, i, c, x);
         g = gather(g, o);
         match g {
