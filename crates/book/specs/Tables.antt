@@ -5,8 +5,6 @@ use mathlib.Core.Bool.{cond, _&&_}
 use mathlib.Core.List.{List}
 use lib.ListN.{length, getD, drop}
 use lib.Dec.{ltb}
-use Rattle.record.specs.Record.{bodyAt}
-use Rattle.record.specs.declared.Medium.the-variants.{Book}
 use Rattle.book.specs.Syntax.{Scope, noNode, variableOf, nodeOf, clauseOf}
 use Rattle.book.specs.Decode.{scopesOf}
 use Rattle.book.specs.References.{scopeAt, noClause}
@@ -36,9 +34,9 @@ countAt counts i sort = cond (ltb i 32 && ltb sort 4) (getD counts (i * 4 + sort
 unfoldable pub placeAt : List ℕ → ℕ → ℕ → ℕ
 placeAt places i k = cond (ltb i 32 && ltb k 418) (getD places (i * 418 + k) 0) 0
 
--- what the record that begins at a position is; a sub-scope, a node or a clause looks at no byte past its body
+-- what the record that begins at a position is; it looks at no byte past its body
 unfoldable pub variableFrom : List ℕ → ℕ → Variable
-variableFrom bytes at = variableOf (bodyAt Book bytes at)
+variableFrom bytes at = variableOf (drop (at + 1) bytes)
 
 unfoldable pub subScopeFrom : List ℕ → ℕ → ℕ
 subScopeFrom bytes at = getD (drop (at + 1) bytes) 0 0

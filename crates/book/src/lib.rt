@@ -1,8 +1,6 @@
 // The syntax of a book, decoded from its records, and the tables by which its scopes, variables, nodes and clauses are found.
 use calculus::Binary;
 use calculus::Unary;
-use record::Medium;
-use record::body_at;
 use record::byte_at;
 use record::number_at;
 use record::rest_after;
@@ -230,7 +228,7 @@ pub fn variable_at(book: &[u8], places: &[u16], counts: &[u8], i: usize, v: usiz
     ensures { λ r. ⌜ r ≡ variableAt (scopesOf (now (book .entry))) i v ⌝ }
 {
     if v < count_at(counts, i, 0) {
-        let body = body_at(Medium::Book, book, place_at(places, i, 0, v));
+        let body = rest_after(book, place_at(places, i, 0, v));
         Variable {
             holds: type_of(byte_at(body, 0)),
         }

@@ -1,6 +1,6 @@
 -- A record looks at no byte past its body, so it may be read from all bytes after its kind.
 --     stage-below    every kind has a stage of at most 5
---     sub-body, node-body, clause-body    a sub-scope, a node and a clause
+--     variable-body, sub-body, node-body, clause-body    a variable, a sub-scope, a node and a clause
 -- Assumes nothing.
 use Prim.Native.Nat.{ℕ, zero, suc, _<_, _≤_}
 use mathlib.Core.Path.{_≡_, refl}
@@ -37,6 +37,10 @@ long-here st n s h e = go (rw (eq-eqb (s .stage) st e) at h)
     go : T (eqb (s .length) n) → s .length ≡ n
     go t = eqb-true (s .length) n (told (eqb (s .length) n) t)
 
+variable-long : (k : ℕ) → shapeIn Book k .stage ≡ 2 → shapeIn Book k .length ≡ 1
+unfolding shapeIn shapesOf kinds every long
+variable-long k e = long-here 2 1 (shapeIn Book k) (at-every (λ s. long 2 1 (pickShape Book s)) kinds _ tt tt k) e
+
 sub-long : (k : ℕ) → shapeIn Book k .stage ≡ 3 → shapeIn Book k .length ≡ 1
 unfolding shapeIn shapesOf kinds every long
 sub-long k e = long-here 3 1 (shapeIn Book k) (at-every (λ s. long 3 1 (pickShape Book s)) kinds _ tt tt k) e
@@ -45,8 +49,14 @@ clause-long : (k : ℕ) → shapeIn Book k .stage ≡ 5 → shapeIn Book k .leng
 unfolding shapeIn shapesOf kinds every long
 clause-long k e = long-here 5 5 (shapeIn Book k) (at-every (λ s. long 5 5 (pickShape Book s)) kinds _ tt tt k) e
 
+one-byte : (n : ℕ) (r : List ℕ) → n ≡ 1 → getD (take n r) 0 0 ≡ getD r 0 0
+one-byte n r e = rw e (getD-take 1 r 0 0 (omega arith))
+
+pub variable-body : (k : ℕ) (r : List ℕ) → shapeIn Book k .stage ≡ 2 → getD (take (shapeIn Book k .length) r) 0 0 ≡ getD r 0 0
+variable-body k r e = one-byte (shapeIn Book k .length) r (variable-long k e)
+
 pub sub-body : (k : ℕ) (r : List ℕ) → shapeIn Book k .stage ≡ 3 → getD (take (shapeIn Book k .length) r) 0 0 ≡ getD r 0 0
-sub-body k r e = rw (sub-long k e) (getD-take 1 r 0 0 (omega arith))
+sub-body k r e = one-byte (shapeIn Book k .length) r (sub-long k e)
 
 pub clause-body : (k : ℕ) (r : List ℕ) → shapeIn Book k .stage ≡ 5 → clauseOf k (take (shapeIn Book k .length) r) ≡ clauseOf k r
 unfolding clauseOf

@@ -18,8 +18,8 @@ count-at-requires c κs = search needs
 place-at-requires : tie.Need-place-at-requires
 place-at-requires c κs = search needs
 
-body-at-requires : tie.Need-body-at-requires
-body-at-requires c κs = search needs
+rest-after-requires : tie.Need-rest-after-requires
+rest-after-requires c κs = search needs
 
 byte-at-requires : tie.Need-byte-at-requires
 byte-at-requires c κs = search needs
@@ -34,7 +34,7 @@ returns c =
     let i = c .before .before .before .before .before .before .before .before .before .args .i in
     let n = c .before .before .before .before .before .before .before .before .before .args .v in
     let few : n < length (scopeAt (scopesOf (now (c .before .before .before .before .before .before .before .before .before .args .book))) i .variables) = rw (← laid .variableCount i, ← c .before .before .before .before .before .count-at .ensures) (c .before .before .before .before .if1 .taken) in
-    rw (c .type-of .ensures, c .before .byte-at .ensures, c .before .before .body-at .ensures, c .before .before .before .place-at .ensures) (laid .variables i n (record { holds = YesNo }) few)
+    rw (c .type-of .ensures, c .before .byte-at .ensures, c .before .before .rest-after .ensures, c .before .before .before .place-at .ensures) (laid .variables i n (record { holds = YesNo }) few)
 
 returns-2 : tie.Need-returns-2
 unfolding variableAt
@@ -51,7 +51,7 @@ variable-at-spec =
     (tie.spec
     count-at-requires
     place-at-requires
-    body-at-requires
+    rest-after-requires
     byte-at-requires
     type-of-requires
     returns
