@@ -2,15 +2,15 @@
 --     block-ready, block-number, blank      what writing a block asks for
 --     book-room                             every position is below 2^32
 --     book-length, book-code                the pieces have the sizes said, and are the code of the book
---     refused, short, written               the service's answers
+--     refused, short, moved, written        the service's answers
 -- Assumes nothing.
 use Prim.Native.Nat.{ℕ, zero, suc, _+_, _-_, _*_, _<_, _≤_}
 use mathlib.Core.Path.{_≡_, refl, sym, ap, _∙_}
 use mathlib.Core.Bool.{Bool, true, false, cond}
 use mathlib.Core.List.{List, [], _∷_, _++_}
 use native.Mathlib.Omega.{arith}
-use lib.ListN.{length, getD, take, drop, replicate, length-replicate, getD-replicate, drop-of-length-le}
-use lib.Seq.{getD-take, length-take-le}
+use lib.ListN.{length, getD, take, drop, replicate, length-replicate, getD-replicate, drop-of-length-le, length-drop}
+use lib.Seq.{getD-take, length-take-le, take-all}
 use lib.Dec.{ltb}
 use borrow.Author.Tests.{le-leb, lt-leb}
 use Rattle.record.specs.Bytes.{bytesOf}
@@ -335,6 +335,20 @@ refused {bytes} {memory} {f} e =
     let c = ap (λ (j : Judged). onJudged j (fitting (codeOf (scopesOf bytes)) (length memory))) e in
     record { answer = sym (ap (λ (x : Compilation). x .answer) c); memory = sym (ap (λ (x : Compilation). x .written ++ drop (length (x .written)) memory) c) }
 
+-- the last bytes, as a part of a slice
+abbrev rest : ℕ → List ℕ → List ℕ
+rest n s = take (length s - (length s - n)) (drop (length s - n) s)
+
+rest-back : (n : ℕ) (s : List ℕ) → rest n s ≡ back n s
+unfolding back
+rest-back n s = take-all (length s - (length s - n)) (drop (length s - n) s) (omega (arith, length-drop (length s - n) s))
+
+pub rest-long : (s memory : List ℕ) (n : ℕ) → n ≤ length s → n ≤ length memory → length (take n memory) ≡ length (rest n s)
+unfolding back
+rest-long s memory n h l =
+    let e = ap length (rest-back n s) in
+    omega (arith, length-take-le n memory l, length-drop (length s - n) s)
+
 module _ (bytes : List ℕ) (n : ℕ) (ok : judge bytes ≡ judged.Accepted n) where
   code-size : length (codeOf (scopesOf bytes)) ≡ bookSize bytes
   code-size = ap length (sym (book-code bytes n ok)) ∙ book-length bytes
@@ -359,23 +373,32 @@ module _ (bytes : List ℕ) (n : ℕ) (ok : judge bytes ≡ judged.Accepted n) w
       let few = lt-leb (length (codeOf (scopesOf bytes))) (length memory) (omega (arith, code-size, a .next)) in
       answers (refuse BufferTooSmall) (rw few) refl
 
-  whole : {s o : List ℕ} {end : ℕ} → Emits s 0 (bookPiece bytes) (bookSize bytes) end o → length s ≡ bookSize bytes → o ≡ codeOf (scopesOf bytes)
+  whole : {s o : List ℕ} {end : ℕ} → Emits s 0 (bookPiece bytes) (bookSize bytes) end o → end ≤ length s → back end o ≡ codeOf (scopesOf bytes)
   unfolding back
-  whole {s} {o} {end} a e =
-      let m = a .memory (omega (arith, a .next)) in
-      let same = a .same in
-      let y : length o - end ≡ 0 = omega (arith, a .next) in
+  whole {s} {o} {end} a l =
       let z : length s - 0 ≡ length s = omega arith in
-      rw y at m ∙ ap (λ (j : ℕ). bookPiece bytes (drop j s)) z ∙ ap (bookPiece bytes) (drop-of-length-le s {i = length s} (omega arith)) ∙ book-code bytes n ok
+      a .memory l ∙ ap (λ (j : ℕ). bookPiece bytes (drop j s)) z ∙ ap (bookPiece bytes) (drop-of-length-le s {i = length s} (omega arith)) ∙ book-code bytes n ok
 
-  pub written : {memory s₁ o₁ s₂ o₂ : List ℕ} {end last : ℕ} → Emits s₁ 0 (bookPiece bytes) (bookSize bytes) end o₁ → end ≤ length memory
-      → s₂ ≡ take end memory → Emits s₂ 0 (bookPiece bytes) (bookSize bytes) last o₂
-      → Compiles bytes memory (Written end) (o₂ ++ drop end memory)
-  unfolding fitting
-  written {memory} {s₁} {o₁} {s₂} {o₂} {end} a l e b =
-      let c = codeOf (scopesOf bytes) in
-      let k = a .next in
-      let long : length c ≡ end = omega (arith, code-size) in
-      let enough = le-leb (length c) (length memory) (omega arith) in
-      let f : o₂ ≡ c = whole b (ap length e ∙ length-take-le end memory l ∙ omega (arith, code-size)) in
-      answers (record { answer = Written end; written = c }) (rw (enough, long)) (rw (f, long))
+  module _ {memory s o part : List ℕ} {end : ℕ} (a : Emits s 0 (bookPiece bytes) (bookSize bytes) end o) (l : end ≤ length memory) where
+    answered : part ≡ codeOf (scopesOf bytes) → Compiles bytes memory (Written end) (part ++ drop end memory)
+    unfolding fitting
+    answered f =
+        let c = codeOf (scopesOf bytes) in
+        let k = a .next in
+        let long : length c ≡ end = omega (arith, code-size) in
+        let enough = le-leb (length c) (length memory) (omega arith) in
+        answers (record { answer = Written end; written = c }) (rw (enough, long)) (rw (f, long))
+
+    -- the code is copied
+    pub moved : end ≤ length o → part ≡ rest end o → Compiles bytes memory (Written end) (part ++ drop end memory)
+    moved h e = answered (e ∙ rest-back end o ∙ whole a (omega (arith, a .same)))
+
+    -- the code is written again
+    pub written : {s₂ : List ℕ} {last : ℕ} → s₂ ≡ take end memory → Emits s₂ 0 (bookPiece bytes) (bookSize bytes) last part
+        → Compiles bytes memory (Written end) (part ++ drop end memory)
+    unfolding back
+    written {s₂} {last} e b =
+        let k = ap length e ∙ length-take-le end memory l in
+        let same = b .same in
+        let y : length part - last ≡ 0 = omega (arith, a .next, b .next) in
+        answered (ap (λ (j : ℕ). drop j part) (sym y) ∙ whole b (omega (arith, a .next, b .next)))

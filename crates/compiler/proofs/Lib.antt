@@ -1,4 +1,5 @@
 pub mod Emission
+pub mod Copying
 pub mod Terms
 pub mod Chains
 pub mod Pieces

@@ -710,7 +710,47 @@ fn emit_blocks(
     p
 }
 
-// Compiles an accepted book of n scopes: first the length, then the bytes.
+// Copies bytes into memory of their length.
+fn copy(from: &[u8], to: &mut [u8])
+    requires { ⌜ length (now to) ≡ length (now from) ⌝ }
+    ensures { λ _. ⌜ now (to .exit) ≡ now (from .entry) ⌝ }
+{
+    let mut n: usize = 0;
+    while n < to.len() {
+        to[n] = from[n];
+        n += 1;
+    }
+}
+
+// Compiles an accepted book of n scopes, with room to write it in first: the length is known before the code memory changes. Code that the
+// room does not hold is written again.
+fn compile_through(
+    book: &[u8],
+    places: &[u16],
+    counts: &[u8],
+    blocks: &[u8],
+    orders: &[u8],
+    n: usize,
+    room: &mut [u8],
+    code: &mut [u8],
+) -> Compiled
+    requires { ⌜ Tabled (now book) (now places) (now counts) (now blocks) (now orders) n ⌝ }
+    ensures { λ r. ⌜ Compiles (now (book .entry)) (now (code .entry)) r (now (code .exit)) ⌝ }
+{
+    let length = emit_blocks(book, places, counts, blocks, orders, n, room);
+    if code.len() < length {
+        return Compiled::Refused(Refusal::BufferTooSmall);
+    }
+    if length <= room.len() {
+        let start = room.len() - length;
+        copy(&room[start..], &mut code[..length]);
+    } else {
+        emit_blocks(book, places, counts, blocks, orders, n, &mut code[..length]);
+    }
+    Compiled::Written(length)
+}
+
+// Compiles an accepted book of n scopes. A short book gets less room, since clearing it takes time.
 fn compile_accepted(
     book: &[u8],
     places: &[u16],
@@ -723,13 +763,12 @@ fn compile_accepted(
     requires { ⌜ Tabled (now book) (now places) (now counts) (now blocks) (now orders) n ⌝ }
     ensures { λ r. ⌜ Compiles (now (book .entry)) (now (code .entry)) r (now (code .exit)) ⌝ }
 {
-    let mut nothing = [0u8; 0];
-    let length = emit_blocks(book, places, counts, blocks, orders, n, &mut nothing);
-    if code.len() < length {
-        return Compiled::Refused(Refusal::BufferTooSmall);
+    if book.len() < 1536 {
+        let mut room = [0u8; 8192];
+        return compile_through(book, places, counts, blocks, orders, n, &mut room, code);
     }
-    emit_blocks(book, places, counts, blocks, orders, n, &mut code[..length]);
-    Compiled::Written(length)
+    let mut room = [0u8; 65536];
+    compile_through(book, places, counts, blocks, orders, n, &mut room, code)
 }
 
 // Compiles a book into lent memory: the length written. A refusal leaves every byte as it was.
