@@ -1,20 +1,20 @@
 -- Laws of bytes written from the end to the beginning.
---     put-byte, put-none     one byte, where there is room for it and where there is none
+--     put-byte, put-pair, put-distance, put-none     one byte, two, three, and none where there is no room
 --     _then_                 two runs, one in front of the other
 --     alike                   the same bytes, said otherwise
 -- Assumes nothing.
-use Prim.Native.Nat.{ℕ, zero, suc, _+_, _-_, _<_, _≤_}
-use mathlib.Core.Path.{_≡_, refl, sym, ap, _∙_}
+use Prim.Native.Nat.{ℕ, zero, suc, _+_, _-_, _/_, _%_, _<_, _≤_}
+use mathlib.Core.Path.{_≡_, refl, sym, ap, subst, _∙_}
 use mathlib.Core.List.{List, _∷_}
 use native.Mathlib.Omega.{arith}
 use lib.ListN.{length, set, take, drop, length-set}
 use lib.Seq.{set-split, length-take-le, drop-at}
-use Rattle.compiler.specs.Emission.{back, Emits, Room, one, each, total}
+use Rattle.record.specs.Bytes.{bytesOf}
+use Rattle.compiler.specs.Emission.{back, Emits, Room, one, two, jump, each, total}
 
-pub put-byte : (s : List ℕ) (at a : ℕ) → at < length s → Emits s at (one a) 1 (at + 1) (set s (length s - 1 - at) a)
+put-at : (s : List ℕ) (at a p : ℕ) → p + suc at ≡ length s → Emits s at (one a) 1 (at + 1) (set s p a)
 unfolding back
-put-byte s at a h =
-    let p = length s - 1 - at in
+put-at s at a p h =
     let l = length-set s p a in
     let e : length s - (at + 1) ≡ p = omega arith in
     let f : suc p ≡ length s - at = omega arith in
@@ -26,8 +26,11 @@ put-byte s at a h =
           (drop-at (take p s) (a ∷ drop (suc p) s) p (length-take-le p s (omega arith)));
     }
 
-pub put-none : (s : List ℕ) (at a : ℕ) → length s ≤ at → Emits s at (one a) 1 (at + 1) s
-put-none s at a h = record { next = refl; same = refl; memory = λ m. absurd (omega arith) }
+pub put-byte : (s : List ℕ) (at a : ℕ) → at < length s → Emits s at (one a) 1 (at + 1) (set s (length s - 1 - at) a)
+put-byte s at a h = put-at s at a (length s - 1 - at) (omega arith)
+
+pub put-none : (s : List ℕ) (at : ℕ) (f : List ℕ → List ℕ) (n : ℕ) → length s < at + n → Emits s at f n (at + n) s
+put-none s at f n h = record { next = refl; same = refl; memory = λ m. absurd (omega arith) }
 
 pub then : {s t u : List ℕ} {at p q n m : ℕ} {f g : List ℕ → List ℕ} → Emits s at f n p t → Emits t p g m q u → Emits s at (λ k. g (f k)) (n + m) q u
 then {s} {t} {u} {at} {p} {q} {n} {m} {f} {g} a b =
@@ -48,6 +51,32 @@ alike {s} {t} {at} {p} {n} {m} {f} {g} a h e =
 -- nothing
 pub nothing : {s : List ℕ} {at : ℕ} → Emits s at (λ k. k) 0 at s
 nothing {s} {at} = record { next = omega arith; same = refl; memory = λ r. refl }
+
+-- one more byte in front
+front : {s t : List ℕ} {at p n : ℕ} {f : List ℕ → List ℕ} → Emits s at f n p t → (a place q : ℕ) → place + q ≡ length s → q ≡ p + 1
+    → Emits s at (λ k. a ∷ f k) (n + 1) q (set t place a)
+front {s} {t} {at} {p} {n} {f} e a place q h z =
+    let l = e .same in
+    subst (λ (x : ℕ). Emits s at (λ k. a ∷ f k) (n + 1) x (set t place a)) (sym z) (then e (put-at t p a place (omega arith)))
+
+module _ (s : List ℕ) (at : ℕ) where
+  pub put-pair : (a b : ℕ) → at + 2 ≤ length s → Emits s at (two a b) 2 (at + 2) (set (set s (length s - (at + 2) + 1) b) (length s - (at + 2)) a)
+  put-pair a b h =
+      alike
+      (front (front nothing b (length s - (at + 2) + 1) (at + 1) (omega arith) refl) a (length s - (at + 2)) (at + 2) (omega arith) (omega arith))
+      (λ k. refl) refl
+
+  pub put-distance : (kind d : ℕ) → at + 3 ≤ length s
+      → Emits s at (jump kind d) 3 (at + 3)
+      (set (set (set s (length s - (at + 3) + 2) (d % 256)) (length s - (at + 3) + 1) (d / 256 % 256)) (length s - (at + 3)) kind)
+  unfolding bytesOf jump
+  put-distance kind d h =
+      alike
+      (front
+      (front (front nothing (d % 256) (length s - (at + 3) + 2) (at + 1) (omega arith) refl)
+      (d / 256 % 256) (length s - (at + 3) + 1) (at + 2) (omega arith) (omega arith))
+      kind (length s - (at + 3)) (at + 3) (omega arith) (omega arith))
+      (λ k. refl) refl
 
 -- Pieces written from the last to the first
 

@@ -77,8 +77,14 @@ fn put_two(out: &mut [u8], at: usize, a: u8, b: u8) -> usize
     requires { ⌜ Room at 2 ⌝ }
     ensures { λ r. ⌜ Emits (now (out .entry)) at (two a b) 2 r (now (out .exit)) ⌝ }
 {
-    let p = put_one(out, at, b);
-    put_one(out, p, a)
+    let end = at + 2;
+    if out.len() < end {
+        return end;
+    }
+    let place = out.len() - end;
+    out[place + 1] = b;
+    out[place] = a;
+    end
 }
 
 // An instruction with a distance.
@@ -86,8 +92,15 @@ fn put_far(out: &mut [u8], at: usize, kind: u8, d: usize) -> usize
     requires { ⌜ Room at 3 ⌝ }
     ensures { λ r. ⌜ Emits (now (out .entry)) at (jump kind d) 3 r (now (out .exit)) ⌝ }
 {
-    let p = put_two(out, at, (d / 256 % 256) as u8, (d % 256) as u8);
-    put_one(out, p, kind)
+    let end = at + 3;
+    if out.len() < end {
+        return end;
+    }
+    let place = out.len() - end;
+    out[place + 2] = (d % 256) as u8;
+    out[place + 1] = (d / 256 % 256) as u8;
+    out[place] = kind;
+    end
 }
 
 // A constant.

@@ -95,9 +95,11 @@ module _ (code : List ℕ) (at : ℕ) (u : Progress) (s : Shape) (es : s ≡ sha
         pub fault-limit : c ≡ true → true ≡ faultyAt code at u
         fault-limit h = rw h at rest-is
 
-        pub fault-byte : c ≡ false → (m : Bool) → m ≡ invalid (getD code at 0) (take (length code - (at + 1)) (drop (at + 1) code))
+        pub fault-byte : c ≡ false → (kind : ℕ) → kind ≡ getD code at 0 → (m : Bool)
+            → m ≡ invalid kind (take (length code - (at + 1)) (drop (at + 1) code))
             → m ≡ faultyAt code at u
-        fault-byte h m em =
+        fault-byte h kind ek m em =
             em
+            ∙ ap (λ (k : ℕ). invalid k (take (length code - (at + 1)) (drop (at + 1) code))) ek
             ∙ ap (invalid (getD code at 0)) (take-all (length code - (at + 1)) (drop (at + 1) code) (rw length-drop (omega arith)))
             ∙ rw h at rest-is

@@ -2,6 +2,7 @@
 --     by-kind        what holds at each of them holds at every kind of stage 4
 --     fits-parts     an instruction fits where its numbers name something and its distance lands
 --     local          an instruction depends only on its body
+--     no-names       an instruction without numbers
 -- Assumes nothing.
 use Prim.Native.Nat.{ℕ, _<_, _≤_}
 use mathlib.Core.Path.{_≡_, refl, sym, ap, subst}
@@ -20,6 +21,8 @@ use Rattle.machine.specs.Instructions.{instructionOf}
 use Rattle.machine.specs.Blocks.{Block, bodyLength, stageOf, variablesOf}
 use Rattle.machine.specs.Acceptance.{lands, fits}
 use Rattle.verifier.specs.Instructions.{namingOf, distancePlace, named, distanceOf}
+use Rattle.verifier.specs.Pass.{namesAt}
+use Rattle.verifier.specs.declared.Progress.{Progress}
 
 abbrev Each : (ℕ → Type 0) → List ℕ → Type 0
 Each P [] = Unit {0}
@@ -238,3 +241,7 @@ locals = (
 
 pub local : (k : ℕ) → stageOf k ≡ 4 → Local k
 local k e = by-kind Local locals k e
+
+pub no-names : (kind : ℕ) (body heads widths : List ℕ) (u : Progress) → namingOf kind ≡ 0 → true ≡ namesAt kind body heads widths u
+unfolding namesAt named
+no-names kind body heads widths u e = rw e refl

@@ -2,6 +2,7 @@
 //   weights, widths   of each of 32 scopes: the weight of its block and the number of its variables, 0 where it has no block
 //   ring              the landings of distances that lie ahead: a mark for each position, by its remainder modulo 65,536
 use record::Medium;
+use record::Shape;
 use record::byte_at;
 use record::shape_in;
 use scan::is_invalid;
@@ -9,6 +10,8 @@ use scan::may_follow;
 ghost use mathlib.Core.Path.{_≡_};
 ghost use Prim.Native.Nat.{_+_, _<_, _≤_, _*_};
 ghost use lib.ListN.{length, getD, replicate};
+ghost use Rattle.record.specs.Kinds.{shapeIn};
+ghost use Rattle.record.specs.declared.Medium.the-variants.{Code};
 ghost use Rattle.machine.specs.Acceptance.{accepted};
 ghost use Rattle.verifier.specs.Tables.{Room};
 ghost use Rattle.verifier.specs.Instructions.{namingOf, distancePlace, named, distanceOf, farthest};
@@ -89,13 +92,11 @@ fn too_many(stage: usize, u: Progress) -> bool
     false
 }
 
-// Whether the record at a position has one of the faults 1 to 5.
-fn is_faulty(code: &[u8], at: usize, u: Progress) -> bool
-    requires { ⌜ (at < length (now code)) × Limited u ⌝ }
+// Whether the record at a position has one of the faults 1 to 5, by its kind and the kind's shape.
+fn is_faulty(code: &[u8], at: usize, kind: u8, shape: Shape, u: Progress) -> bool
+    requires { ⌜ (at < length (now code)) × Limited u × (kind ≡ getD (now code) at 0) × (shape ≡ shapeIn Code (getD (now code) at 0)) ⌝ }
     ensures { λ r. ⌜ r ≡ faultyAt (now (code .entry)) at u ⌝ }
 {
-    let kind = code[at];
-    let shape = shape_in(Medium::Code, kind);
     let stage = shape.stage;
     let length = shape.length;
     if stage == 0 {
@@ -216,10 +217,14 @@ fn names_hold(kind: u8, body: &[u8], u: Progress, heads: &[u8], widths: &[usize]
     requires { ⌜ u .blocks < 32 ⌝ }
     ensures { λ r. ⌜ r ≡ namesAt kind (now (body .entry)) (now (heads .entry)) (now (widths .entry)) u ⌝ }
 {
+    let naming = naming_of(kind);
+    if naming == 0 {
+        return true;
+    }
     let a = wide(byte_at(body, 0));
     let b = wide(byte_at(body, 1));
     let called = entry_at(widths, wide(byte_at(heads, u.blocks * 48 + 35 + a)));
-    names_something(naming_of(kind), a, b, u.variables, u.subs, called)
+    names_something(naming, a, b, u.variables, u.subs, called)
 }
 
 // An instruction at a position, by its kind and all bytes after it, up to the next record. One without a distance lands at its own end.
@@ -387,11 +392,11 @@ fn step_at(
         ⌜ Stepped (now (code .entry)) at (now (spans .exit)) (now (heads .exit)) (now (places .exit))
         (now (weights .exit)) (now (widths .exit)) (now (ring .exit)) r ⌝ }
 {
-    if is_faulty(code, at, u) {
-        return Step::Refused;
-    }
     let kind = code[at];
     let shape = shape_in(Medium::Code, kind);
+    if is_faulty(code, at, kind, shape, u) {
+        return Step::Refused;
+    }
     let stage = shape.stage;
     let length = shape.length;
     let start = at + 1;

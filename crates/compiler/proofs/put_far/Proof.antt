@@ -1,34 +1,63 @@
 -- `compiler::put_far` meets its contract.
 -- Assumes nothing.
-use mathlib.Core.Path.{refl}
-use Rattle.compiler.specs.Emission.{jump}
-use Rattle.record.specs.Bytes.{bytesOf}
-use Rattle.compiler.proofs.Emission.{then, alike}
+use lib.ListN.{length-set}
+use native.Mathlib.Omega.{arith}
+use Rattle.compiler.proofs.Emission.{put-none, put-distance}
 use borrow.Author.Needs.{needs}
 use Rattle.compiler.proofs.put_far.Statement.{statement}
 use Rattle.compiler.proofs.put_far.Tie as tie
 
-cast-put-two : tie.Need-cast-put-two
-cast-put-two c = search needs
+add-end : tie.Need-add-end
+add-end c = search needs
 
-cast-put-two-2 : tie.Need-cast-put-two-2
-cast-put-two-2 c = search needs
+returns : tie.Need-returns
+returns c =
+    put-none _ _ _ _ (c .if1 .taken)
 
-put-two-requires : tie.Need-put-two-requires
-put-two-requires c κs = search needs
+sub-place : tie.Need-sub-place
+sub-place c = search needs
 
-put-one-requires : tie.Need-put-one-requires
-put-one-requires c κs = search needs
+cast-out : tie.Need-cast-out
+cast-out c = search needs
+
+add-out : tie.Need-add-out
+add-out c = search needs
+
+slice-write-out : tie.Need-slice-write-out
+slice-write-out c = search needs
+
+cast-out-2 : tie.Need-cast-out-2
+cast-out-2 c = search needs
+
+add-out-2 : tie.Need-add-out-2
+add-out-2 c = search needs
+
+slice-write-out-2 : tie.Need-slice-write-out-2
+slice-write-out-2 c = simp length-set (let h = c .if1 .left in omega arith)
+
+slice-write-out-3 : tie.Need-slice-write-out-3
+slice-write-out-3 c = simp length-set (let h = c .if1 .left in omega arith)
 
 same-length : tie.Need-same-length
 same-length c = search needs
 
-returns : tie.Need-returns
-unfolding bytesOf jump
-returns c =
-    alike (then (c .before .before .before .before .before .before .put-two .ensures) (c .before .before .put-one .ensures)) (λ k. refl) refl
+returns-2 : tie.Need-returns-2
+returns-2 c =
+    put-distance _ _ _ _ (c .if1 .left)
 
 pub put-far-spec : {M : Type 1} → statement M
 put-far-spec =
     tie.close
-    (tie.spec cast-put-two cast-put-two-2 put-two-requires put-one-requires same-length returns)
+    (tie.spec
+    add-end
+    returns
+    sub-place
+    cast-out
+    add-out
+    slice-write-out
+    cast-out-2
+    add-out-2
+    slice-write-out-2
+    slice-write-out-3
+    same-length
+    returns-2)

@@ -11,7 +11,7 @@ add-result c = search needs
 
 returns : tie.Need-returns
 returns c =
-    put-none _ _ _ (c .if1 .taken)
+    put-none _ _ _ _ (omega (arith, c .if1 .taken))
 
 sub-place : tie.Need-sub-place
 sub-place c = search needs

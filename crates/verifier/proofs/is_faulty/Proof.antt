@@ -6,14 +6,8 @@ use borrow.Author.Needs.{needs}
 use Rattle.verifier.proofs.is_faulty.Statement.{statement}
 use Rattle.verifier.proofs.is_faulty.Tie as tie
 
-shared-slice-read-kind : tie.Need-shared-slice-read-kind
-shared-slice-read-kind c = search needs
-
-shape-in-requires : tie.Need-shape-in-requires
-shape-in-requires c κs = search needs
-
 returns : tie.Need-returns
-returns c = fault-kind _ _ _ _ (c .before .shape-in .ensures) (c .if1 .taken)
+returns c = fault-kind _ _ _ _ (c .before .before .pre .3) (c .if1 .taken)
 
 add-start : tie.Need-add-start
 add-start c = search needs
@@ -22,19 +16,19 @@ sub-if2 : tie.Need-sub-if2
 sub-if2 c = search needs
 
 returns-2 : tie.Need-returns-2
-returns-2 c = fault-length _ _ _ _ (c .before .before .shape-in .ensures) (c .before .if1 .left) (c .if2 .taken)
+returns-2 c = fault-length _ _ _ _ (c .before .before .before .pre .3) (c .before .if1 .left) (c .if2 .taken)
 
 may-follow-requires : tie.Need-may-follow-requires
 may-follow-requires c κs = search needs
 
 returns-3 : tie.Need-returns-3
-returns-3 c = fault-order _ _ _ _ (c .before .before .before .before .shape-in .ensures) (c .before .before .before .if1 .left) (c .before .before .if2 .left) _ (c .before .may-follow .ensures) (not-true _ (c .if3 .taken))
+returns-3 c = fault-order _ _ _ _ (c .before .before .before .before .before .pre .3) (c .before .before .before .if1 .left) (c .before .before .if2 .left) _ (c .before .may-follow .ensures) (not-true _ (c .if3 .taken))
 
 too-many-requires : tie.Need-too-many-requires
 too-many-requires c κs = search needs
 
 returns-4 : tie.Need-returns-4
-returns-4 c = fault-limit _ _ _ _ (c .before .before .before .before .before .before .shape-in .ensures) (c .before .before .before .before .before .if1 .left) (c .before .before .before .before .if2 .left) _ (c .before .before .before .may-follow .ensures) (not-false _ (c .before .before .if3 .left)) _ (c .before .too-many .ensures) (c .if4 .taken)
+returns-4 c = fault-limit _ _ _ _ (c .before .before .before .before .before .before .before .pre .3) (c .before .before .before .before .before .if1 .left) (c .before .before .before .before .if2 .left) _ (c .before .before .before .may-follow .ensures) (not-false _ (c .before .before .if3 .left)) _ (c .before .too-many .ensures) (c .if4 .taken)
 
 sub-is-invalid : tie.Need-sub-is-invalid
 sub-is-invalid c = search needs
@@ -49,14 +43,12 @@ is-invalid-requires : tie.Need-is-invalid-requires
 is-invalid-requires c κs = search needs
 
 returns-5 : tie.Need-returns-5
-returns-5 c = fault-byte _ _ _ _ (c .before .before .before .before .before .before .before .before .shape-in .ensures) (c .before .before .before .before .before .before .before .if1 .left) (c .before .before .before .before .before .before .if2 .left) _ (c .before .before .before .before .before .may-follow .ensures) (not-false _ (c .before .before .before .before .if3 .left)) _ (c .before .before .before .too-many .ensures) (c .before .before .if4 .left) _ (c .is-invalid .ensures)
+returns-5 c = fault-byte _ _ _ _ (c .before .before .before .before .before .before .before .before .before .pre .3) (c .before .before .before .before .before .before .before .if1 .left) (c .before .before .before .before .before .before .if2 .left) _ (c .before .before .before .before .before .may-follow .ensures) (not-false _ (c .before .before .before .before .if3 .left)) _ (c .before .before .before .too-many .ensures) (c .before .before .if4 .left) _ (c .before .before .before .before .before .before .before .before .before .pre .2) _ (c .is-invalid .ensures)
 
 pub is-faulty-spec : {M : Type 1} → statement M
 is-faulty-spec =
     tie.close
     (tie.spec
-    shared-slice-read-kind
-    shape-in-requires
     returns
     add-start
     sub-if2

@@ -8,29 +8,29 @@ use borrow.Author.Needs.{needs}
 use Rattle.verifier.proofs.step_at.Statement.{statement}
 use Rattle.verifier.proofs.step_at.Tie as tie
 
-is-faulty-requires : tie.Need-is-faulty-requires
-is-faulty-requires c κs = search needs
-
-returns : tie.Need-returns
-returns c = faulty-refused _ _ _ (c .before .before .before .before .before .before .before .before .before .pre .0) (c .before .before .before .before .before .before .before .before .before .pre .1 .sound) (sym (c .before .is-faulty .ensures) ∙ c .if1 .taken)
-
 shared-slice-read-kind : tie.Need-shared-slice-read-kind
 shared-slice-read-kind c = search needs
 
 shape-in-requires : tie.Need-shape-in-requires
 shape-in-requires c κs = search needs
 
+is-faulty-requires : tie.Need-is-faulty-requires
+is-faulty-requires c κs = search needs
+
+returns : tie.Need-returns
+returns c = faulty-refused _ _ _ (c .before .before .before .before .before .before .before .before .before .before .before .pre .0) (c .before .before .before .before .before .before .before .before .before .before .before .pre .1 .sound) (sym (c .before .is-faulty .ensures) ∙ c .if1 .taken)
+
 add-start : tie.Need-add-start
 add-start c = search needs
 
 add-next : tie.Need-add-next
-add-next c = let h = next-within _ _ _ _ _ _ _ _ _ (c .before .before .before .before .before .before .before .before .before .before .before .pre .1) (c .before .before .before .before .before .before .before .before .before .before .before .pre .0) _ (c .before .before .before .is-faulty .ensures) (c .before .before .if1 .left) _ (c .shape-in .ensures) in omega arith
+add-next c = let h = next-within _ _ _ _ _ _ _ _ _ (c .before .before .before .before .before .before .before .before .before .before .before .pre .1) (c .before .before .before .before .before .before .before .before .before .before .before .pre .0) _ (c .before .is-faulty .ensures) (c .if1 .left) _ (c .before .before .shape-in .ensures) in omega arith
 
 byte-at-requires : tie.Need-byte-at-requires
 byte-at-requires c κs = search needs
 
 begin-block-requires : tie.Need-begin-block-requires
-begin-block-requires c κs = makes-beginning _ _ _ _ _ _ _ _ _ (c .before .before .before .before .before .before .before .before .before .before .before .before .before .before .before .before .before .before .before .pre .1) (c .before .before .before .before .before .before .before .before .before .before .before .before .before .before .before .before .before .before .before .pre .0) _ (c .before .before .before .before .before .before .before .before .before .before .before .is-faulty .ensures) (c .before .before .before .before .before .before .before .before .before .before .if1 .left) _ (c .before .before .before .before .before .before .before .before .shape-in .ensures) _ (c .before .before .before .before .before .before .before .byte-at .ensures) (c .before .before .before .before .before .before .if2 .taken)
+begin-block-requires c κs = makes-beginning _ _ _ _ _ _ _ _ _ (c .before .before .before .before .before .before .before .before .before .before .before .before .before .before .before .before .before .before .before .pre .1) (c .before .before .before .before .before .before .before .before .before .before .before .before .before .before .before .before .before .before .before .pre .0) _ (c .before .before .before .before .before .before .before .before .before .is-faulty .ensures) (c .before .before .before .before .before .before .before .before .if1 .left) _ (c .before .before .before .before .before .before .before .before .before .before .shape-in .ensures) _ (c .before .before .before .before .before .before .before .byte-at .ensures) (c .before .before .before .before .before .before .if2 .taken)
 
 same-length : tie.Need-same-length
 same-length c = search needs
@@ -54,16 +54,16 @@ returns-2 : tie.Need-returns-2
 returns-2 c = search needs
 
 mul-heads : tie.Need-mul-heads
-mul-heads c = let h = variable-fits _ _ _ _ _ _ _ _ _ (c .before .before .before .before .before .before .before .before .before .before .before .before .before .before .pre .1) (c .before .before .before .before .before .before .before .before .before .before .before .before .before .before .pre .0) _ (c .before .before .before .before .before .before .is-faulty .ensures) (c .before .before .before .before .before .if1 .left) _ (c .before .before .before .shape-in .ensures) (c .if3 .taken) in omega arith
+mul-heads c = let h = variable-fits _ _ _ _ _ _ _ _ _ (c .before .before .before .before .before .before .before .before .before .before .before .before .before .before .pre .1) (c .before .before .before .before .before .before .before .before .before .before .before .before .before .before .pre .0) _ (c .before .before .before .before .is-faulty .ensures) (c .before .before .before .if1 .left) _ (c .before .before .before .before .before .shape-in .ensures) (c .if3 .taken) in omega arith
 
 add-heads : tie.Need-add-heads
-add-heads c = let h = variable-fits _ _ _ _ _ _ _ _ _ (c .before .before .before .before .before .before .before .before .before .before .before .before .before .before .pre .1) (c .before .before .before .before .before .before .before .before .before .before .before .before .before .before .pre .0) _ (c .before .before .before .before .before .before .is-faulty .ensures) (c .before .before .before .before .before .if1 .left) _ (c .before .before .before .shape-in .ensures) (c .if3 .taken) in omega arith
+add-heads c = let h = variable-fits _ _ _ _ _ _ _ _ _ (c .before .before .before .before .before .before .before .before .before .before .before .before .before .before .pre .1) (c .before .before .before .before .before .before .before .before .before .before .before .before .before .before .pre .0) _ (c .before .before .before .before .is-faulty .ensures) (c .before .before .before .if1 .left) _ (c .before .before .before .before .before .shape-in .ensures) (c .if3 .taken) in omega arith
 
 add-heads-2 : tie.Need-add-heads-2
-add-heads-2 c = let h = variable-fits _ _ _ _ _ _ _ _ _ (c .before .before .before .before .before .before .before .before .before .before .before .before .before .before .pre .1) (c .before .before .before .before .before .before .before .before .before .before .before .before .before .before .pre .0) _ (c .before .before .before .before .before .before .is-faulty .ensures) (c .before .before .before .before .before .if1 .left) _ (c .before .before .before .shape-in .ensures) (c .if3 .taken) in omega arith
+add-heads-2 c = let h = variable-fits _ _ _ _ _ _ _ _ _ (c .before .before .before .before .before .before .before .before .before .before .before .before .before .before .pre .1) (c .before .before .before .before .before .before .before .before .before .before .before .before .before .before .pre .0) _ (c .before .before .before .before .is-faulty .ensures) (c .before .before .before .if1 .left) _ (c .before .before .before .before .before .shape-in .ensures) (c .if3 .taken) in omega arith
 
 slice-write-heads : tie.Need-slice-write-heads
-slice-write-heads c = let h = variable-fits _ _ _ _ _ _ _ _ _ (c .before .before .before .before .before .before .before .before .before .before .before .before .before .before .pre .1) (c .before .before .before .before .before .before .before .before .before .before .before .before .before .before .pre .0) _ (c .before .before .before .before .before .before .is-faulty .ensures) (c .before .before .before .before .before .if1 .left) _ (c .before .before .before .shape-in .ensures) (c .if3 .taken) in omega arith
+slice-write-heads c = let h = variable-fits _ _ _ _ _ _ _ _ _ (c .before .before .before .before .before .before .before .before .before .before .before .before .before .before .pre .1) (c .before .before .before .before .before .before .before .before .before .before .before .before .before .before .pre .0) _ (c .before .before .before .before .is-faulty .ensures) (c .before .before .before .if1 .left) _ (c .before .before .before .before .before .shape-in .ensures) (c .if3 .taken) in omega arith
 
 add-w : tie.Need-add-w
 add-w c = search needs
@@ -72,10 +72,10 @@ same-length-7 : tie.Need-same-length-7
 same-length-7 c = search needs
 
 returns-3 : tie.Need-returns-3
-returns-3 c = variable-stepped _ _ _ _ _ _ _ _ _ (c .before .before .before .before .before .before .before .before .before .before .before .before .before .before .pre .1) (c .before .before .before .before .before .before .before .before .before .before .before .before .before .before .pre .0) _ (c .before .before .before .before .before .before .is-faulty .ensures) (c .before .before .before .before .before .if1 .left) _ (c .before .before .before .shape-in .ensures) _ (c .before .before .byte-at .ensures) (c .if3 .taken)
+returns-3 c = variable-stepped _ _ _ _ _ _ _ _ _ (c .before .before .before .before .before .before .before .before .before .before .before .before .before .before .pre .1) (c .before .before .before .before .before .before .before .before .before .before .before .before .before .before .pre .0) _ (c .before .before .before .before .is-faulty .ensures) (c .before .before .before .if1 .left) _ (c .before .before .before .before .before .shape-in .ensures) _ (c .before .before .byte-at .ensures) (c .if3 .taken)
 
 sub-scope-requires : tie.Need-sub-scope-requires
-sub-scope-requires c κs = makes-sub-room _ _ _ _ _ _ _ _ _ (c .before .before .before .before .before .before .before .before .before .before .before .before .before .before .before .before .before .before .pre .1) (c .before .before .before .before .before .before .before .before .before .before .before .before .before .before .before .before .before .before .pre .0) _ (c .before .before .before .before .before .before .before .before .before .before .is-faulty .ensures) (c .before .before .before .before .before .before .before .before .before .if1 .left) _ (c .before .before .before .before .before .before .before .shape-in .ensures) _ (c .before .before .before .before .before .before .byte-at .ensures) (c .before .before .before .if4 .taken)
+sub-scope-requires c κs = makes-sub-room _ _ _ _ _ _ _ _ _ (c .before .before .before .before .before .before .before .before .before .before .before .before .before .before .before .before .before .before .pre .1) (c .before .before .before .before .before .before .before .before .before .before .before .before .before .before .before .before .before .before .pre .0) _ (c .before .before .before .before .before .before .before .before .is-faulty .ensures) (c .before .before .before .before .before .before .before .if1 .left) _ (c .before .before .before .before .before .before .before .before .before .shape-in .ensures) _ (c .before .before .before .before .before .before .byte-at .ensures) (c .before .before .before .if4 .taken)
 
 same-length-8 : tie.Need-same-length-8
 same-length-8 c = search needs
@@ -87,7 +87,7 @@ same-length-10 : tie.Need-same-length-10
 same-length-10 c = search needs
 
 returns-4 : tie.Need-returns-4
-returns-4 c = sub-stepped _ _ _ _ _ _ _ _ _ (c .before .before .before .before .before .before .before .before .before .before .before .before .before .before .before .before .before .before .before .before .before .pre .1) (c .before .before .before .before .before .before .before .before .before .before .before .before .before .before .before .before .before .before .before .before .before .pre .0) _ (c .before .before .before .before .before .before .before .before .before .before .before .before .before .is-faulty .ensures) (c .before .before .before .before .before .before .before .before .before .before .before .before .if1 .left) _ (c .before .before .before .before .before .before .before .before .before .before .shape-in .ensures) _ (c .before .before .before .before .before .before .before .before .before .byte-at .ensures) (c .before .before .before .before .before .before .if4 .taken) _ _ (c .before .before .sub-scope .ensures)
+returns-4 c = sub-stepped _ _ _ _ _ _ _ _ _ (c .before .before .before .before .before .before .before .before .before .before .before .before .before .before .before .before .before .before .before .before .before .pre .1) (c .before .before .before .before .before .before .before .before .before .before .before .before .before .before .before .before .before .before .before .before .before .pre .0) _ (c .before .before .before .before .before .before .before .before .before .before .before .is-faulty .ensures) (c .before .before .before .before .before .before .before .before .before .before .if1 .left) _ (c .before .before .before .before .before .before .before .before .before .before .before .before .shape-in .ensures) _ (c .before .before .before .before .before .before .before .before .before .byte-at .ensures) (c .before .before .before .before .before .before .if4 .taken) _ _ (c .before .before .sub-scope .ensures)
 
 sub-instruction : tie.Need-sub-instruction
 sub-instruction c = search needs
@@ -99,7 +99,7 @@ part-instruction-end : tie.Need-part-instruction-end
 part-instruction-end c = search needs
 
 instruction-requires : tie.Need-instruction-requires
-instruction-requires c κs = makes-instructing _ _ _ _ _ _ _ _ _ (c .before .before .before .before .before .before .before .before .before .before .before .before .before .before .before .before .before .before .before .pre .1) (c .before .before .before .before .before .before .before .before .before .before .before .before .before .before .before .before .before .before .before .pre .0) _ (c .before .before .before .before .before .before .before .before .before .before .before .is-faulty .ensures) (c .before .before .before .before .before .before .before .before .before .before .if1 .left) _ (c .before .before .before .before .before .before .before .before .shape-in .ensures) (c .before .before .before .before .before .before .if2 .left) (c .before .before .before .before .before .if3 .left) (c .before .before .before .before .if4 .left)
+instruction-requires c κs = makes-instructing _ _ _ _ _ _ _ _ _ (c .before .before .before .before .before .before .before .before .before .before .before .before .before .before .before .before .before .before .before .pre .1) (c .before .before .before .before .before .before .before .before .before .before .before .before .before .before .before .before .before .before .before .pre .0) _ (c .before .before .before .before .before .before .before .before .before .is-faulty .ensures) (c .before .before .before .before .before .before .before .before .if1 .left) _ (c .before .before .before .before .before .before .before .before .before .before .shape-in .ensures) (c .before .before .before .before .before .before .if2 .left) (c .before .before .before .before .before .if3 .left) (c .before .before .before .before .if4 .left)
 
 same-length-11 : tie.Need-same-length-11
 same-length-11 c = search needs
@@ -111,16 +111,16 @@ same-length-13 : tie.Need-same-length-13
 same-length-13 c = search needs
 
 returns-5 : tie.Need-returns-5
-returns-5 c = c .before .before .instruction .ensures _ _ _ _ (at-instruction _ _ _ _ _ _ _ _ _ (c .before .before .before .before .before .before .before .before .before .before .before .before .before .before .before .before .before .before .before .before .before .before .pre .1) (c .before .before .before .before .before .before .before .before .before .before .before .before .before .before .before .before .before .before .before .before .before .before .pre .0) _ (c .before .before .before .before .before .before .before .before .before .before .before .before .before .before .is-faulty .ensures) (c .before .before .before .before .before .before .before .before .before .before .before .before .before .if1 .left) _ (c .before .before .before .before .before .before .before .before .before .before .before .shape-in .ensures) (c .before .before .before .before .before .before .before .before .before .if2 .left) (c .before .before .before .before .before .before .before .before .if3 .left) (c .before .before .before .before .before .before .before .if4 .left)) (c .before .before .before .before .before .before .before .before .before .before .before .before .before .before .before .before .before .before .before .before .before .before .pre .1)
+returns-5 c = c .before .before .instruction .ensures _ _ _ _ (at-instruction _ _ _ _ _ _ _ _ _ (c .before .before .before .before .before .before .before .before .before .before .before .before .before .before .before .before .before .before .before .before .before .before .pre .1) (c .before .before .before .before .before .before .before .before .before .before .before .before .before .before .before .before .before .before .before .before .before .before .pre .0) _ (c .before .before .before .before .before .before .before .before .before .before .before .before .is-faulty .ensures) (c .before .before .before .before .before .before .before .before .before .before .before .if1 .left) _ (c .before .before .before .before .before .before .before .before .before .before .before .before .before .shape-in .ensures) (c .before .before .before .before .before .before .before .before .before .if2 .left) (c .before .before .before .before .before .before .before .before .if3 .left) (c .before .before .before .before .before .before .before .if4 .left)) (c .before .before .before .before .before .before .before .before .before .before .before .before .before .before .before .before .before .before .before .before .before .before .pre .1)
 
 pub step-at-spec : {M : Type 1} → statement M
 step-at-spec =
     tie.close
     (tie.spec
-    is-faulty-requires
-    returns
     shared-slice-read-kind
     shape-in-requires
+    is-faulty-requires
+    returns
     add-start
     add-next
     byte-at-requires
