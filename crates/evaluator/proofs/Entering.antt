@@ -26,7 +26,8 @@ use Rattle.acceptance.proofs.Orders.{accepted-book, blocks-after}
 use Rattle.trees.specs.Chains.{Ready}
 use Rattle.evaluation.specs.Run.{ended}
 use Rattle.evaluation.proofs.Entering.{accepted-complete, accepted-formed}
-use Rattle.evaluator.specs.Steps.{stepOutcome, Stored, HandedAll, enteredAt, Entry, Came}
+use Rattle.evaluator.specs.Steps.{stepOutcome, Stored, HandedAll, enteredAt, Came}
+use Rattle.evaluator.specs.Known.{Known, Noting, Entry}
 use Rattle.evaluator.specs.declared.Ran.{Ran}
 use Rattle.evaluator.specs.declared.Ran.the-variants.{Values, Ended}
 use Rattle.evaluator.proofs.Running.{Running, call-below, start, variable-ends, variable-turn, call-stops, call-ends, ends-few, values-few, call-turn, stop}
@@ -53,7 +54,7 @@ among-more xs a b w l h =
 pub part-room : (xs : List ℕ) (a w : ℕ) → a + 32 ≤ length xs → w ≡ 32 → length (take w (drop a xs)) ≡ 32
 part-room xs a w l e = let t = length-take w (drop a xs) in let d = length-drop a xs in omega (arith, t, d)
 
-module _ {bytes places counts links orders : List ℕ} {i left : ℕ} {own₀ : List ℕ} (e : Entry bytes places counts links orders i left own₀) where
+module _ {bytes places counts links orders : List ℕ} {i left : ℕ} {own₀ memo₀ : List ℕ} (e : Entry bytes places counts links orders i left own₀ memo₀) where
   abbrev book : List Scope
   book = scopesOf bytes
 
@@ -86,10 +87,10 @@ module _ {bytes places counts links orders : List ℕ} {i left : ℕ} {own₀ : 
   pub left-some : 1 ≤ left
   left-some = let p = place in omega (arith, p .1)
 
-  pub callee : (k j : ℕ) (part : List ℕ) → k < length (s .subScopes) → j ≡ subScopeAt book i k → length part ≡ 32
-      → Entry bytes places counts links orders j (left - 1) part
+  pub callee : (k j : ℕ) (part memo : List ℕ) → k < length (s .subScopes) → j ≡ subScopeAt book i k → length part ≡ 32 → Known bytes memo
+      → Entry bytes places counts links orders j (left - 1) part memo
   unfolding subScopeAt
-  callee k j part l is room =
+  callee k j part memo l is room known =
       let p = place in
       let c = accepted-complete bytes (length book) (e .world .accepted) in
       let f = accepted-formed bytes (length book) (e .world .accepted) in
@@ -104,10 +105,15 @@ module _ {bytes places counts links orders : List ℕ} {i left : ℕ} {own₀ : 
         scope = subst (λ (z : ℕ). z < length book) (sym is) (f i (e .scope) .subScopesNamed k l);
         early = ap (among (take (left - 1) (blocks book))) is ∙ early';
         room = room;
+        known = known;
       }
 
-  pub begins : (given : List ℕ) → Running bytes i given own₀ (replicate 256 0) (replicate 32 0) 1 0
-  begins given = start bytes i given (e .world .accepted) (e .scope) own₀ (e .room)
+  -- what is known can be read and written
+  pub noting : {own memo : List ℕ} → length own ≡ 32 → Known bytes memo → Noting bytes places counts i own memo
+  noting room known = record { laid = e .world .sound .laid; scope = scope-few; room = room; known = known }
+
+  pub begins : (given own : List ℕ) → length own ≡ 32 → Running bytes i given own (replicate 256 0) (replicate 32 0) 1 0
+  begins given own room = start bytes i given (e .world .accepted) (e .scope) own room
 
   pub ends : {given own called handed : List ℕ} {count n a b : ℕ} → Running bytes i given own called handed count n
       → a ≡ length (s .variables) → b ≡ length (s .subScopes) → a + b ≤ n → Came bytes i given (Values count) own

@@ -1,5 +1,6 @@
 mod Cells
 mod Hands
+mod Known
 mod Running
 mod Entering
 mod Service

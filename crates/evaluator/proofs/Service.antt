@@ -1,10 +1,10 @@
 -- What the service answers, by the tests that it makes.
 --     refused-book, refused-scope, refused-input, refused-room      1 to 12, 13, 14, 15
 --     evaluated                           a good list and enough room: what the run comes to
---     blank-links, entry, typed           what the functions called ask for
+--     blank-links, all-links, entry, typed    what the functions called ask for
 --     values-so, ends-so                  the answer of a run
 -- Assumes nothing.
-use Prim.Native.Nat.{ℕ, zero, suc, _+_, _<_, _≤_}
+use Prim.Native.Nat.{ℕ, zero, suc, _+_, _*_, _<_, _≤_}
 use mathlib.Core.Path.{_≡_, refl, sym, ap, subst, _∙_}
 use mathlib.Core.Bool.{true, false≢true}
 use mathlib.Core.List.{List, [], _∷_, reverse}
@@ -45,7 +45,8 @@ use Rattle.evaluation.specs.declared.Answer.{Answer}
 use Rattle.evaluation.specs.declared.Answer.the-variants.{Values, Ended, Refused}
 use Rattle.evaluation.proofs.Entering.{accepted-complete}
 use Rattle.evaluation.proofs.Types.{inputs-fitting, values-typed, values-length}
-use Rattle.evaluator.specs.Steps.{givensFrom, enteredAt, Entry, ranView, Came}
+use Rattle.evaluator.specs.Steps.{givensFrom, enteredAt, ranView, Came}
+use Rattle.evaluator.specs.Known.{Known, Entry}
 use Rattle.evaluator.specs.Service.{Asked, Replied, Evaluated}
 use Rattle.evaluator.specs.declared.Ran.{Ran}
 use Rattle.evaluator.specs.declared.Ran.the-variants as ran
@@ -152,18 +153,21 @@ module _ {bytes places counts orders : List ℕ} {n i : ℕ} {given memory : Lis
         named = accepted-faultless bytes n (a .tabled .accepted) .named;
       }
 
-  pub blank-links : Blanks bytes places counts n (replicate 26688 255)
-  blank-links =
-      let few = accepted-scopes bytes n (a .tabled .accepted) in
-      let long : length {A = ℕ} (replicate 26688 255) ≡ 26688 = length-replicate {A = ℕ} 26688 255 in
+  -- links for n scopes at least, none of which is set
+  pub blank-links : (size : ℕ) → n * 834 ≤ size → Blanks bytes places counts n (replicate size 255)
+  blank-links size few =
+      let long : length {A = ℕ} (replicate size 255) ≡ size = length-replicate {A = ℕ} size 255 in
       record {
         sound = sound;
         size = omega (arith, few, long);
-        blank = λ k l. getD-replicate {A = ℕ} 26688 k 255 0 (omega (arith, few, l));
+        blank = λ k l. getD-replicate {A = ℕ} size k 255 0 (omega (arith, few, l));
       }
 
-  pub entry : {links own : List ℕ} → AllLinked bytes n links → length own ≡ 32 → Entry bytes places counts links orders i n own
-  entry {links} {own} linked size =
+  pub all-links : n * 834 ≤ 26688
+  all-links = let few = accepted-scopes bytes n (a .tabled .accepted) in omega (arith, few)
+
+  pub entry : {links own memo : List ℕ} → AllLinked bytes n links → length own ≡ 32 → Known bytes memo → Entry bytes places counts links orders i n own memo
+  entry {links} {own} {memo} linked size known =
       let c = accepted-complete bytes n (a .tabled .accepted) in
       record {
         world = record {
@@ -175,6 +179,7 @@ module _ {bytes places counts orders : List ℕ} {n i : ℕ} {given memory : Lis
         scope = omega (arith, a .scope, total);
         early = ap (λ (xs : List ℕ). among xs i) (take-all n (blocks (scopesOf bytes)) (omega (arith, c .count, total))) ∙ c .every i (omega (arith, a .scope, total));
         room = size;
+        known = known;
       }
 
   module _ {r : Ran} {own : List ℕ} (came : Came bytes i given r own) where

@@ -121,13 +121,6 @@ unfoldable pub enteredAt : List ℕ → ℕ → List ℕ → Entered
 enteredAt bytes i given =
     enter (scopesOf bytes) (reverse (blocks (scopesOf bytes))) i (givensFrom given 0 (length (scopeAt (scopesOf bytes) i .variables)))
 
--- scope i can be entered: its block is one of the first
-pub record Entry (bytes places counts links orders : List ℕ) (i left : ℕ) (own : List ℕ) : Type 0 where
-  pub world : World bytes places counts links orders
-  pub scope : i < length (scopesOf bytes)
-  pub early : among (take left (blocks (scopesOf bytes))) i ≡ true
-  pub room : length own ≡ 32
-
 abbrev pub ranView : Ran → List ℕ → ℕ → Entered
 ranView (Values m) own n = values (valuesOf own n) m
 ranView (Ended c m) own n = ended c m

@@ -23,16 +23,21 @@ use trees::has_clause;
 ghost use mathlib.Core.Path.{_≡_};
 ghost use Prim.Native.Nat.{_<_};
 ghost use lib.ListN.{length};
+ghost use Rattle.trees.specs.Links.{Blanks};
 ghost use Rattle.trees.specs.Chains.{Ready};
 ghost use Rattle.evaluator.specs.Service.{Tabled, Asked, Replied, Evaluated};
-ghost use Rattle.evaluator.specs.Steps.{stepOutcome, Stored, Handing, HandedOne, HandsAll, HandedAll, Entry, Came};
+ghost use Rattle.evaluator.specs.Steps.{stepOutcome, Stored, Handing, HandedOne, HandsAll, HandedAll, Came};
+ghost use Rattle.evaluator.specs.Known.{Copying, Copied, Ungiven, Known, Noting, Recalled, Entry};
+ghost use Rattle.evaluator.specs.declared.Ran.the-variants.{Values};
 
-// The links of a scope, the order of its steps, and the cells of a scope's variables.
+// The links of a scope, the order of its steps, the cells of a scope's variables, and those with the count of scopes entered.
 const LINKS: usize = 834;
 
 const STEPS: usize = 40;
 
 const VARIABLES: usize = 32;
+
+const KNOWN: usize = 33;
 
 // How a run ended, with the count of scopes entered: in values, or by a cause.
 pub enum Ran {
@@ -143,7 +148,82 @@ fn hand_over(
     Outcome::Gives(Value::Truth(true))
 }
 
+// Copies the cells of a scope's variables.
+fn copy_cells(from: &[u64], start: usize, to: &mut [u64], at: usize)
+    requires { ⌜ Copying (now from) start (now to) at ⌝ }
+    ensures { λ _. ⌜ Copied (now (from .entry)) start 32 (now (to .entry)) at (now (to .exit)) ⌝ }
+{
+    let mut v: usize = 0;
+    while v < VARIABLES {
+        to[at + v] = from[start + v];
+        v += 1;
+    }
+}
+
+// Whether none of the first variables is given.
+fn none_given(given: &[u64], count: usize) -> bool
+    ensures { λ r. ⌜ Ungiven (now (given .entry)) count r ⌝ }
+{
+    let mut v: usize = 0;
+    while v < count {
+        let g = given_at(given, v);
+        match g {
+            Given::Absent => {}
+            Given::Present(_) => return false,
+        }
+        v += 1;
+    }
+    true
+}
+
+// Where nothing is given and what scope i then comes to is known: puts its values into `own`, and the count of scopes entered; else 0.
+fn recall(
+    book: &[u8],
+    places: &[u16],
+    counts: &[u8],
+    i: usize,
+    given: &[u64],
+    memo: &[u64],
+    own: &mut [u64],
+) -> usize
+    requires { ⌜ Noting (now book) (now places) (now counts) i (now own) (now memo) ⌝ }
+    ensures { λ r. ⌜ Recalled (now (book .entry)) i (now (given .entry)) r (now (own .exit)) ⌝ }
+{
+    if !none_given(given, variable_count(book, places, counts, i)) {
+        return 0;
+    }
+    let known = memo[i * KNOWN] as usize;
+    if known == 0 {
+        return 0;
+    }
+    copy_cells(memo, i * KNOWN + 1, own, 0);
+    known
+}
+
+// Keeps what scope i came to, where nothing was given.
+fn remember(
+    book: &[u8],
+    places: &[u16],
+    counts: &[u8],
+    i: usize,
+    given: &[u64],
+    count: usize,
+    own: &[u64],
+    memo: &mut [u64],
+)
+    requires { ⌜ Noting (now book) (now places) (now counts) i (now own) (now memo) ⌝ }
+    requires { ⌜ Came (now book) i (now given) (Values count) (now own) ⌝ }
+    ensures { λ _. ⌜ Known (now (book .entry)) (now (memo .exit)) ⌝ }
+{
+    if !none_given(given, variable_count(book, places, counts, i)) {
+        return;
+    }
+    copy_cells(own, 0, memo, i * KNOWN + 1);
+    memo[i * KNOWN] = count as u64;
+}
+
 // Enters scope i, whose block is one of the first `left`: runs its steps in their order, and leaves the values of its variables in `own`.
+// What is known is not run again.
 fn enter(
     book: &[u8],
     places: &[u16],
@@ -154,10 +234,16 @@ fn enter(
     left: usize,
     given: &[u64],
     own: &mut [u64],
+    memo: &mut [u64],
 ) -> Ran
-    requires { ⌜ Entry (now book) (now places) (now counts) (now links) (now orders) i left (now own) ⌝ }
+    requires { ⌜ Entry (now book) (now places) (now counts) (now links) (now orders) i left (now own) (now memo) ⌝ }
     ensures { λ r. ⌜ Came (now (book .entry)) i (now (given .entry)) r (now (own .exit)) ⌝ }
+    ensures { λ _. ⌜ Known (now (book .entry)) (now (memo .exit)) ⌝ }
 {
+    let known = recall(book, places, counts, i, given, memo, own);
+    if 0 < known {
+        return Ran::Values(known);
+    }
     let row = part_of(links, i * LINKS, LINKS);
     let variables = variable_count(book, places, counts, i);
     let steps = variables + sub_scope_count(book, places, counts, i);
@@ -185,7 +271,18 @@ fn enter(
             let less = left - 1;
             let from = k * VARIABLES;
             let part = &mut called[from..from + VARIABLES];
-            match enter(book, places, counts, links, orders, j, less, &handed, part) {
+            match enter(
+                book,
+                places,
+                counts,
+                links,
+                orders,
+                j,
+                less,
+                &handed,
+                part,
+                memo,
+            ) {
                 Ran::Values(m) => {
                     count += m;
                     n += 1;
@@ -194,10 +291,51 @@ fn enter(
             }
         }
     }
+    remember(book, places, counts, i, given, count, own, memo);
     Ran::Values(count)
 }
 
-// Runs scope i of an accepted book of n scopes with what is given, and writes the results.
+// Runs scope i of an accepted book of n scopes with what is given, and writes the results. No link is set yet.
+fn run_in(
+    book: &[u8],
+    places: &[u16],
+    counts: &[u8],
+    orders: &[u8],
+    n: usize,
+    i: usize,
+    given: &[u64],
+    links: &mut [u8],
+    results: &mut [u8],
+) -> Answer
+    requires { ⌜ Asked (now book) (now places) (now counts) (now orders) n i (now given) (now results) ⌝ }
+    requires { ⌜ Blanks (now book) (now places) (now counts) n (now links) ⌝ }
+    ensures { λ r. ⌜ Replied (now (book .entry)) i (now (given .entry)) (now (results .entry)) r (now (results .exit)) ⌝ }
+{
+    fill_all_links(book, places, counts, n, links);
+    let mut own = [0u64; 32];
+    let mut memo = [0u64; 1056];
+    match enter(
+        book,
+        places,
+        counts,
+        links,
+        orders,
+        i,
+        n,
+        given,
+        &mut own,
+        &mut memo,
+    ) {
+        Ran::Values(count) => {
+            let length = result_length(book, places, counts, i);
+            write_results(book, places, counts, i, &own, results);
+            Answer::Values(count, length)
+        }
+        Ran::Ended(c, count) => Answer::Ended(c, count),
+    }
+}
+
+// Runs scope i of an accepted book of n scopes with what is given, and writes the results: with few links where there are few scopes.
 fn run(
     book: &[u8],
     places: &[u16],
@@ -211,17 +349,46 @@ fn run(
     requires { ⌜ Asked (now book) (now places) (now counts) (now orders) n i (now given) (now results) ⌝ }
     ensures { λ r. ⌜ Replied (now (book .entry)) i (now (given .entry)) (now (results .entry)) r (now (results .exit)) ⌝ }
 {
-    let mut links = [255u8; 26688];
-    fill_all_links(book, places, counts, n, &mut links);
-    let mut own = [0u64; 32];
-    match enter(book, places, counts, &links, orders, i, n, given, &mut own) {
-        Ran::Values(count) => {
-            let length = result_length(book, places, counts, i);
-            write_results(book, places, counts, i, &own, results);
-            Answer::Values(count, length)
-        }
-        Ran::Ended(c, count) => Answer::Ended(c, count),
+    if n <= 1 {
+        let mut links = [255u8; 834];
+        return run_in(
+            book,
+            places,
+            counts,
+            orders,
+            n,
+            i,
+            given,
+            &mut links,
+            results,
+        );
     }
+    if n <= 8 {
+        let mut links = [255u8; 6672];
+        return run_in(
+            book,
+            places,
+            counts,
+            orders,
+            n,
+            i,
+            given,
+            &mut links,
+            results,
+        );
+    }
+    let mut links = [255u8; 26688];
+    run_in(
+        book,
+        places,
+        counts,
+        orders,
+        n,
+        i,
+        given,
+        &mut links,
+        results,
+    )
 }
 
 // Evaluates scope i of an accepted book of n scopes.

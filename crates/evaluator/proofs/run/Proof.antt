@@ -1,65 +1,60 @@
 -- `evaluator::run` meets its contract.
 -- Assumes nothing.
-use mathlib.Core.Path.{refl}
-use Rattle.acceptance.proofs.Limits.{accepted-within}
-use Rattle.evaluator.proofs.Service.{blank-links, entry, typed, values-so, ends-so}
+use native.Mathlib.Omega.{arith}
+use Rattle.evaluator.proofs.Service.{blank-links, all-links}
 use borrow.Author.Needs.{needs}
 use Rattle.evaluator.proofs.run.Statement.{statement}
 use Rattle.evaluator.proofs.run.Tie as tie
 
-slice-aggregate-fill-all-links : tie.Need-slice-aggregate-fill-all-links
-slice-aggregate-fill-all-links c = search needs
+slice-aggregate-run-in : tie.Need-slice-aggregate-run-in
+slice-aggregate-run-in c = search needs
 
-fill-all-links-requires : tie.Need-fill-all-links-requires
-fill-all-links-requires c κs = blank-links (c .before .before .before .before .before .before .before .pre)
-
-slice-aggregate-enter : tie.Need-slice-aggregate-enter
-slice-aggregate-enter c = search needs
-
-slice-aggregate-enter-2 : tie.Need-slice-aggregate-enter-2
-slice-aggregate-enter-2 c = search needs
-
-enter-requires : tie.Need-enter-requires
-enter-requires c κs = entry (c .before .before .before .before .before .before .before .before .before .before .before .pre) (c .before .before .before .fill-all-links .ensures) refl
-
-enum-known-count : tie.Need-enum-known-count
-enum-known-count c = search needs
-
-result-length-requires : tie.Need-result-length-requires
-result-length-requires c κs = (c .before .before .before .before .before .before .before .before .before .before .before .before .before .before .before .before .pre .tabled .laid, accepted-within _ _ (c .before .before .before .before .before .before .before .before .before .before .before .before .before .before .before .before .pre .tabled .accepted) (c .before .before .before .before .before .before .before .before .before .before .before .before .before .before .before .before .args .i) .variables)
-
-slice-aggregate-write-results : tie.Need-slice-aggregate-write-results
-slice-aggregate-write-results c = search needs
-
-write-results-requires : tie.Need-write-results-requires
-write-results-requires c κs = (c .before .before .before .before .before .before .before .before .before .before .before .before .before .before .before .before .before .before .before .pre .tabled .laid, (accepted-within _ _ (c .before .before .before .before .before .before .before .before .before .before .before .before .before .before .before .before .before .before .before .pre .tabled .accepted) (c .before .before .before .before .before .before .before .before .before .before .before .before .before .before .before .before .before .before .before .args .i) .variables, (typed (c .before .before .before .before .before .before .before .before .before .before .before .before .before .before .before .before .before .before .before .pre) (c .before .before .before .before .before .before .before .enter .ensures) (c .before .before .before .before .count .given .1), c .before .before .before .before .before .before .before .before .before .before .before .before .before .before .before .before .before .before .before .pre .room)))
-
-enum-known-c : tie.Need-enum-known-c
-enum-known-c c = search needs
+run-in-requires : tie.Need-run-in-requires
+run-in-requires c κs = (c .before .before .before .before .before .before .before .before .before .pre, blank-links (c .before .before .before .before .before .before .before .before .before .pre) 834 (omega (arith, c .before .before .if1 .taken)))
 
 same-length : tie.Need-same-length
 same-length c = search needs
 
 returns : tie.Need-returns
-returns c = values-so (c .before .before .before .before .before .before .before .before .before .before .before .before .before .before .before .before .before .before .before .before .before .before .pre) (c .before .before .before .before .before .before .before .before .before .before .enter .ensures) (c .before .before .before .before .before .before .before .count .given .1) (c .before .before .before .before .before .result-length .ensures) (c .before .before .write-results .ensures)
+returns c = search needs
+
+slice-aggregate-run-in-2 : tie.Need-slice-aggregate-run-in-2
+slice-aggregate-run-in-2 c = search needs
+
+run-in-requires-2 : tie.Need-run-in-requires-2
+run-in-requires-2 c κs = (c .before .before .before .before .before .before .before .before .before .before .pre, blank-links (c .before .before .before .before .before .before .before .before .before .before .pre) 6672 (omega (arith, c .before .before .if2 .taken)))
+
+same-length-2 : tie.Need-same-length-2
+same-length-2 c = search needs
 
 returns-2 : tie.Need-returns-2
-returns-2 c = ends-so (c .before .before .before .before .before .before .before .before .before .before .before .before .before .before .before .before .pre) (c .before .before .before .before .enter .ensures) (c .before .c .given .1)
+returns-2 c = search needs
+
+slice-aggregate-run-in-3 : tie.Need-slice-aggregate-run-in-3
+slice-aggregate-run-in-3 c = search needs
+
+run-in-requires-3 : tie.Need-run-in-requires-3
+run-in-requires-3 c κs = (c .before .before .before .before .before .before .before .before .before .before .pre, blank-links (c .before .before .before .before .before .before .before .before .before .before .pre) 26688 (all-links (c .before .before .before .before .before .before .before .before .before .before .pre)))
+
+same-length-3 : tie.Need-same-length-3
+same-length-3 c = search needs
+
+returns-3 : tie.Need-returns-3
+returns-3 c = search needs
 
 pub run-spec : {M : Type 1} → statement M
 run-spec =
     tie.close
     (tie.spec
-    slice-aggregate-fill-all-links
-    fill-all-links-requires
-    slice-aggregate-enter
-    slice-aggregate-enter-2
-    enter-requires
-    enum-known-count
-    result-length-requires
-    slice-aggregate-write-results
-    write-results-requires
-    enum-known-c
+    slice-aggregate-run-in
+    run-in-requires
     same-length
     returns
-    returns-2)
+    slice-aggregate-run-in-2
+    run-in-requires-2
+    same-length-2
+    returns-2
+    slice-aggregate-run-in-3
+    run-in-requires-3
+    same-length-3
+    returns-3)
