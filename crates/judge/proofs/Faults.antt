@@ -24,7 +24,11 @@ use Rattle.book.specs.declared.Scanned.the-variants.{Sound, Faulty}
 use Rattle.book.specs.declared.Judged.{Judged}
 use Rattle.book.specs.declared.Judged.the-variants.{Accepted, Refused}
 use Rattle.steps.specs.Answers.{Written}
-use Rattle.judge.specs.Verdict.{Tables, Judging, orderFaults}
+use Rattle.scan.specs.Filling.{scannedBy, Recorded}
+use Rattle.scan.specs.declared.Reading.{Reading}
+use Rattle.scan.specs.declared.Reading.the-variants.{Complete}
+use Rattle.scan.specs.declared.Reading.the-variants.{Faulty as Reading·Faulty}
+use Rattle.judge.specs.Verdict.{Tables, SoundRecords, Judging, orderFaults}
 
 never : (f : Fault) (n : ℕ) → Refused f ≡ Accepted n → ⊥
 never f n q = let z : _≡_ {A = ℕ} 0 1 = cc in omega arith
@@ -33,6 +37,13 @@ never f n q = let z : _≡_ {A = ℕ} 0 1 = cc in omega arith
 pub refused : {bytes places counts blocks weights orders : List ℕ} {expected : Judged} {f : Fault} → Refused f ≡ expected
     → Judging bytes places counts blocks weights orders expected (Refused f)
 refused {f = f} e = record { answer = e; tables = λ n q. absurd (never f n q) }
+
+-- what reading the records told
+pub read-sound : {bytes places counts : List ℕ} {r : Reading} {n : ℕ} → Recorded bytes places counts r → r ≡ Complete n → SoundRecords bytes places counts n
+read-sound {n = n} x e = record { sound = sym (x .answer) ∙ ap (λ (y : Reading). scannedBy y) e; filled = x .tables n e }
+
+pub read-fault : {bytes places counts : List ℕ} {r : Reading} {f : Fault} → Recorded bytes places counts r → r ≡ Reading·Faulty f → scan (records bytes) ≡ Faulty f
+read-fault x e = sym (x .answer) ∙ ap (λ (y : Reading). scannedBy y) e
 
 -- the order that was written, where it is whole
 pub whole-order : {xs from to : List ℕ} {k n : ℕ} → Written xs from k to → k ≡ n → take n to ≡ xs

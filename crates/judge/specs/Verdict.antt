@@ -7,6 +7,10 @@ use lib.ListN.{length, getD, take, drop, replicate}
 use Rattle.book.specs.Syntax.{Scope}
 use Rattle.book.specs.References.{scopeAt, dangles}
 use Rattle.book.specs.Decode.{scopesOf}
+use Rattle.book.specs.Records.{records}
+use Rattle.book.specs.Judge.{scan}
+use Rattle.book.specs.declared.Scanned.the-variants.{Sound}
+use Rattle.scan.specs.Filling.{Filled}
 use Rattle.book.specs.Scopes as scopes
 use Rattle.book.specs.Steps.{stepCount, stepOrder, dependencyCycle}
 use Rattle.book.specs.Tables.{Laid}
@@ -37,7 +41,12 @@ orderFaults book =
     (cond (dependencyCycle book) (Refused DependencyCycle)
     (Accepted (length book))))
 
--- what these rest on: filled tables of a book within the limits in which no number dangles
+-- what the faults from 6 on rest on: the records of the book are sound, and the tables are theirs
+pub record SoundRecords (bytes places counts : List ℕ) (n : ℕ) : Type 0 where
+  pub sound : scan (records bytes) ≡ Sound
+  pub filled : Filled bytes places counts n
+
+-- what the last three rest on: filled tables of a book within the limits in which no number dangles
 pub record Checked (bytes places counts : List ℕ) (n : ℕ) : Type 0 where
   pub tabled : Tabled bytes places counts
   pub scoped : Scoped bytes n

@@ -1,10 +1,9 @@
 // Judging a book: the first fault in the order written, or the number of its scopes; and the tables of an accepted book.
 use book::Fault;
 use book::Judged;
-use book::Scanned;
 use references::find_naming;
-use scan::fill_tables;
-use scan::scan_records;
+use scan::Reading;
+use scan::read_records;
 use steps::block_order;
 use steps::fill_steps;
 use steps::fill_weights;
@@ -15,8 +14,7 @@ ghost use lib.ListN.{length};
 ghost use Rattle.book.specs.Decode.{scopesOf};
 ghost use Rattle.book.specs.Judge.{wholeBook, faultNumber};
 ghost use Rattle.book.specs.Judge.{judge as Judge·judge};
-ghost use Rattle.scan.specs.Filling.{Ready};
-ghost use Rattle.judge.specs.Verdict.{Fresh, Room, Checked, Judging, orderFaults};
+ghost use Rattle.judge.specs.Verdict.{Fresh, Room, SoundRecords, Checked, Judging, orderFaults};
 
 // Faults 10 to 12, over calls and steps: fills the orders and the weights.
 fn judge_orders(
@@ -44,20 +42,20 @@ fn judge_orders(
     Judged::Accepted(scopes)
 }
 
-// Faults 6 to 12 of a book whose records are sound, each over the whole book: fills all tables.
+// Faults 6 to 12 of a book whose records are sound, each over the whole book: fills the orders and the weights.
 fn judge_whole(
     book: &[u8],
-    places: &mut [u16],
-    counts: &mut [u8],
+    places: &[u16],
+    counts: &[u8],
+    scopes: usize,
     blocks: &mut [u8],
     weights: &mut [u16],
     orders: &mut [u8],
 ) -> Judged
-    requires { ⌜ Ready (now book) (now places) (now counts) × Room (now blocks) (now weights) (now orders) ⌝ }
+    requires { ⌜ SoundRecords (now book) (now places) (now counts) scopes × Room (now blocks) (now weights) (now orders) ⌝ }
     ensures { λ r.
-        ⌜ Judging (now (book .entry)) (now (places .exit)) (now (counts .exit)) (now (blocks .exit)) (now (weights .exit)) (now (orders .exit)) (wholeBook (scopesOf (now (book .entry)))) r ⌝ }
+        ⌜ Judging (now (book .entry)) (now (places .entry)) (now (counts .entry)) (now (blocks .exit)) (now (weights .exit)) (now (orders .exit)) (wholeBook (scopesOf (now (book .entry)))) r ⌝ }
 {
-    let scopes = fill_tables(book, places, counts);
     let naming = find_naming(book, places, counts, scopes);
     if naming.dangles {
         return Judged::Refused(Fault::DanglingReference);
@@ -90,9 +88,9 @@ pub fn judge_into(
     if 32768 < book.len() {
         return Judged::Refused(Fault::LimitExceeded);
     }
-    match scan_records(book) {
-        Scanned::Sound => judge_whole(book, places, counts, blocks, weights, orders),
-        Scanned::Faulty(f) => Judged::Refused(f),
+    match read_records(book, places, counts) {
+        Reading::Complete(n) => judge_whole(book, places, counts, n, blocks, weights, orders),
+        Reading::Faulty(f) => Judged::Refused(f),
     }
 }
 

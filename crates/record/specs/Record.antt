@@ -19,7 +19,7 @@ abbrev pub recordOf : Shape → ℕ → ℕ → ℕ → Record
 recordOf shape kind start left =
     pickRecord (eqb (shape .stage) 0) Unknown
     (pickRecord (ltb left (shape .length)) Truncated
-    (Whole kind start (shape .length)))
+    (Whole kind (shape .stage) start (shape .length)))
 
 -- what stands at a position: nothing more, an unknown kind, a body that passes the end, or a whole record
 unfoldable pub recordAt : Medium → List ℕ → ℕ → Record
@@ -33,7 +33,7 @@ abbrev pub bodyOf : Record → List ℕ → List ℕ
 bodyOf End s = []
 bodyOf Unknown s = []
 bodyOf Truncated s = []
-bodyOf (Whole k start n) s = take n (drop start s)
+bodyOf (Whole k stage start n) s = take n (drop start s)
 
 unfoldable pub bodyAt : Medium → List ℕ → ℕ → List ℕ
 bodyAt m s at = bodyOf (recordAt m s at) s

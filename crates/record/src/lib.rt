@@ -25,12 +25,12 @@ pub struct Shape {
     pub stage: usize,
 }
 
-// What stands at a position: a whole record has its kind, where its body starts, and the body's length.
+// What stands at a position: a whole record has its kind, its stage, where its body starts, and the body's length.
 pub enum Record {
     End,
     Unknown,
     Truncated,
-    Whole(u8, usize, usize),
+    Whole(u8, usize, usize, usize),
 }
 
 // One decision over kinds and ranges of kinds, for book and code.
@@ -93,7 +93,7 @@ pub fn record_at(medium: Medium, s: &[u8], at: usize) -> Record
     if s.len() - start < length {
         return Record::Truncated;
     }
-    Record::Whole(kind, start, length)
+    Record::Whole(kind, stage, start, length)
 }
 
 // The part of s from start on, at most length bytes of it.
@@ -127,7 +127,7 @@ pub fn body_at(medium: Medium, s: &[u8], at: usize) -> &[u8]
         Record::End => &s[..0],
         Record::Unknown => &s[..0],
         Record::Truncated => &s[..0],
-        Record::Whole(_, start, length) => part_of(s, start, length),
+        Record::Whole(_, _, start, length) => part_of(s, start, length),
     }
 }
 

@@ -6,5 +6,6 @@ mod Bodies
 mod Positions
 pub mod Limits
 mod Laying
-mod Filling
+mod Tallies
 mod Stores
+mod Filling

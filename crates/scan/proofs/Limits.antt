@@ -19,7 +19,7 @@ use Rattle.book.specs.Records.{Met, stageOf, counted, start, recordsFrom, recor
 use Rattle.book.specs.Decode.{Parsed, inFront, parse, scopesOf}
 use Rattle.book.specs.References.{scopeAt}
 use Rattle.book.specs.Judge.{scan}
-use Rattle.scan.specs.Step.{InLimits}
+use Rattle.scan.specs.Counting.{InLimits}
 use Rattle.book.specs.Limits.{Within}
 use Rattle.scan.proofs.Steps.{Clean, sounds, in-limits, start-in-limits}
 use Rattle.scan.proofs.Sorts.{Sort, variable, subScope, node, clause, number, stage, limit, count, itemsOf, item, Staged, begins, has, staged, count-in-limits, scopes-new, scopes-turn, count-turn, items-none, begun, scopes-behind, items-turn}

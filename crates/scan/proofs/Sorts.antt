@@ -20,7 +20,7 @@ use Rattle.book.specs.Syntax.{Scope, emptyScope, variableOf, nodeOf, clauseOf}
 use Rattle.book.specs.Records.{Met, stageOf, bodyOf, counted}
 use Rattle.book.specs.Decode.{Parsed, inFront}
 use Rattle.book.specs.Tables.{variableFrom, subScopeFrom, nodeFrom, clauseFrom}
-use Rattle.scan.specs.Step.{InLimits}
+use Rattle.scan.specs.Counting.{InLimits}
 
 pub data Sort : Type 0 where
   variable : Sort

@@ -1,23 +1,26 @@
--- The tests of a record in their order, each as the code makes it, against `stepAt`; and what reading on does.
---     unknown-kind, truncated-body, out-of-order, limit-exceeded, invalid-byte, no-fault-found    one law for each way through `step_at`
+-- The record at a position, as the code takes it, against `stepAt`; and what reading on does.
+--     step-record       what stands at a position, as the pass takes it; whole-record, of a whole record where it ends
 --     read              what a record that does not stop the pass leaves; sounds, what a sound pass says of its first record
 --     records-at        the records from a position on
 --     scan-stop, scan-next, scan-end    the pass from a position on, after each outcome
 -- Assumes nothing.
 use Prim.Native.Nat.{ℕ, zero, suc, _+_, _-_, _≤_, _<_}
 use mathlib.Core.Path.{_≡_, refl, sym, ap, _∙_}
-use mathlib.Core.Bool.{Bool, true, false, cond, _||_}
+use mathlib.Core.Bool.{Bool, true, false, not, cond, _&&_, _||_}
 use mathlib.Core.List.{List, [], _∷_}
 use native.Mathlib.Omega.{arith}
 use native.Mathlib.Numerals.{add-one}
 use lib.ListN.{length, getD, take, drop, length-drop, drop-of-length-le}
 use lib.Seq.{drop-cons, drop-drop}
-use lib.Dec.{eqb, ltb}
-use borrow.Author.Tests.{eq-eqb, ne-eqb, lt-ltb, le-ltb, ltb-false}
+use lib.Dec.{eqb, leb, ltb}
+use borrow.Author.Tests.{eqb-false, lt-ltb, le-ltb, ltb-true, ltb-false}
 use Rattle.order.proofs.Booleans.{neither}
 use Rattle.record.specs.Kinds.{shapeIn}
 use Rattle.record.specs.declared.Medium.the-variants.{Book}
-use Rattle.record.specs.declared.Shape.{Shape}
+use Rattle.record.specs.Record.{pickRecord, recordAt}
+use Rattle.record.specs.declared.Record.{Record}
+use Rattle.record.specs.declared.Record.the-variants.{End, Unknown, Whole}
+use Rattle.record.specs.declared.Record.the-variants.{Truncated as Record·Truncated}
 use Rattle.book.specs.declared.Tally.{Tally}
 use Rattle.book.specs.declared.Fault.{Fault}
 use Rattle.book.specs.declared.Fault.the-variants.{Truncated, UnknownKind, OutOfOrder, LimitExceeded, InvalidByte}
@@ -25,71 +28,76 @@ use Rattle.book.specs.declared.Scanned.{Scanned}
 use Rattle.book.specs.declared.Scanned.the-variants.{Sound, Faulty}
 use Rattle.book.specs.Records.{Met, stageOf, bodyOf, counted, recordsFrom, start, follows, exceeds, invalid, unknownKind, truncated, outOfOrder, limitExceeded, invalidByte}
 use Rattle.book.specs.Judge.{scan}
+use Rattle.scan.proofs.Bodies.{stage-below}
 use Rattle.scan.specs.declared.Step.{Step}
 use Rattle.scan.specs.declared.Step.the-variants.{Stop, Next}
-use Rattle.scan.specs.Step.{stepOf, metAt, stepAt, InLimits}
+use Rattle.scan.specs.Counting.{tallyOf, InLimits}
+use Rattle.scan.specs.Step.{stepOf, metAt, stepAt, stepOver}
 
-module _ (book : List ℕ) (at : ℕ) (t : Tally) (s : Shape) (es : s ≡ shapeIn Book (getD book at 0)) where
-  stage-is : stageOf (metAt book at t) ≡ s .stage
-  unfolding metAt
-  stage-is = ap (λ (x : Shape). x .stage) (sym es)
+-- what stands at a position, as the pass takes it
+abbrev pub byRecord : List ℕ → ℕ → ℕ → List ℕ → Record → Step
+byRecord counts last scopes s End = Stop Truncated
+byRecord counts last scopes s Unknown = Stop UnknownKind
+byRecord counts last scopes s Record·Truncated = Stop Truncated
+byRecord counts last scopes s (Whole k st start n) = stepOver counts last scopes k st n (take n (drop start s))
 
-  kind-is : unknownKind (metAt book at t) ≡ eqb (s .stage) 0
-  kind-is = ap (λ (x : ℕ). eqb x 0) stage-is
+module _ (counts : List ℕ) (last scopes : ℕ) (s : List ℕ) (k st start n : ℕ) where
+  by-tests : (a b : Bool)
+      → byRecord counts last scopes s (pickRecord a Unknown (pickRecord b Record·Truncated (Whole k st start n)))
+      ≡ cond a (Stop UnknownKind)
+      (cond b (Stop Truncated)
+      (cond (not (a || follows last st)) (Stop OutOfOrder)
+      (cond (exceeds (counted st (tallyOf counts last scopes))) (Stop LimitExceeded)
+      (cond (not b && invalid k (take n (drop start s))) (Stop InvalidByte)
+      (Next st n)))))
+  unfolding stepOver
+  by-tests true b = refl
+  by-tests false true = refl
+  by-tests false false = refl
 
-  body-is : truncated (metAt book at t) ≡ ltb (length book - (at + 1)) (s .length)
-  unfolding metAt
-  body-is = rw (← es, length-drop (at + 1) book)
+pub step-record : (book : List ℕ) (at : ℕ) (counts : List ℕ) (last scopes : ℕ) → at < length book
+    → byRecord counts last scopes book (recordAt Book book at) ≡ stepAt book at (tallyOf counts last scopes)
+unfolding stepAt stepOf recordAt metAt tallyOf
+step-record book at counts last scopes h =
+    rw (lt-ltb at (length book) h, length-drop (at + 1) book)
+    (by-tests counts last scopes book (getD book at 0) (shapeIn Book (getD book at 0) .stage) (at + 1) (shapeIn Book (getD book at 0) .length)
+    (eqb (shapeIn Book (getD book at 0) .stage) 0) (ltb (length book - (at + 1)) (shapeIn Book (getD book at 0) .length)))
 
-  pub unknown-kind : s .stage ≡ 0 → Stop UnknownKind ≡ stepAt book at t
-  unfolding stepAt stepOf
-  unknown-kind h = rw (kind-is, eq-eqb (s .stage) 0 h)
+pub by-record : (book : List ℕ) (at : ℕ) (counts : List ℕ) (last scopes : ℕ) → at < length book → (r : Record) → r ≡ recordAt Book book at
+    → byRecord counts last scopes book r ≡ stepAt book at (tallyOf counts last scopes)
+by-record book at counts last scopes h r e = rw e (step-record book at counts last scopes h)
 
-  module _ (known : s .stage ≡ 0 → ⊥) where
-    pub truncated-body : length book - (at + 1) < s .length → Stop Truncated ≡ stepAt book at t
-    unfolding stepAt stepOf
-    truncated-body h = rw (kind-is, ne-eqb (s .stage) 0 known, body-is, lt-ltb (length book - (at + 1)) (s .length) h)
+pub whole-step : (book : List ℕ) (at : ℕ) (counts : List ℕ) (last scopes : ℕ) → at < length book → (k st start n : ℕ) → Whole k st start n ≡ recordAt Book book at
+    → (e : ℕ) → e ≡ start + n → stepOver counts last scopes k st n (take (e - start) (drop start book)) ≡ stepAt book at (tallyOf counts last scopes)
+whole-step book at counts last scopes h k st start n r e ee =
+    let q : e - start ≡ n = omega arith in
+    rw q (by-record book at counts last scopes h (Whole k st start n) r)
 
-    module _ (fits : s .length ≤ length book - (at + 1)) (f : Bool) (ef : f ≡ follows (t .stage) (s .stage)) where
-      whole : truncated (metAt book at t) ≡ false
-      whole = body-is ∙ le-ltb (length book - (at + 1)) (s .length) fits
+-- a whole record ends within the book, and has a stage
+pub record Standing (book : List ℕ) (st start n : ℕ) : Type 0 where
+  pub inside : start + n ≤ length book
+  pub known : 1 ≤ st
+  pub below : st ≤ 5
 
-      known-kind : unknownKind (metAt book at t) ≡ false
-      known-kind = kind-is ∙ ne-eqb (s .stage) 0 known
-
-      order-is : follows (metAt book at t .before .stage) (stageOf (metAt book at t)) ≡ f
-      unfolding metAt
-      order-is = ap (λ (x : ℕ). follows (t .stage) x) stage-is ∙ sym ef
-
-      pub out-of-order : f ≡ false → Stop OutOfOrder ≡ stepAt book at t
-      unfolding stepAt stepOf
-      out-of-order h = rw (known-kind, whole, order-is, h)
-
-      module _ (ok : f ≡ true) (u : Tally) (eu : u ≡ counted (s .stage) t) (c : Bool) (ec : c ≡ exceeds u) where
-        limit-is : limitExceeded (metAt book at t) ≡ c
-        unfolding metAt
-        limit-is = ap (λ (x : ℕ). exceeds (counted x t)) stage-is ∙ rw (← eu, ← ec)
-
-        pub limit-exceeded : c ≡ true → Stop LimitExceeded ≡ stepAt book at t
-        unfolding stepAt stepOf
-        limit-exceeded h = rw (known-kind, whole, order-is, ok, limit-is, h)
-
-        module _ (few : c ≡ false) (b : List ℕ) (eb : b ≡ take (s .length) (drop (at + 1) book)) (m : Bool) (em : m ≡ invalid (getD book at 0) b) where
-          byte-is : invalid (metAt book at t .kind) (bodyOf (metAt book at t)) ≡ m
-          unfolding metAt
-          byte-is = rw (← es, ← eb, ← em)
-
-          pub invalid-byte : m ≡ true → Stop InvalidByte ≡ stepAt book at t
-          unfolding stepAt stepOf
-          invalid-byte h = rw (known-kind, whole, order-is, ok, limit-is, few, byte-is, h)
-
-          next-is : Next (shapeIn Book (metAt book at t .kind) .length) (counted (stageOf (metAt book at t)) (metAt book at t .before)) ≡ Next (s .length) u
-          unfolding metAt
-          next-is = rw (← es) (ap (λ (x : ℕ). Next (s .length) (counted x t)) stage-is ∙ rw (← eu))
-
-          pub no-fault-found : m ≡ false → Next (s .length) u ≡ stepAt book at t
-          unfolding stepAt stepOf
-          no-fault-found h = rw (known-kind, whole, order-is, ok, limit-is, few, byte-is, h) (sym next-is)
+pub whole-record : (book : List ℕ) (at k st start n : ℕ) → Whole k st start n ≡ recordAt Book book at → Standing book st start n
+unfolding recordAt
+whole-record book at k st start n e = go (ltb at (length book)) (eqb (shapeIn Book (getD book at 0) .stage) 0) (ltb (length book - (at + 1)) (shapeIn Book (getD book at 0) .length)) refl refl refl e
+  where
+    go : (a b c : Bool) → ltb at (length book) ≡ a → eqb (shapeIn Book (getD book at 0) .stage) 0 ≡ b → ltb (length book - (at + 1)) (shapeIn Book (getD book at 0) .length) ≡ c
+        → Whole k st start n ≡ pickRecord a (pickRecord b Unknown (pickRecord c Record·Truncated (Whole (getD book at 0) (shapeIn Book (getD book at 0) .stage) (at + 1) (shapeIn Book (getD book at 0) .length)))) End
+        → Standing book st start n
+    go false b c p q r h = let z : _≡_ {A = ℕ} 0 1 = cc in absurd (omega arith)
+    go true true c p q r h = let z : _≡_ {A = ℕ} 0 1 = cc in absurd (omega arith)
+    go true false true p q r h = let z : _≡_ {A = ℕ} 0 1 = cc in absurd (omega arith)
+    go true false false p q r h =
+        let es : st ≡ shapeIn Book (getD book at 0) .stage = cc h in
+        let ea : start ≡ at + 1 = cc h in
+        let en : n ≡ shapeIn Book (getD book at 0) .length = cc h in
+        let i = ltb-true at (length book) p in
+        let k = eqb-false (shapeIn Book (getD book at 0) .stage) 0 q in
+        let w = ltb-false (length book - (at + 1)) (shapeIn Book (getD book at 0) .length) r in
+        let b = stage-below (getD book at 0) in
+        record { inside = omega arith; known = omega arith; below = omega arith }
 
 -- A record without fault
 
@@ -103,7 +111,7 @@ pub record Clean (m : Met) : Type 0 where
 -- what a step answers where the rest answers r
 abbrev pub answer : Step → Scanned → Scanned
 answer (Stop f) r = Faulty f
-answer (Next n u) r = r
+answer (Next s n) r = r
 
 push : (b : Bool) (f : Fault) (y : Step) (r : Scanned) → answer (cond b (Stop f) y) r ≡ cond b (Faulty f) (answer y r)
 push true f y r = refl
@@ -113,32 +121,32 @@ pub scan-answer : (m : Met) (ms : List Met) → scan (m ∷ ms) ≡ answer (step
 unfolding scan stepOf
 scan-answer m ms = sym (simp push)
 
-past : (n : ℕ) (u : Tally) (b : Bool) (f : Fault) (y : Step) → Next n u ≡ cond b (Stop f) y → (b ≡ false) × (Next n u ≡ y)
-past n u true f y e = let z : _≡_ {A = ℕ} 0 1 = cc in absurd (omega arith)
-past n u false f y e = (refl, e)
+past : (s n : ℕ) (b : Bool) (f : Fault) (y : Step) → Next s n ≡ cond b (Stop f) y → (b ≡ false) × (Next s n ≡ y)
+past s n true f y e = let z : _≡_ {A = ℕ} 0 1 = cc in absurd (omega arith)
+past s n false f y e = (refl, e)
 
-pub record Read (m : Met) (n : ℕ) (u : Tally) : Type 0 where
+pub record Read (m : Met) (s n : ℕ) : Type 0 where
   pub clean : Clean m
+  pub stage : s ≡ stageOf m
   pub body : n ≡ shapeIn Book (m .kind) .length
-  pub counts : u ≡ counted (stageOf m) (m .before)
 
-pub read : (m : Met) (n : ℕ) (u : Tally) → Next n u ≡ stepOf m → Read m n u
+pub read : (m : Met) (s n : ℕ) → Next s n ≡ stepOf m → Read m s n
 unfolding stepOf
-read m n u e =
-    let next = Next (shapeIn Book (m .kind) .length) (counted (stageOf m) (m .before)) in
+read m s n e =
+    let next = Next (stageOf m) (shapeIn Book (m .kind) .length) in
     let five = cond (invalidByte m) (Stop InvalidByte) next in
     let four = cond (limitExceeded m) (Stop LimitExceeded) five in
     let three = cond (outOfOrder m) (Stop OutOfOrder) four in
     let one = cond (truncated m) (Stop Truncated) three in
-    let a = past n u (unknownKind m) UnknownKind one e in
-    let b = past n u (truncated m) Truncated three (a .1) in
-    let d = past n u (outOfOrder m) OutOfOrder four (b .1) in
-    let f = past n u (limitExceeded m) LimitExceeded five (d .1) in
-    let g = past n u (invalidByte m) InvalidByte next (f .1) in
+    let a = past s n (unknownKind m) UnknownKind one e in
+    let b = past s n (truncated m) Truncated three (a .1) in
+    let d = past s n (outOfOrder m) OutOfOrder four (b .1) in
+    let f = past s n (limitExceeded m) LimitExceeded five (d .1) in
+    let g = past s n (invalidByte m) InvalidByte next (f .1) in
     record {
       clean = record { known = a .0; whole = b .0; ordered = d .0; few = f .0; valid = g .0 };
+      stage = cc (g .1);
       body = cc (g .1);
-      counts = cc (g .1);
     }
 
 -- a sound pass: its first record has no fault, and the pass over the others is sound
@@ -180,6 +188,11 @@ in-limits t e =
       clauses = ltb-false 128 (t .clauses) (f .1);
     }
 
+pub not-exceeds : (t : Tally) → InLimits t → exceeds t ≡ false
+unfolding exceeds
+not-exceeds t l =
+    rw (le-ltb 32 (t .scopes) (l .scopes), le-ltb 32 (t .variables) (l .variables), le-ltb 8 (t .subs) (l .subs), le-ltb 250 (t .nodes) (l .nodes), le-ltb 128 (t .clauses) (l .clauses))
+
 pub start-in-limits : (t : Tally) → t ≡ start → InLimits t
 start-in-limits t e = rw e (record { scopes = omega arith; variables = omega arith; subs = omega arith; nodes = omega arith; clauses = omega arith })
 
@@ -198,7 +211,7 @@ pub records-head : (book : List ℕ) (at : ℕ) (t : Tally) → at < length book
 unfolding recordsFrom metAt
 records-head book at t h = rw (drop-cons book at 0 h, add-one at)
 
-module _ (book : List ℕ) (at : ℕ) (t : Tally) (n : ℕ) (u : Tally) (inside : at < length book) (r : Read (metAt book at t) n u) where
+module _ (book : List ℕ) (at : ℕ) (t : Tally) (s n : ℕ) (inside : at < length book) (r : Read (metAt book at t) s n) where
   -- the body is whole
   pub room : at + 1 + n ≤ length book
   unfolding metAt
@@ -207,23 +220,27 @@ module _ (book : List ℕ) (at : ℕ) (t : Tally) (n : ℕ) (u : Tally) (inside 
       let e = r .body in
       omega arith
 
-  pub within : InLimits u
-  within = in-limits u (ap exceeds (r .counts) ∙ r .clean .few)
+  counts-next : counted s t ≡ counted (stageOf (metAt book at t)) (metAt book at t .before)
+  unfolding metAt
+  counts-next = ap (λ (x : ℕ). counted x t) (r .stage)
+
+  pub within : InLimits (counted s t)
+  within = in-limits (counted s t) (ap exceeds counts-next ∙ r .clean .few)
 
   -- the records from a position on
-  pub records-at : recordsFrom (drop at book) 0 t ≡ metAt book at t ∷ recordsFrom (drop (at + 1 + n) book) 0 u
+  pub records-at : recordsFrom (drop at book) 0 t ≡ metAt book at t ∷ recordsFrom (drop (at + 1 + n) book) 0 (counted s t)
   unfolding metAt
   records-at =
       records-head book at t inside
-      ∙ rw (r .clean .known, ← r .body, ← r .counts)
+      ∙ rw (r .clean .known, ← r .body, ← counts-next)
       (ap (λ (l : List Met). metAt book at t ∷ l)
-      (skip n (drop (at + 1) book) u (rw length-drop (omega (arith, room))) ∙ ap (λ (l : List ℕ). recordsFrom l 0 u) (drop-drop n (at + 1) book)))
+      (skip n (drop (at + 1) book) (counted s t) (rw length-drop (omega (arith, room))) ∙ ap (λ (l : List ℕ). recordsFrom l 0 (counted s t)) (drop-drop n (at + 1) book)))
 
-  pub scan-next : Next n u ≡ stepOf (metAt book at t) → scan (recordsFrom (drop (at + 1 + n) book) 0 u) ≡ scan (recordsFrom (drop at book) 0 t)
+  pub scan-next : Next s n ≡ stepOf (metAt book at t) → scan (recordsFrom (drop (at + 1 + n) book) 0 (counted s t)) ≡ scan (recordsFrom (drop at book) 0 t)
   scan-next e =
       sym
       (ap scan records-at
-      ∙ scan-answer (metAt book at t) (recordsFrom (drop (at + 1 + n) book) 0 u)
+      ∙ scan-answer (metAt book at t) (recordsFrom (drop (at + 1 + n) book) 0 (counted s t))
       ∙ rw (← e))
 
 pub scan-stop : (book : List ℕ) (at : ℕ) (t : Tally) (f : Fault) → at < length book → Stop f ≡ stepAt book at t

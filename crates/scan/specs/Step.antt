@@ -1,17 +1,18 @@
 -- One record of a book, as the pass over the records reads it.
-use Prim.Native.Nat.{ℕ, _+_, _≤_}
-use mathlib.Core.Bool.{cond}
+use Prim.Native.Nat.{ℕ, _+_}
+use mathlib.Core.Bool.{cond, not}
 use mathlib.Core.List.{List}
 use lib.ListN.{getD, drop}
 use Rattle.record.specs.Kinds.{shapeIn}
 use Rattle.record.specs.declared.Medium.the-variants.{Book}
 use Rattle.book.specs.declared.Tally.{Tally}
 use Rattle.book.specs.declared.Fault.the-variants.{Truncated, UnknownKind, OutOfOrder, LimitExceeded, InvalidByte}
-use Rattle.book.specs.Records.{Met, stageOf, counted, unknownKind, truncated, outOfOrder, limitExceeded, invalidByte}
+use Rattle.book.specs.Records.{Met, stageOf, follows, counted, exceeds, invalid, unknownKind, truncated, outOfOrder, limitExceeded, invalidByte}
+use Rattle.scan.specs.Counting.{tallyOf}
 use Rattle.scan.specs.declared.Step.{Step}
 use Rattle.scan.specs.declared.Step.the-variants.{Stop, Next}
 
--- a record's first fault, in the order 2, 1, 3, 4, 5, or its body's length and the counts with it
+-- a record's first fault, in the order 2, 1, 3, 4, 5, or its stage and its body's length
 unfoldable pub stepOf : Met → Step
 stepOf m =
     cond (unknownKind m) (Stop UnknownKind)
@@ -19,7 +20,7 @@ stepOf m =
     (cond (outOfOrder m) (Stop OutOfOrder)
     (cond (limitExceeded m) (Stop LimitExceeded)
     (cond (invalidByte m) (Stop InvalidByte)
-    (Next (shapeIn Book (m .kind) .length) (counted (stageOf m) (m .before)))))))
+    (Next (stageOf m) (shapeIn Book (m .kind) .length))))))
 
 -- the record that begins at a position
 unfoldable pub metAt : List ℕ → ℕ → Tally → Met
@@ -28,10 +29,10 @@ metAt bytes at t = record { before = t; kind = getD bytes at 0; rest = drop (at 
 unfoldable pub stepAt : List ℕ → ℕ → Tally → Step
 stepAt bytes at t = stepOf (metAt bytes at t)
 
--- no limit is passed
-pub record InLimits (t : Tally) : Type 0 where
-  pub scopes : t .scopes ≤ 32
-  pub variables : t .variables ≤ 32
-  pub subs : t .subs ≤ 8
-  pub nodes : t .nodes ≤ 250
-  pub clauses : t .clauses ≤ 128
+-- of a whole record, the faults 3, 4 and 5
+unfoldable pub stepOver : List ℕ → ℕ → ℕ → ℕ → ℕ → ℕ → List ℕ → Step
+stepOver counts last scopes k s n body =
+    cond (not (follows last s)) (Stop OutOfOrder)
+    (cond (exceeds (counted s (tallyOf counts last scopes))) (Stop LimitExceeded)
+    (cond (invalid k body) (Stop InvalidByte)
+    (Next s n)))

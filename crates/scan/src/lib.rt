@@ -1,45 +1,36 @@
-// The two passes over the records of a book: the faults 1 to 5, and the tables by which the records are found.
+// The pass over the records of a book: the faults 1 to 5, and the tables by which the records are found.
 use book::Fault;
-use book::Scanned;
-use book::Tally;
 use record::Medium;
+use record::Record;
 use record::byte_at;
 use record::part_of;
-use record::shape_in;
+use record::record_at;
 ghost use mathlib.Core.Path.{_≡_};
 ghost use mathlib.Core.Bool.{_||_};
-ghost use Prim.Native.Nat.{_<_};
+ghost use Prim.Native.Nat.{_<_, _≤_};
 ghost use lib.Dec.{eqb};
 ghost use lib.ListN.{length};
-ghost use Rattle.book.specs.Records.{records, start, follows, counted, exceeds, invalid};
-ghost use Rattle.book.specs.Judge.{scan};
-ghost use Rattle.scan.specs.Step.{stepAt, InLimits};
-ghost use Rattle.scan.specs.Filling.{slotOf, Room, Stored, Ready, Filled};
+ghost use Rattle.book.specs.Records.{follows, invalid};
+ghost use Rattle.scan.specs.Step.{stepAt, stepOver};
+ghost use Rattle.scan.specs.Counting.{slotOf, numberOf, scopesWith, tallyOf, Counts, Counting};
+ghost use Rattle.scan.specs.Filling.{Room, Stored, Blank, Recorded};
 
-// A record: its first fault, or its body's length and the counts with it.
+// A record: its first fault, or its stage and its body's length.
 enum Step {
     Stop(Fault),
-    Next(usize, Tally),
+    Next(usize, usize),
 }
 
-// Where the places of a stage begin in a scope, and how many records of it the scope has.
+// Where the places of a stage begin in a scope, and how many records of it there may be.
 struct Slot {
     pub base: usize,
-    pub number: usize,
+    pub limit: usize,
 }
 
-// The counts before the first record.
-fn nothing_read() -> Tally
-    ensures { λ r. ⌜ r ≡ start ⌝ }
-{
-    Tally {
-        stage: 0,
-        scopes: 0,
-        variables: 0,
-        subs: 0,
-        nodes: 0,
-        clauses: 0,
-    }
+// What reading all records leaves: the first faulty one's first fault, or the tables of so many scopes.
+pub enum Reading {
+    Faulty(Fault),
+    Complete(usize),
 }
 
 // Whether a record of this stage may stand after one of the stage `last`; 0: there was none.
@@ -53,63 +44,6 @@ pub fn may_follow(last: usize, stage: usize) -> bool
         return false;
     }
     last <= stage
-}
-
-// The counts with one more record of a stage.
-fn one_more(stage: usize, t: Tally) -> Tally
-    requires { ⌜ InLimits t ⌝ }
-    ensures { λ r. ⌜ r ≡ counted stage t ⌝ }
-{
-    if stage == 1 {
-        return Tally {
-            stage: 1,
-            scopes: t.scopes + 1,
-            variables: 0,
-            subs: 0,
-            nodes: 0,
-            clauses: 0,
-        };
-    }
-    let mut u = t;
-    if stage == 2 {
-        u.stage = 2;
-        u.variables = t.variables + 1;
-        return u;
-    }
-    if stage == 3 {
-        u.stage = 3;
-        u.subs = t.subs + 1;
-        return u;
-    }
-    if stage == 4 {
-        u.stage = 4;
-        u.nodes = t.nodes + 1;
-        return u;
-    }
-    if stage == 5 {
-        u.stage = 5;
-        u.clauses = t.clauses + 1;
-    }
-    u
-}
-
-// Whether a limit is passed.
-fn too_many(t: Tally) -> bool
-    ensures { λ r. ⌜ r ≡ exceeds t ⌝ }
-{
-    if 32 < t.scopes {
-        return true;
-    }
-    if 32 < t.variables {
-        return true;
-    }
-    if 8 < t.subs {
-        return true;
-    }
-    if 250 < t.nodes {
-        return true;
-    }
-    128 < t.clauses
 }
 
 // Whether the first byte of the body is a type: 2 variable, 8 empty, 9 conflict.
@@ -152,113 +86,122 @@ pub fn is_invalid(kind: u8, body: &[u8]) -> bool
     false
 }
 
-// The record at a position, after the records counted in t.
-fn step_at(book: &[u8], at: usize, t: Tally) -> Step
-    requires { ⌜ (at < length (now book)) × InLimits t ⌝ }
-    ensures { λ r. ⌜ r ≡ stepAt (now (book .entry)) at t ⌝ }
+// The slot of a stage; stage 1 has no places.
+fn slot_of(stage: usize) -> Slot
+    ensures { λ r. ⌜ r ≡ slotOf stage ⌝ }
 {
-    let kind = book[at];
-    let shape = shape_in(Medium::Book, kind);
-    let stage = shape.stage;
-    let length = shape.length;
-    if stage == 0 {
-        return Step::Stop(Fault::UnknownKind);
+    match stage {
+        1 => Slot { base: 0, limit: 32 },
+        2 => Slot { base: 0, limit: 32 },
+        3 => Slot { base: 32, limit: 8 },
+        4 => Slot {
+            base: 40,
+            limit: 250,
+        },
+        _ => Slot {
+            base: 290,
+            limit: 128,
+        },
     }
-    let start = at + 1;
-    if book.len() - start < length {
-        return Step::Stop(Fault::Truncated);
+}
+
+// How many records of a stage there are so far: scopes in the book, others in its last scope.
+fn number_of(counts: &[u8], stage: usize, scopes: usize) -> usize
+    requires { ⌜ Counts (now counts) stage scopes ⌝ }
+    ensures { λ r. ⌜ r ≡ numberOf (now (counts .entry)) stage scopes ⌝ }
+{
+    if stage < 2 {
+        return scopes;
     }
-    if !may_follow(t.stage, stage) {
+    counts[(scopes - 1) * 4 + (stage - 2)] as usize
+}
+
+// A whole record after one of the stage `last`, the tables having those before it.
+fn step_over(
+    counts: &[u8],
+    last: usize,
+    scopes: usize,
+    kind: u8,
+    stage: usize,
+    length: usize,
+    body: &[u8],
+) -> Step
+    requires { ⌜ Counting (now counts) last scopes × (1 ≤ stage) × (stage ≤ 5) ⌝ }
+    ensures { λ r. ⌜ r ≡ stepOver (now (counts .entry)) last scopes kind stage length (now (body .entry)) ⌝ }
+{
+    if !may_follow(last, stage) {
         return Step::Stop(Fault::OutOfOrder);
     }
-    let u = one_more(stage, t);
-    if too_many(u) {
+    let slot = slot_of(stage);
+    if slot.limit <= number_of(counts, stage, scopes) {
         return Step::Stop(Fault::LimitExceeded);
     }
-    if is_invalid(kind, part_of(book, start, length)) {
+    if is_invalid(kind, body) {
         return Step::Stop(Fault::InvalidByte);
     }
-    Step::Next(length, u)
+    Step::Next(stage, length)
 }
 
-// The first faulty record's first fault, or none.
-pub fn scan_records(book: &[u8]) -> Scanned
-    ensures { λ r. ⌜ r ≡ scan (records (now (book .entry))) ⌝ }
+// The record at a position, after one of the stage `last`, the tables having those before it.
+fn step_at(book: &[u8], counts: &[u8], at: usize, last: usize, scopes: usize) -> Step
+    requires { ⌜ (at < length (now book)) × Counting (now counts) last scopes ⌝ }
+    ensures { λ r. ⌜ r ≡ stepAt (now (book .entry)) at (tallyOf (now (counts .entry)) last scopes) ⌝ }
 {
-    let mut t = nothing_read();
-    let mut at: usize = 0;
-    while at < book.len() {
-        match step_at(book, at, t) {
-            Step::Stop(f) => {
-                return Scanned::Faulty(f);
-            }
-            Step::Next(n, u) => {
-                at = at + 1 + n;
-                t = u;
-            }
+    match record_at(Medium::Book, book, at) {
+        Record::End => Step::Stop(Fault::Truncated),
+        Record::Unknown => Step::Stop(Fault::UnknownKind),
+        Record::Truncated => Step::Stop(Fault::Truncated),
+        Record::Whole(kind, stage, start, length) => {
+            let body = &book[start..start + length];
+            step_over(counts, last, scopes, kind, stage, length, body)
         }
-    }
-    Scanned::Sound
-}
-
-// The slot of the next record of a stage.
-fn slot_of(stage: usize, t: Tally) -> Slot
-    ensures { λ r. ⌜ r ≡ slotOf stage t ⌝ }
-{
-    if stage == 2 {
-        return Slot {
-            base: 0,
-            number: t.variables,
-        };
-    }
-    if stage == 3 {
-        return Slot {
-            base: 32,
-            number: t.subs,
-        };
-    }
-    if stage == 4 {
-        return Slot {
-            base: 40,
-            number: t.nodes,
-        };
-    }
-    Slot {
-        base: 290,
-        number: t.clauses,
     }
 }
 
 // Stores where a record of a stage begins, and that its scope has one more of them. Scopes themselves have no place.
-fn store(places: &mut [u16], counts: &mut [u8], at: usize, stage: usize, t: Tally)
-    requires { ⌜ Room (now places) (now counts) at stage t ⌝ }
-    ensures { λ _. ⌜ Stored (now (places .entry)) (now (counts .entry)) at stage t (now (places .exit)) (now (counts .exit)) ⌝ }
+fn store(places: &mut [u16], counts: &mut [u8], at: usize, stage: usize, scopes: usize)
+    requires { ⌜ Room (now places) (now counts) at stage scopes ⌝ }
+    ensures { λ _. ⌜ Stored (now (places .entry)) (now (counts .entry)) at stage scopes (now (places .exit)) (now (counts .exit)) ⌝ }
 {
     if stage < 2 {
         return;
     }
-    let slot = slot_of(stage, t);
+    let slot = slot_of(stage);
     let base = slot.base;
-    let number = slot.number;
-    let scope = t.scopes - 1;
-    places[scope * 418 + (base + number)] = at as u16;
-    counts[scope * 4 + (stage - 2)] = (number + 1) as u8;
+    let number = number_of(counts, stage, scopes);
+    let row = scopes - 1;
+    places[row * 418 + (base + number)] = at as u16;
+    counts[row * 4 + (stage - 2)] = (number + 1) as u8;
 }
 
-// Fills the tables by which the records of a book are found, and gives the number of its scopes.
-pub fn fill_tables(book: &[u8], places: &mut [u16], counts: &mut [u8]) -> usize
-    requires { ⌜ Ready (now book) (now places) (now counts) ⌝ }
-    ensures { λ r. ⌜ Filled (now (book .entry)) (now (places .exit)) (now (counts .exit)) r ⌝ }
+// The number of scopes with a record of a stage.
+fn scopes_with(stage: usize, scopes: usize) -> usize
+    requires { ⌜ scopes ≤ 32 ⌝ }
+    ensures { λ r. ⌜ r ≡ scopesWith stage scopes ⌝ }
 {
-    let mut t = nothing_read();
+    if stage == 1 { scopes + 1 } else { scopes }
+}
+
+// Reads the records of a book in one pass: the first faulty one's first fault, or the tables by which the records are found.
+pub fn read_records(book: &[u8], places: &mut [u16], counts: &mut [u8]) -> Reading
+    requires { ⌜ Blank (now book) (now places) (now counts) ⌝ }
+    ensures { λ r. ⌜ Recorded (now (book .entry)) (now (places .exit)) (now (counts .exit)) r ⌝ }
+{
+    let mut last: usize = 0;
+    let mut scopes: usize = 0;
     let mut at: usize = 0;
     while at < book.len() {
-        let shape = shape_in(Medium::Book, book[at]);
-        let stage = shape.stage;
-        let length = shape.length;
-        store(places, counts, at, stage, t);
-        t = one_more(stage, t);
-        at = at + 1 + length;
+        match step_at(book, counts, at, last, scopes) {
+            Step::Stop(f) => {
+                return Reading::Faulty(f);
+            }
+            Step::Next(stage, n) => {
+                store(places, counts, at, stage, scopes);
+                scopes = scopes_with(stage, scopes);
+                last = stage;
+                at = at + 1 + n;
+            }
+        }
     }
-    t.scopes
+    Reading::Complete(scopes)
 }

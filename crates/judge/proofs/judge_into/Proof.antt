@@ -1,8 +1,8 @@
 -- `judge::judge_into` meets its contract.
 -- Assumes nothing.
-use Rattle.judge.proofs.Faults.{refused, long, faulty, sound}
+use Rattle.judge.proofs.Faults.{refused, long, faulty, sound, read-sound, read-fault}
 use denote.Ref.{now}
-use mathlib.Core.Path.{sym, _∙_}
+use mathlib.Core.Path.{_∙_}
 use borrow.Author.Needs.{needs}
 use Rattle.judge.proofs.judge_into.Statement.{statement}
 use Rattle.judge.proofs.judge_into.Tie as tie
@@ -10,16 +10,14 @@ use Rattle.judge.proofs.judge_into.Tie as tie
 returns : tie.Need-returns
 returns c = refused (long (now (c .before .before .before .before .before .before .before .args .book)) (c .if1 .taken))
 
-scan-records-requires : tie.Need-scan-records-requires
-scan-records-requires c κs = search needs
+read-records-requires : tie.Need-read-records-requires
+read-records-requires c κs = record { short = c .before .before .if1 .left; noPlaces = c .before .before .before .before .before .before .before .before .before .pre .0 .noPlaces; noCounts = c .before .before .before .before .before .before .before .before .before .pre .0 .noCounts }
 
-enum-told : tie.Need-enum-told
-enum-told c = search needs
+enum-known-n : tie.Need-enum-known-n
+enum-known-n c = search needs
 
 judge-whole-requires : tie.Need-judge-whole-requires
-judge-whole-requires c κs =
-    let e = sym (c .before .before .before .before .before .before .before .scan-records .ensures) ∙ c .before .before .before .before .before .enum-told .given .1 in
-    (record { sound = e; short = c .before .before .before .before .before .before .before .before .if1 .left; noPlaces = c .before .before .before .before .before .before .before .before .before .before .before .before .before .before .before .pre .0 .noPlaces; noCounts = c .before .before .before .before .before .before .before .before .before .before .before .before .before .before .before .pre .0 .noCounts }, c .before .before .before .before .before .before .before .before .before .before .before .before .before .before .before .pre .1)
+judge-whole-requires c κs = (read-sound (c .before .before .before .before .before .before .before .before .before .before .before .before .read-records .ensures) (c .before .before .before .before .before .before .n .given .1), c .before .before .before .before .before .before .before .before .before .before .before .before .before .before .before .before .before .before .before .before .before .before .pre .1)
 
 enum-known-f : tie.Need-enum-known-f
 enum-known-f c = search needs
@@ -41,19 +39,25 @@ same-length-5 c = search needs
 
 returns-2 : tie.Need-returns-2
 returns-2 c =
-    let e = sym (c .before .before .before .before .before .before .before .before .before .before .before .before .before .before .before .before .before .before .scan-records .ensures) ∙ c .before .before .before .before .before .before .before .before .before .before .before .before .before .before .before .before .enum-told .given .1 in
-    record { answer = c .before .before .before .before .before .before .before .before .before .before .judge-whole .ensures .answer ∙ sound (now (c .before .before .before .before .before .before .before .before .before .before .before .before .before .before .before .before .before .before .before .before .before .before .before .before .before .before .args .book)) (c .before .before .before .before .before .before .before .before .before .before .before .before .before .before .before .before .before .before .before .if1 .left) e; tables = c .before .before .before .before .before .before .before .before .before .before .judge-whole .ensures .tables }
+    let s = read-sound (c .before .before .before .before .before .before .before .before .before .before .before .before .before .before .before .before .before .before .before .read-records .ensures) (c .before .before .before .before .before .before .before .before .before .before .before .before .before .n .given .1) in
+    record { answer = c .before .before .before .before .before .before .judge-whole .ensures .answer ∙ sound (now (c .before .before .before .before .before .before .before .before .before .before .before .before .before .before .before .before .before .before .before .before .before .before .before .before .before .before .before .before .before .args .book)) (c .before .before .before .before .before .before .before .before .before .before .before .before .before .before .before .before .before .before .before .before .before .before .if1 .left) (s .sound); tables = c .before .before .before .before .before .before .judge-whole .ensures .tables }
+
+same-length-6 : tie.Need-same-length-6
+same-length-6 c = search needs
+
+same-length-7 : tie.Need-same-length-7
+same-length-7 c = search needs
 
 returns-3 : tie.Need-returns-3
-returns-3 c = refused (faulty (now (c .before .before .before .before .before .before .before .before .before .before .before .args .book)) (c .before .before .before .before .if1 .left) (sym (c .before .before .before .scan-records .ensures) ∙ c .before .f .given .1))
+returns-3 c = refused (faulty (now (c .before .before .before .before .before .before .before .before .before .before .before .before .before .before .before .before .before .args .book)) (c .before .before .before .before .before .before .before .before .before .before .if1 .left) (read-fault (c .before .before .before .before .before .before .before .read-records .ensures) (c .before .f .given .1)))
 
 pub judge-into-spec : {M : Type 1} → statement M
 judge-into-spec =
     tie.close
     (tie.spec
     returns
-    scan-records-requires
-    enum-told
+    read-records-requires
+    enum-known-n
     judge-whole-requires
     enum-known-f
     same-length
@@ -62,4 +66,6 @@ judge-into-spec =
     same-length-4
     same-length-5
     returns-2
+    same-length-6
+    same-length-7
     returns-3)

@@ -9,11 +9,39 @@ use borrow.Author.Needs.{needs}
 use Rattle.judge.proofs.judge_whole.Statement.{statement}
 use Rattle.judge.proofs.judge_whole.Tie as tie
 
-fill-tables-requires : tie.Need-fill-tables-requires
-fill-tables-requires c κs = search needs
-
 find-naming-requires : tie.Need-find-naming-requires
-find-naming-requires c κs = (c .before .before .before .before .before .before .fill-tables .ensures .laid, c .before .before .before .before .before .before .fill-tables .ensures .scopes)
+find-naming-requires c κs = search needs
+
+returns : tie.Need-returns
+returns c = refused (dangling (scopesOf (now (c .before .before .before .before .before .before .before .before .args .book))) (sym (c .before .find-naming .ensures .dangling) ∙ c .if1 .taken))
+
+returns-2 : tie.Need-returns-2
+returns-2 c = refused (shared (scopesOf (now (c .before .before .before .before .before .before .before .before .before .args .book))) (sym (c .before .before .find-naming .ensures .dangling) ∙ c .before .if1 .left) (sym (c .before .before .find-naming .ensures .shared (c .before .if1 .left)) ∙ c .if2 .taken))
+
+has-mismatch-requires : tie.Need-has-mismatch-requires
+has-mismatch-requires c κs = (c .before .before .before .before .before .before .before .before .before .pre .0 .filled .laid, (c .before .before .before .before .before .before .before .before .before .pre .0 .filled .scopes, sym (c .before .before .find-naming .ensures .dangling) ∙ c .before .if1 .left))
+
+returns-3 : tie.Need-returns-3
+returns-3 c = refused (mismatched (scopesOf (now (c .before .before .before .before .before .before .before .before .before .before .before .args .book))) (sym (c .before .before .before .before .find-naming .ensures .dangling) ∙ c .before .before .before .if1 .left) (sym (c .before .before .before .before .find-naming .ensures .shared (c .before .before .before .if1 .left)) ∙ c .before .before .if2 .left) (sym (c .before .has-mismatch .ensures) ∙ c .if3 .taken))
+
+has-mixed-requires : tie.Need-has-mixed-requires
+has-mixed-requires c κs =
+    let w = within (now (c .before .before .before .before .before .before .before .before .before .before .before .args .book)) (c .before .before .before .before .before .before .before .before .before .before .before .pre .0 .sound) in
+    (c .before .before .before .before .before .before .before .before .before .before .before .pre .0 .filled .laid, (c .before .before .before .before .before .before .before .before .before .before .before .pre .0 .filled .scopes, (sym (c .before .before .before .before .find-naming .ensures .dangling) ∙ c .before .before .before .if1 .left, w)))
+
+returns-4 : tie.Need-returns-4
+returns-4 c = refused (mixed (scopesOf (now (c .before .before .before .before .before .before .before .before .before .before .before .before .before .args .book))) (sym (c .before .before .before .before .before .before .find-naming .ensures .dangling) ∙ c .before .before .before .before .before .if1 .left) (sym (c .before .before .before .before .before .before .find-naming .ensures .shared (c .before .before .before .before .before .if1 .left)) ∙ c .before .before .before .before .if2 .left) (sym (c .before .before .before .has-mismatch .ensures) ∙ c .before .before .if3 .left) (sym (c .before .has-mixed .ensures) ∙ c .if4 .taken))
+
+judge-orders-requires : tie.Need-judge-orders-requires
+judge-orders-requires c κs =
+    let w = within (now (c .before .before .before .before .before .before .before .before .before .before .before .before .before .before .before .before .args .book)) (c .before .before .before .before .before .before .before .before .before .before .before .before .before .before .before .before .pre .0 .sound) in (
+      record {
+        tabled = record { laid = c .before .before .before .before .before .before .before .before .before .before .before .before .before .before .before .before .pre .0 .filled .laid; within = w };
+        scoped = record { count = c .before .before .before .before .before .before .before .before .before .before .before .before .before .before .before .before .pre .0 .filled .scopes; few = rw (c .before .before .before .before .before .before .before .before .before .before .before .before .before .before .before .before .pre .0 .filled .scopes) (w .scopes) };
+        sound = sym (c .before .before .before .before .before .before .before .before .before .find-naming .ensures .dangling) ∙ c .before .before .before .before .before .before .before .before .if1 .left;
+      },
+      c .before .before .before .before .before .before .before .before .before .before .before .before .before .before .before .before .pre .1,
+    )
 
 same-length : tie.Need-same-length
 same-length c = search needs
@@ -21,99 +49,27 @@ same-length c = search needs
 same-length-2 : tie.Need-same-length-2
 same-length-2 c = search needs
 
-returns : tie.Need-returns
-returns c = refused (dangling (scopesOf (now (c .before .before .before .before .before .before .before .before .before .before .before .before .before .before .before .before .before .args .book))) (sym (c .before .find-naming .ensures .dangling) ∙ c .if1 .taken))
-
 same-length-3 : tie.Need-same-length-3
 same-length-3 c = search needs
 
-same-length-4 : tie.Need-same-length-4
-same-length-4 c = search needs
-
-returns-2 : tie.Need-returns-2
-returns-2 c = refused (shared (scopesOf (now (c .before .before .before .before .before .before .before .before .before .before .before .before .before .before .before .before .before .before .args .book))) (sym (c .before .before .find-naming .ensures .dangling) ∙ c .before .if1 .left) (sym (c .before .before .find-naming .ensures .shared (c .before .if1 .left)) ∙ c .if2 .taken))
-
-has-mismatch-requires : tie.Need-has-mismatch-requires
-has-mismatch-requires c κs = (c .before .before .before .before .before .before .before .before .before .before .before .fill-tables .ensures .laid, (c .before .before .before .before .before .before .before .before .before .before .before .fill-tables .ensures .scopes, sym (c .before .before .before .before .find-naming .ensures .dangling) ∙ c .before .before .before .if1 .left))
-
-same-length-5 : tie.Need-same-length-5
-same-length-5 c = search needs
-
-same-length-6 : tie.Need-same-length-6
-same-length-6 c = search needs
-
-returns-3 : tie.Need-returns-3
-returns-3 c = refused (mismatched (scopesOf (now (c .before .before .before .before .before .before .before .before .before .before .before .before .before .before .before .before .before .before .before .before .before .before .args .book))) (sym (c .before .before .before .before .before .before .find-naming .ensures .dangling) ∙ c .before .before .before .before .before .if1 .left) (sym (c .before .before .before .before .before .before .find-naming .ensures .shared (c .before .before .before .before .before .if1 .left)) ∙ c .before .before .before .before .if2 .left) (sym (c .before .has-mismatch .ensures) ∙ c .if3 .taken))
-
-has-mixed-requires : tie.Need-has-mixed-requires
-has-mixed-requires c κs =
-    let w = within (now (c .before .before .before .before .before .before .before .before .before .before .before .before .before .before .before .before .before .before .before .before .before .before .before .before .args .book)) (c .before .before .before .before .before .before .before .before .before .before .before .before .before .before .before .before .before .before .before .before .before .before .before .before .pre .0 .sound) in
-    (c .before .before .before .before .before .before .before .before .before .before .before .before .before .before .before .fill-tables .ensures .laid, (c .before .before .before .before .before .before .before .before .before .before .before .before .before .before .before .fill-tables .ensures .scopes, (sym (c .before .before .before .before .before .before .before .before .find-naming .ensures .dangling) ∙ c .before .before .before .before .before .before .before .if1 .left, w)))
-
-same-length-7 : tie.Need-same-length-7
-same-length-7 c = search needs
-
-same-length-8 : tie.Need-same-length-8
-same-length-8 c = search needs
-
-returns-4 : tie.Need-returns-4
-returns-4 c = refused (mixed (scopesOf (now (c .before .before .before .before .before .before .before .before .before .before .before .before .before .before .before .before .before .before .before .before .before .before .before .before .before .before .args .book))) (sym (c .before .before .before .before .before .before .before .before .before .before .find-naming .ensures .dangling) ∙ c .before .before .before .before .before .before .before .before .before .if1 .left) (sym (c .before .before .before .before .before .before .before .before .before .before .find-naming .ensures .shared (c .before .before .before .before .before .before .before .before .before .if1 .left)) ∙ c .before .before .before .before .before .before .before .before .if2 .left) (sym (c .before .before .before .before .before .has-mismatch .ensures) ∙ c .before .before .before .before .if3 .left) (sym (c .before .has-mixed .ensures) ∙ c .if4 .taken))
-
-judge-orders-requires : tie.Need-judge-orders-requires
-judge-orders-requires c κs =
-    let w = within (now (c .before .before .before .before .before .before .before .before .before .before .before .before .before .before .before .before .before .before .before .before .before .before .before .before .before .before .before .before .before .before .before .args .book)) (c .before .before .before .before .before .before .before .before .before .before .before .before .before .before .before .before .before .before .before .before .before .before .before .before .before .before .before .before .before .before .before .pre .0 .sound) in (
-      record {
-        tabled = record { laid = c .before .before .before .before .before .before .before .before .before .before .before .before .before .before .before .before .before .before .before .before .before .before .fill-tables .ensures .laid; within = w };
-        scoped = record { count = c .before .before .before .before .before .before .before .before .before .before .before .before .before .before .before .before .before .before .before .before .before .before .fill-tables .ensures .scopes; few = rw (c .before .before .before .before .before .before .before .before .before .before .before .before .before .before .before .before .before .before .before .before .before .before .fill-tables .ensures .scopes) (w .scopes) };
-        sound = sym (c .before .before .before .before .before .before .before .before .before .before .before .before .before .before .before .find-naming .ensures .dangling) ∙ c .before .before .before .before .before .before .before .before .before .before .before .before .before .before .if1 .left;
-      },
-      c .before .before .before .before .before .before .before .before .before .before .before .before .before .before .before .before .before .before .before .before .before .before .before .before .before .before .before .before .before .before .before .pre .1,
-    )
-
-same-length-9 : tie.Need-same-length-9
-same-length-9 c = c .before .before .before .before .before .before .before .before .before .before .before .before .before .before .before .before .before .before .before .before .before .before .before .before .before .before .before .before .places .given
-
-same-length-10 : tie.Need-same-length-10
-same-length-10 c = search needs
-
-same-length-11 : tie.Need-same-length-11
-same-length-11 c = search needs
-
-same-length-12 : tie.Need-same-length-12
-same-length-12 c = search needs
-
-same-length-13 : tie.Need-same-length-13
-same-length-13 c = search needs
-
 returns-5 : tie.Need-returns-5
 returns-5 c =
-    let left = orders-left (scopesOf (now (c .before .before .before .before .before .before .before .before .before .before .before .before .before .before .before .before .before .before .before .before .before .before .before .before .before .before .before .before .before .before .before .before .before .before .before .before .before .before .args .book))) (sym (c .before .before .before .before .before .before .before .before .before .before .before .before .before .before .before .before .before .before .before .before .before .before .find-naming .ensures .dangling) ∙ c .before .before .before .before .before .before .before .before .before .before .before .before .before .before .before .before .before .before .before .before .before .if1 .left) (sym (c .before .before .before .before .before .before .before .before .before .before .before .before .before .before .before .before .before .before .before .before .before .before .find-naming .ensures .shared (c .before .before .before .before .before .before .before .before .before .before .before .before .before .before .before .before .before .before .before .before .before .if1 .left)) ∙ c .before .before .before .before .before .before .before .before .before .before .before .before .before .before .before .before .before .before .before .before .if2 .left) (sym (c .before .before .before .before .before .before .before .before .before .before .before .before .before .before .before .before .before .has-mismatch .ensures) ∙ c .before .before .before .before .before .before .before .before .before .before .before .before .before .before .before .before .if3 .left) (sym (c .before .before .before .before .before .before .before .before .before .before .before .before .before .has-mixed .ensures) ∙ c .before .before .before .before .before .before .before .before .before .before .before .before .if4 .left) in
+    let left = orders-left (scopesOf (now (c .before .before .before .before .before .before .before .before .before .before .before .before .before .before .before .before .before .before .before .before .before .before .before .args .book))) (sym (c .before .before .before .before .before .before .before .before .before .before .before .before .before .before .before .before .find-naming .ensures .dangling) ∙ c .before .before .before .before .before .before .before .before .before .before .before .before .before .before .before .if1 .left) (sym (c .before .before .before .before .before .before .before .before .before .before .before .before .before .before .before .before .find-naming .ensures .shared (c .before .before .before .before .before .before .before .before .before .before .before .before .before .before .before .if1 .left)) ∙ c .before .before .before .before .before .before .before .before .before .before .before .before .before .before .if2 .left) (sym (c .before .before .before .before .before .before .before .before .before .before .before .before .before .has-mismatch .ensures) ∙ c .before .before .before .before .before .before .before .before .before .before .before .before .if3 .left) (sym (c .before .before .before .before .before .before .before .before .before .before .before .has-mixed .ensures) ∙ c .before .before .before .before .before .before .before .before .before .before .if4 .left) in
     record { answer = c .before .before .before .before .before .before .judge-orders .ensures .answer ∙ left; tables = c .before .before .before .before .before .before .judge-orders .ensures .tables }
 
 pub judge-whole-spec : {M : Type 1} → statement M
 judge-whole-spec =
     tie.close
     (tie.spec
-    fill-tables-requires
     find-naming-requires
-    same-length
-    same-length-2
     returns
-    same-length-3
-    same-length-4
     returns-2
     has-mismatch-requires
-    same-length-5
-    same-length-6
     returns-3
     has-mixed-requires
-    same-length-7
-    same-length-8
     returns-4
     judge-orders-requires
-    same-length-9
-    same-length-10
-    same-length-11
-    same-length-12
-    same-length-13
+    same-length
+    same-length-2
+    same-length-3
     returns-5)
