@@ -22,12 +22,7 @@ use Rattle.book.specs.declared.Node.the-variants.{Constant, Number, Own, Called
 use Rattle.book.specs.declared.Consequence.{Consequence}
 use Rattle.book.specs.declared.Consequence.the-variants.{Of, Fixed}
 use Rattle.book.specs.declared.Clause.{Clause}
-use Rattle.order.proofs.Among.{among-at, among-first}
-
--- nothing is in the empty list
-nowhere : {A : Type 0} (a : ℕ) → among [] a ≡ true → A
-unfolding among
-nowhere a e = absurd (false≢true e)
+use Rattle.order.proofs.Among.{among-at, among-first, among-none}
 
 -- a number that is in a list below n, or in the rest
 below-first : (n x a : ℕ) (xs : List ℕ) → ltb x n ≡ true → (among xs a ≡ true → a < n) → among (x ∷ xs) a ≡ true → a < n
@@ -43,20 +38,20 @@ below-unless n x a xs h rest = go (eqb x 255) h
 pub operands-lower : (book : List Scope) (s : Scope) (n : ℕ) (x : Node) → nodeNames book s n x ≡ true
     → (a : ℕ) → among (operands x) a ≡ true → a < n
 unfolding nodeNames
-operands-lower book s n (Constant b) h a e = nowhere a e
-operands-lower book s n (Number z) h a e = nowhere a e
-operands-lower book s n (Own v) h a e = nowhere a e
-operands-lower book s n (Called k v) h a e = nowhere a e
-operands-lower book s n (Empty t) h a e = nowhere a e
-operands-lower book s n (Conflict t) h a e = nowhere a e
-operands-lower book s n (Unary op x) h a e = below-first n x a [] h (nowhere a) e
+operands-lower book s n (Constant b) h a e = among-none a e
+operands-lower book s n (Number z) h a e = among-none a e
+operands-lower book s n (Own v) h a e = among-none a e
+operands-lower book s n (Called k v) h a e = among-none a e
+operands-lower book s n (Empty t) h a e = among-none a e
+operands-lower book s n (Conflict t) h a e = among-none a e
+operands-lower book s n (Unary op x) h a e = below-first n x a [] h (among-none a) e
 operands-lower book s n (Binary op x y) h a e =
     let p = both (ltb x n) (ltb y n) h in
-    below-first n x a (y ∷ []) (p .0) (below-first n y a [] (p .1) (nowhere a)) e
+    below-first n x a (y ∷ []) (p .0) (below-first n y a [] (p .1) (among-none a)) e
 operands-lower book s n (Choice c x y) h a e =
     let p = both (ltb c n) _ h in
     let q = both (ltb x n) (ltb y n) (p .1) in
-    below-first n c a (x ∷ y ∷ []) (p .0) (below-first n x a (y ∷ []) (q .0) (below-first n y a [] (q .1) (nowhere a))) e
+    below-first n c a (x ∷ y ∷ []) (p .0) (below-first n x a (y ∷ []) (q .0) (below-first n y a [] (q .1) (among-none a))) e
 operands-lower book s n (Default x y z j c) h a e =
     let p = both (namesException n x) _ h in
     let q = both (namesException n y) _ (p .1) in
@@ -64,7 +59,7 @@ operands-lower book s n (Default x y z j c) h a e =
     let t = both (ltb j n) (ltb c n) (r .1) in
     below-unless n x a _ (p .0)
     (below-unless n y a _ (q .0)
-    (below-unless n z a (j ∷ c ∷ []) (r .0) (below-first n j a (c ∷ []) (t .0) (below-first n c a [] (t .1) (nowhere a)))))
+    (below-unless n z a (j ∷ c ∷ []) (r .0) (below-first n j a (c ∷ []) (t .0) (below-first n c a [] (t .1) (among-none a)))))
     e
 
 pub clause-nodes : (book : List Scope) (s : Scope) (n : ℕ) (c : Clause) → clauseNames book s n c ≡ true
@@ -77,8 +72,8 @@ clause-nodes book s n c h a e =
     below-unless (length (s .nodes)) (c .condition) a (consequenceNode (c .consequence)) (r .0) (last (c .consequence) (r .1)) e
   where
     last : (q : Consequence) → namesConsequence s q ≡ true → among (consequenceNode q) a ≡ true → a < length (s .nodes)
-    last (Of m) g e = below-first (length (s .nodes)) m a [] g (nowhere a) e
-    last (Fixed b) g e = nowhere a e
+    last (Of m) g e = below-first (length (s .nodes)) m a [] g (among-none a) e
+    last (Fixed b) g e = among-none a e
 
 pub named-once : (xs : List ℕ) → repeats xs ≡ false → (i j : ℕ) → i < length xs → j < length xs → getD xs i 0 ≡ getD xs j 0 → i ≡ j
 unfolding repeats

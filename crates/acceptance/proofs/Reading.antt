@@ -26,14 +26,7 @@ use Rattle.book.specs.declared.Clause.{Clause}
 use Rattle.acceptance.specs.Accepted.{WithinLimits, WellFormed}
 use Rattle.acceptance.specs.Reading.{targetStep, ReadByClause, ReadInTree}
 use Rattle.book.proofs.Searches.{any-true, any-at}
-
--- equal sub-scope and variable make one target
-same-target : (a b : Target) → sameTarget a b ≡ true → a ≡ b
-same-target a b e =
-    let h = both (eqb (a .sub) (b .sub)) (eqb (a .variable) (b .variable)) e in
-    let p : a .sub ≡ b .sub = eqb-true (a .sub) (b .sub) (h .0) in
-    let q : a .variable ≡ b .variable = eqb-true (a .variable) (b .variable) (h .1) in
-    λ i. record { sub = p i; variable = q i }
+use Rattle.book.proofs.Same.{same-target}
 
 target-same : (a b : Target) → a ≡ b → sameTarget a b ≡ true
 target-same a b e = rw (eq-eqb (a .sub) (b .sub) (ap (λ (x : Target). x .sub) e), eq-eqb (a .variable) (b .variable) (ap (λ (x : Target). x .variable) e))

@@ -18,20 +18,20 @@ use borrow.Author.Tests.{eqb-true, eq-eqb, lt-ltb, le-leb}
 use Rattle.order.specs.Order.{among}
 use Rattle.order.proofs.Booleans.{decide, eqb-swap}
 use Rattle.order.proofs.Among.{among-at}
-use Rattle.order.proofs.Order.{order-no-repeats}
 use Rattle.book.specs.Lists.{any}
 use Rattle.book.specs.Syntax.{Scope}
 use Rattle.book.specs.Decode.{scopesOf}
 use Rattle.book.specs.References.{scopeAt, dangles}
 use Rattle.book.specs.Trees.{tree}
 use Rattle.book.specs.Typing.{targetType}
-use Rattle.book.specs.Scopes.{calls, blocks, weight}
+use Rattle.book.specs.Scopes.{blocks, weight}
 use Rattle.book.specs.Steps.{stepOrder}
 use Rattle.book.specs.Judge.{judge}
 use Rattle.book.specs.declared.Judged.the-variants.{Accepted}
 use Rattle.book.specs.declared.Target.{Target}
 use Rattle.book.proofs.Searches.{any-none}
-use Rattle.steps.proofs.Weights.{sum-congruent, block-bound, called-before, weight-sum}
+use Rattle.book.proofs.Sums.{sum-same}
+use Rattle.steps.proofs.Weights.{new-block, block-bound, called-before, weight-sum}
 use Rattle.acceptance.proofs.Acceptance.{accepted-faultless}
 use Rattle.acceptance.proofs.Orders.{accepted-book}
 use Rattle.evaluation.specs.Types.{WellTyped}
@@ -84,10 +84,6 @@ module _ (book : List Scope) where
       × Ordered earlier
 
   module _ (whole : length (blocks book) ≡ length book) (named : dangles book ≡ false) where
-    new-block : (k : ℕ) → k < length book → among (take k (blocks book)) (getD (blocks book) k 0) ≡ false
-    unfolding blocks
-    new-block k l = order-no-repeats (calls book) (length book) k (omega arith) .1
-
     first-blocks : (k : ℕ) → k ≤ length book → Ordered (reverse (take k (blocks book)))
     first-blocks zero l = tt
     first-blocks (suc k) l =
@@ -95,7 +91,7 @@ module _ (book : List Scope) where
         let i = getD (blocks book) k 0 in
         subst Ordered (sym (ap reverse (take-suc (blocks book) k 0 (omega arith)) ∙ reverse-append before (i ∷ []))) (
           block-bound book whole k l,
-          among-reverse before i ∙ new-block k l,
+          among-reverse before i ∙ new-block book whole k l,
           λ j m. among-reverse before j ∙ called-before book whole named k l j m,
           first-blocks k (omega arith),
         )
@@ -110,7 +106,7 @@ module _ (book : List Scope) where
         ⊎-elim
         (λ (q : eqb j i ≡ true).
         rw q
-        (ap suc (sum-congruent (weightIn (compiledIn book is)) (weight book) (scopeAt book j .subScopes) (λ n c. weight-of is (o .3) n (o .2 n c)))
+        (ap suc (sum-same (weightIn (compiledIn book is)) (weight book) (scopeAt book j .subScopes) (λ n c. weight-of is (o .3) n (o .2 n c)))
         ∙ sym (weight-sum book whole named j (o .0))
         ∙ ap (weight book) (eqb-true j i q)))
         (λ (q : eqb j i ≡ false).

@@ -37,6 +37,7 @@ use Rattle.translation.proofs.Sizes.{landing, closing, tail, tailSize, code-len
 use Rattle.machine.specs.Instructions.{instructionOf}
 use Rattle.machine.specs.Blocks.{Block, variablesOf}
 use Rattle.machine.specs.Acceptance.{lands, fits, allFit}
+use Rattle.machine.proofs.Landing.{lands-here}
 use Rattle.machine.proofs.Steps.{distance-back, second-back}
 use Rattle.agreement.specs.Compiled.{compiledBlock}
 use Rattle.agreement.proofs.Sequences.{Written, truth, number, readOwn, readCalled, unary, binary, raise, jump, jumpIfNo, beginTry, endTry, pushNothing, join, settle, store, override, enter, jumpIfGiven}
@@ -110,11 +111,6 @@ module _ (earlier : List Block) (b : Block) where
       fits-whole earlier b kind body k (written-whole w) ∙ ap (λ (t : Bool). t && allFit earlier b k 0) (fits-read w k h)
 
 -- Distances
-
-lands-here : (k : List ℕ) → lands k 0 0 ≡ true
-unfolding lands
-lands-here [] = refl
-lands-here (x ∷ k) = refl
 
 -- over a sequence and m bytes more
 lands-over : {f : List ℕ → List ℕ} → Sequence f → (k : List ℕ) (n m : ℕ) → length (f []) + m ≡ n → lands k 0 m ≡ true → lands (f k) 0 n ≡ true

@@ -11,8 +11,8 @@ use mathlib.Core.List.{List, [], _∷_, _++_, map}
 use native.Mathlib.Omega.{arith}
 use native.Mathlib.Numerals.{add-one}
 use lib.ListN.{length, getD, set, take, drop, replicate, length-drop, length-set}
-use lib.ListN.{length-take, length-append, List·getD-append}
-use lib.Seq.{getD-set-same, getD-set-other, getD-take, getD-drop, getD-append-add, take-all}
+use lib.ListN.{length-take, List·getD-append}
+use lib.Seq.{getD-set-same, getD-set-other, getD-take, getD-drop, getD-append-add}
 use lib.Dec.{eqb, ltb}
 use borrow.Author.Tests.{eq-eqb, ne-eqb, ltb-true, ltb-false}
 use Rattle.order.proofs.Matrix.{zeros}
@@ -43,7 +43,9 @@ use Rattle.instructions.specs.Views.{entryOf, entries, opened, tab, cellWith, o
 use Rattle.instructions.specs.Effects.{Room, Ample, Moves, Bounded, Sized, Stepping, Stepped, Typing, variablesIn, subScopesIn, blockIn, sizeIn, memoryIn}
 use Rattle.blocks.specs.Entries.{back, runAt, variablesAt, Enough, Shows, Finished, Entry, Came, Advances}
 use Rattle.instructions.proofs.Memory.{tab-length, tab-at, tab-same, tab-set, tab-map}
-use Rattle.blocks.proofs.Positions.{exec-past, exec-at, exec-to, lands-here, Aligned, fits-at}
+use Rattle.machine.proofs.Landing.{lands-here}
+use Rattle.record.proofs.Parts.{all-left, part-room, lent-length}
+use Rattle.blocks.proofs.Positions.{exec-past, exec-at, exec-to, Aligned, fits-at}
 use Rattle.blocks.proofs.Invariant.{Within, MemGood, TriesGood, NextGood, Behind, step-good, begin-good, run-cons}
 use Rattle.blocks.proofs.Tables.{World, small, fit, heavy, below, variables-are, subs-are, bounded, typing, named, callee-below, callee-variables, callee-runs, size-is}
 
@@ -77,10 +79,6 @@ pub record Running (code heads places : List ℕ) (p : ℕ) (st₀ tr₀ own₀ 
   pub stack : length st ≡ length st₀
   pub openRoom : length tr ≡ length tr₀
 
--- a slice's part to its end
-pub all-left : (k : ℕ) (l : List ℕ) → take (length l - k) (drop k l) ≡ drop k l
-all-left k l = let d = length-drop k l in take-all (length l - k) (drop k l) (omega arith)
-
 -- Parts that were lent
 
 module _ (xs part : List ℕ) (a w : ℕ) (in-list : a ≤ length xs) where
@@ -109,22 +107,13 @@ module _ (xs part : List ℕ) (a w : ℕ) (in-list : a ≤ length xs) where
       ∙ getD-drop a xs (w + (i - a - w)) 0
       ∙ ap (λ (j : ℕ). getD xs j 0) f
 
-  pub lent-length : length part ≡ w → a + w ≤ length xs → length (take a xs ++ (part ++ drop w (drop a xs))) ≡ length xs
-  lent-length s l =
-      let t = length-take a xs in
-      let d = length-drop a xs in
-      let e = length-drop w (drop a xs) in
-      let f = length-append part (drop w (drop a xs)) in
-      let g = length-append (take a xs) (part ++ drop w (drop a xs)) in
-      omega arith
-
 pub lent-there : (xs part : List ℕ) (a w : ℕ) → a + 32 ≤ length xs → w ≡ 32 → length part ≡ 32
     → (i : ℕ) → (i < a) ⊎ (a + 32 ≤ i) → getD (take a xs ++ (part ++ drop w (drop a xs))) i 0 ≡ getD xs i 0
 lent-there xs part a w l e k i q =
     ⊎-elim (λ u. lent-before xs part a w (omega arith) i u) (λ u. lent-after xs part a w (omega arith) (k ∙ sym e) i (omega arith)) q
 
 pub lent-size : (xs part : List ℕ) (a w : ℕ) → a + 32 ≤ length xs → w ≡ 32 → length part ≡ 32 → length (take a xs ++ (part ++ drop w (drop a xs))) ≡ length xs
-lent-size xs part a w l e k = lent-length xs part a w (omega arith) (k ∙ sym e) (omega arith)
+lent-size xs part a w l e k = lent-length xs part a w (k ∙ sym e) (omega arith)
 
 pub entries-same : (st st' : List ℕ) (h : ℕ) → ((i : ℕ) → i < h → getD st' i 0 ≡ getD st i 0) → entries st' h ≡ entries st h
 unfolding entries
@@ -602,16 +591,13 @@ pub lent-rest : (xs part : List ℕ) (a : ℕ) → a ≤ length xs → length pa
 lent-rest xs part a l k =
     let t = length-take (length xs - a) (drop a xs) in
     let d = length-drop a xs in
-    lent-length xs part a (length xs - a) l (omega arith) (omega arith)
+    lent-length xs part a (length xs - a) (omega arith) (omega arith)
 
 pub rest-length : (xs : List ℕ) (a : ℕ) → a ≤ length xs → length (take (length xs - a) (drop a xs)) ≡ length xs - a
-rest-length xs a l = let t = length-take (length xs - a) (drop a xs) in let d = length-drop a xs in omega arith
+rest-length xs a l = part-room xs a (length xs - a) (omega arith) refl
 
 pub part-at : (xs : List ℕ) (a w x : ℕ) → w ≡ 32 → x < 32 → getD (take w (drop a xs)) x 0 ≡ getD xs (a + x) 0
 part-at xs a w x e l = getD-take w (drop a xs) x 0 (rw e l) ∙ getD-drop a xs x 0
-
-pub part-room : (xs : List ℕ) (a w : ℕ) → a + 32 ≤ length xs → w ≡ 32 → length (take w (drop a xs)) ≡ 32
-part-room xs a w l e = let t = length-take w (drop a xs) in let d = length-drop a xs in omega (arith, t, d)
 
 -- the entry of a callee, and what it came to
 

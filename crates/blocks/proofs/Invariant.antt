@@ -4,7 +4,7 @@
 --     exec-good     of what the run comes to
 -- Assumes nothing.
 use Prim.Native.Nat.{ℕ, zero, suc, _+_, _-_, _*_, _<_, _≤_}
-use mathlib.Core.Path.{_≡_, refl, ap, sym, _∙_}
+use mathlib.Core.Path.{_≡_, refl, ap, _∙_}
 use mathlib.Core.Bool.{Bool, true, false, not, cond, _&&_, true≢false}
 use mathlib.Core.List.{List, [], _∷_, map}
 use mathlib.Core.Logic.{⊎-elim}
@@ -28,7 +28,7 @@ use Rattle.book.specs.Syntax.{sameType}
 use Rattle.book.specs.Scopes.{sum}
 use Rattle.book.specs.Typing.{unaryType, operandType}
 use Rattle.book.specs.declared.ValueType.{ValueType}
-use Rattle.book.specs.declared.ValueType.the-variants.{YesNo, Numeric}
+use Rattle.book.specs.declared.ValueType.the-variants.{YesNo}
 use Rattle.book.specs.declared.Variable.{Variable}
 use Rattle.lists.specs.Writing.{valueType}
 use Rattle.evaluation.specs.Run.{Entered, values, ended}
@@ -38,7 +38,9 @@ use Rattle.machine.specs.Blocks.{Block, bodyLength, hasBlock, variablesOf}
 use Rattle.machine.specs.Acceptance.{lands, fits, allFit, weightIn, wellFormed, allWellFormed}
 use Rattle.machine.specs.Machine.{Cell, unset, given, stored, Callee, waiting, entered, Memory, Try, Ran, ran, stuck, Next, go, stop, ends, pushed, taking, wanting, answered, raised, raising, tried, closed, joined, settled, readFrom, valueAt, readIn, storedTo, handedTo, overridden, returned, enteredWith, jumpedIfGiven, withOwn, withCallee, ownAt, calleeAt, Surroundings, effect}
 use Rattle.machine.specs.Run.{Finals, missing, finals, inFront, finalsOf, allEntered, whole, atEnd, follow, exec, typeIn, cellOf, begins, begin, surroundings, runIn}
-use Rattle.blocks.proofs.Positions.{exec-past, exec-at, exec-to, lands-within, lands-here, lands-on, Aligned, fits-at}
+use Rattle.machine.proofs.Landing.{lands-here}
+use Rattle.book.proofs.Same.{same-type}
+use Rattle.blocks.proofs.Positions.{exec-past, exec-at, exec-to, lands-within, lands-on, Aligned, fits-at}
 
 -- Own variables
 
@@ -60,19 +62,13 @@ fit-set (y ∷ xs) [] x v f e = f
 fit-set (y ∷ xs) (c ∷ cs) zero v f e = (e, f .1)
 fit-set (y ∷ xs) (c ∷ cs) (suc x) v f e = (f .0, fit-set xs cs x v (f .1) e)
 
-same-types : (t u : ValueType) → sameType t u ≡ true → u ≡ t
-same-types YesNo YesNo e = refl
-same-types YesNo Numeric e = absurd (true≢false (sym e))
-same-types Numeric YesNo e = absurd (true≢false (sym e))
-same-types Numeric Numeric e = refl
-
 abbrev FinalTyped : List Variable → Finals → Type 0
 FinalTyped xs missing = Unit {0}
 FinalTyped xs (finals vs) = map valueType vs ≡ map (λ x. x .holds) xs
 
 final-front : (x : Variable) (xs : List Variable) (v : Value) (f : Finals) → sameType (x .holds) (valueType v) ≡ true → FinalTyped xs f → FinalTyped (x ∷ xs) (inFront v f)
 final-front x xs v missing e k = tt
-final-front x xs v (finals vs) e k = rw (same-types (x .holds) (valueType v) e, k)
+final-front x xs v (finals vs) e k = rw (← same-type (x .holds) (valueType v) e, k)
 
 finals-typed : (xs : List Variable) (cs : List Cell) → CellsFit xs cs → FinalTyped xs (finalsOf cs)
 finals-typed [] [] f = refl

@@ -17,16 +17,12 @@ use Rattle.machine.specs.Blocks.{Block, bodyLength}
 use Rattle.machine.specs.Acceptance.{lands, fits, allFit}
 use Rattle.machine.specs.Machine.{Memory, Try, Ran, Next, Surroundings, effect}
 use Rattle.machine.specs.Run.{atEnd, follow, exec}
+use Rattle.machine.proofs.Steps as steps
+use Rattle.machine.proofs.Steps.{exec-drop}
 
 -- Runs
 
 module _ (env : Surroundings) where
-  pub exec-skip : (l : List ℕ) (n d : ℕ) (st : List Joined) (ts : List Try) (m : Memory) → exec env l (n + d) st ts m ≡ exec env (drop n l) d st ts m
-  unfolding exec
-  exec-skip l zero d st ts m = let e : 0 + d ≡ d = omega arith in ap (λ (x : ℕ). exec env l x st ts m) e
-  exec-skip [] (suc n) d st ts m = refl
-  exec-skip (b ∷ l) (suc n) d st ts m = let e : suc n + d ≡ suc (n + d) = omega arith in rw e (exec-skip l n d st ts m)
-
   pub exec-past : (l : List ℕ) (n : ℕ) (st : List Joined) (ts : List Try) (m : Memory) → length l ≤ n → exec env l n st ts m ≡ atEnd m
   unfolding exec
   exec-past [] n st ts m p = refl
@@ -38,13 +34,11 @@ module _ (env : Surroundings) where
       ≡ follow (effect env (instructionOf (getD l at 0) (drop (suc at) l)) (length (drop (bodyLength (getD l at 0)) (drop (suc at) l))) st ts m)
       (λ d st₁ ts₁ m₁. exec env (drop (suc at) l) (bodyLength (getD l at 0) + d) st₁ ts₁ m₁)
   unfolding exec
-  exec-at l at st ts m p =
-      let e : at + 0 ≡ at = omega arith in
-      ap (λ (n : ℕ). exec env l n st ts m) (sym e) ∙ exec-skip l at 0 st ts m ∙ rw (drop-cons l at 0 p)
+  exec-at l at st ts m p = exec-drop env l at st ts m ∙ rw (drop-cons l at 0 p)
 
   pub exec-to : (l : List ℕ) (at n : ℕ) (st : List Joined) (ts : List Try) (m : Memory)
       → exec env (drop (suc at) l) n st ts m ≡ exec env l (suc at + n) st ts m
-  exec-to l at n st ts m = sym (exec-skip l (suc at) n st ts m)
+  exec-to l at n st ts m = sym (steps.exec-past env l (suc at) n st ts m)
 
 -- Landings
 
@@ -56,11 +50,6 @@ lands-within (b ∷ xs) zero zero e = omega arith
 lands-within (b ∷ xs) zero (suc d) e = let r = lands-within xs (bodyLength b) d e in omega arith
 lands-within (b ∷ xs) (suc n) zero e = omega arith
 lands-within (b ∷ xs) (suc n) (suc d) e = let r = lands-within xs n d e in omega arith
-
-pub lands-here : (xs : List ℕ) → lands xs 0 0 ≡ true
-unfolding lands
-lands-here [] = refl
-lands-here (b ∷ xs) = refl
 
 -- n bytes to pass, and then d more
 lands-body : (xs : List ℕ) (n d : ℕ) → n ≤ length xs → lands xs n (n + d) ≡ lands (drop n xs) 0 d

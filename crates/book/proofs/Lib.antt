@@ -2,3 +2,5 @@ mod Places
 pub mod Searches
 pub mod Naming
 pub mod Terms
+pub mod Same
+pub mod Sums

@@ -1,7 +1,8 @@
 -- Of a scope in which nothing dangles: each sub-scope, node and clause names what is there.
+--     scope-sound    where nothing dangles in a book, nothing does in the scope of any number
 -- Assumes nothing.
 use Prim.Native.Nat.{ℕ, _<_}
-use mathlib.Core.Path.{_≡_}
+use mathlib.Core.Path.{_≡_, refl}
 use mathlib.Core.Bool.{true, false, not}
 use mathlib.Core.List.{List}
 use lib.ListN.{length, getD}
@@ -9,11 +10,11 @@ use lib.Dec.{ltb}
 use borrow.Author.Tests.{ltb-true}
 use Rattle.order.proofs.Booleans.{neither}
 use Rattle.book.specs.Lists.{any, anyFrom}
-use Rattle.book.specs.Syntax.{Scope}
-use Rattle.book.specs.References.{nodeNames, clauseNames, danglesIn}
+use Rattle.book.specs.Syntax.{Scope, emptyScope}
+use Rattle.book.specs.References.{scopeAt, nodeNames, clauseNames, danglesIn, dangles}
 use Rattle.book.specs.declared.Node.{Node}
 use Rattle.book.specs.declared.Clause.{Clause}
-use Rattle.book.proofs.Searches.{each, each-from}
+use Rattle.book.proofs.Searches.{any-default, each, each-from}
 
 module _ (book : List Scope) (s : Scope) (e : danglesIn book s ≡ false) where
   parts : (any (λ i. not (ltb i (length book))) (s .subScopes) ≡ false)
@@ -34,3 +35,11 @@ module _ (book : List Scope) (s : Scope) (e : danglesIn book s ≡ false) where
 
   pub named-clauses : (n : ℕ) → n < length (s .clauses) → (d : Clause) → clauseNames book s n (getD (s .clauses) n d) ≡ true
   named-clauses = each-from (clauseNames book s) (s .clauses) (parts .2)
+
+no-scope : (book : List Scope) → danglesIn book emptyScope ≡ false
+unfolding danglesIn any anyFrom
+no-scope book = refl
+
+pub scope-sound : (book : List Scope) → dangles book ≡ false → (i : ℕ) → danglesIn book (scopeAt book i) ≡ false
+unfolding dangles
+scope-sound book e = any-default (danglesIn book) book emptyScope e (no-scope book)

@@ -7,7 +7,7 @@ use record::rest_after;
 ghost use mathlib.Core.Path.{_≡_};
 ghost use Prim.Native.Nat.{_+_};
 ghost use lib.ListN.{length};
-ghost use Rattle.book.specs.Syntax.{typeOf, nodeOf, clauseOf};
+ghost use Rattle.book.specs.Syntax.{typeOf, sameType, nodeOf, clauseOf};
 ghost use Rattle.book.specs.Decode.{scopesOf};
 ghost use Rattle.book.specs.References.{scopeAt};
 ghost use Rattle.book.specs.Tables.{countAt, placeAt, Laid, variableAt, subScopeAt, nodeAt, clauseAt};
@@ -103,6 +103,21 @@ pub fn type_of(b: u8) -> ValueType
         ValueType::YesNo
     } else {
         ValueType::Numeric
+    }
+}
+
+pub fn same_type(a: ValueType, b: ValueType) -> bool
+    ensures { λ r. ⌜ r ≡ sameType a b ⌝ }
+{
+    match a {
+        ValueType::YesNo => match b {
+            ValueType::YesNo => true,
+            ValueType::Numeric => false,
+        },
+        ValueType::Numeric => match b {
+            ValueType::YesNo => false,
+            ValueType::Numeric => true,
+        },
     }
 }
 

@@ -28,6 +28,7 @@ use Rattle.book.specs.Scopes.{sum, weight}
 use Rattle.book.specs.Steps.{dependsOn, stepCount, stepOrder}
 use Rattle.book.specs.Judge.{judge}
 use Rattle.book.specs.declared.Judged.the-variants.{Accepted}
+use Rattle.book.proofs.Sums.{range}
 use Rattle.steps.proofs.Weights.{weight-sum}
 use Rattle.acceptance.specs.Accepted.{CompleteOrder}
 use Rattle.acceptance.proofs.Acceptance.{accepted-faultless}
@@ -38,11 +39,6 @@ use Rattle.evaluation.proofs.Running.{Steps, call-number, countOf, by-s
 use Rattle.evaluation.proofs.Entering.{steps-of, accepted-complete, accepted-entered-steps, accepted-entered-count, accepted-by-blocks}
 
 -- Sums
-
--- f a + f (a + 1) + .., m of them
-unfoldable range : (ℕ → ℕ) → ℕ → ℕ → ℕ
-range f a zero = 0
-range f a (suc m) = f a + range f (suc a) m
 
 range-same : (f g : ℕ → ℕ) (a m : ℕ) → ((j : ℕ) → a ≤ j → j < a + m → f j ≡ g j) → range f a m ≡ range g a m
 unfolding range
@@ -149,6 +145,10 @@ abbrev pub Bounded : ℕ → Entered → Type 0
 Bounded w (values vs n) = n ≡ w
 Bounded w (ended c n) = n ≤ w
 
+pub bounded-count : (w : ℕ) (r : Entered) → Bounded w r → countOf r ≤ w
+bounded-count w (values vs c) h = omega arith
+bounded-count w (ended d c) h = h
+
 module _ (book : List Scope) (enter : ℕ → List Given → Entered) (s : Scope) (given : List Given) (weigh : ℕ → ℕ)
     (bounded : (k : ℕ) → k < length (s .subScopes) → (handed : List Given)
     → Bounded (weigh (getD (s .subScopes) k 0)) (enter (getD (s .subScopes) k 0) handed)) where
@@ -241,13 +241,9 @@ module _ (bytes : List ℕ) (n : ℕ) (accepted : judge bytes ≡ Accepted n) wh
     subst (Bounded (weight (scopesOf bytes) i)) e (entered-bounded i l given),
   )
 
-  at-most : (w : ℕ) (r : Entered) → Bounded w r → countOf r ≤ w
-  at-most w (values vs c) h = omega arith
-  at-most w (ended d c) h = h
-
   pub entered-small : (i : ℕ) → i < n → (given : List Given) → countOf (runScope (scopesOf bytes) i given) ≤ 4096
   entered-small i l given =
-      let most = at-most (weight (scopesOf bytes) i) (runScope (scopesOf bytes) i given) (entered-bounded i l given) in
+      let most = bounded-count (weight (scopesOf bytes) i) (runScope (scopesOf bytes) i given) (entered-bounded i l given) in
       omega (arith, most, accepted-book bytes n accepted .weights i l)
 
   pub reached-small : (i : ℕ) → i < n → (given : List Given) (xs : List ℕ) (st : State)

@@ -22,7 +22,7 @@ use Rattle.calculus.specs.declared.Cause.the-variants.{Empty}
 use Rattle.calculus.specs.declared.Given.{Given}
 use Rattle.order.specs.Order.{among}
 use Rattle.order.proofs.Booleans.{decide}
-use Rattle.order.proofs.Among.{among-snoc, among-at, among-place}
+use Rattle.order.proofs.Among.{among-at, among-place}
 use Rattle.order.proofs.Order.{order-no-repeats}
 use Rattle.book.specs.Syntax.{Scope}
 use Rattle.book.specs.Decode.{scopesOf}
@@ -31,6 +31,7 @@ use Rattle.book.specs.Scopes.{calls, blocks}
 use Rattle.book.specs.Steps.{dependsOn, stepCount, stepOrder}
 use Rattle.book.specs.Judge.{judge}
 use Rattle.book.specs.declared.Judged.the-variants.{Accepted}
+use Rattle.steps.proofs.Weights.{new-block, block-snoc}
 use Rattle.acceptance.specs.Accepted.{WellFormed, CompleteOrder}
 use Rattle.acceptance.proofs.Orders.{blocks-after, accepted-book}
 use Rattle.evaluation.specs.Run.{Entered, ended, begin, runSteps, enter, runScope}
@@ -57,15 +58,6 @@ module _ (book : List Scope) (complete : CompleteOrder (calls book) (length book
       (ap reverse (take-suc (blocks book) k 0 (omega (arith, complete .count)))
       ∙ reverse-append (take k (blocks book)) (getD (blocks book) k 0 ∷ []))
 
-  block-snoc : (k : ℕ) → k < length book → (j : ℕ)
-      → among (take (suc k) (blocks book)) j ≡ (among (take k (blocks book)) j || eqb j (getD (blocks book) k 0))
-  block-snoc k l j =
-      rw (take-suc (blocks book) k 0 (omega (arith, complete .count))) (among-snoc (take k (blocks book)) (getD (blocks book) k 0) j)
-
-  new-block : (k : ℕ) → k < length book → among (take k (blocks book)) (getD (blocks book) k 0) ≡ false
-  unfolding blocks
-  new-block k l = order-no-repeats (calls book) (length book) k (omega (arith, complete .count)) .1
-
   same-more : (k d i : ℕ) → k + d ≤ length book → among (take k (blocks book)) i ≡ true → (given : List Given)
       → (after (k + d) i given ≡ after k i given) × (among (take (k + d) (blocks book)) i ≡ true)
   same-more k zero i l m given = let e : k + 0 ≡ k = omega arith in rw e (refl, m)
@@ -77,12 +69,12 @@ module _ (book : List Scope) (complete : CompleteOrder (calls book) (length book
       let other : eqb x i ≡ false =
       ⊎-elim
       (λ (q : eqb x i ≡ true).
-      absurd (true≢false (sym (r .1) ∙ ap (among (take n (blocks book))) (sym (eqb-true x i q)) ∙ new-block n (omega arith))))
+      absurd (true≢false (sym (r .1) ∙ ap (among (take n (blocks book))) (sym (eqb-true x i q)) ∙ new-block book (complete .count) n (omega arith))))
       (λ (q : eqb x i ≡ false). q)
       (decide (eqb x i)) in
       rw e (
         (rw other at (after-more n (omega arith) i given)) ∙ r .0,
-        block-snoc n (omega arith) i ∙ ap (λ (t : Bool). t || eqb i x) (r .1),
+        block-snoc book (complete .count) n (omega arith) i ∙ ap (λ (t : Bool). t || eqb i x) (r .1),
       )
 
   pub entered-same : (k l i : ℕ) → k ≤ l → l ≤ length book → among (take k (blocks book)) i ≡ true → (given : List Given)
@@ -133,7 +125,7 @@ module _ (book : List Scope) (complete : CompleteOrder (calls book) (length book
         let s = scopeAt book i in
         let is : eqb (getD (blocks book) k 0) i ≡ true = eq-eqb (getD (blocks book) k 0) i (p .2) in
         let there : among (take (suc k) (blocks book)) i ≡ true =
-        block-snoc k few i
+        block-snoc book (complete .count) k few i
         ∙ ap (λ (t : Bool). among (take k (blocks book)) i || t) (eq-eqb i (getD (blocks book) k 0) (sym (p .2)))
         ∙ or-true (among (take k (blocks book)) i) in
         entered-whole (suc k) i (omega arith) there given

@@ -3,11 +3,10 @@
 --     eval-typed      where every variable read holds a value of its type, the outcome is of the term's type
 --     ready-typed     so it is of a term that is ready in a state of a run
 --     held-type       what a set variable holds is of its type
---     same-type       types found equal are equal
 -- Assumes nothing.
 use Prim.Native.Nat.{ℕ, zero, suc, _+_}
 use mathlib.Core.Path.{_≡_, refl, subst}
-use mathlib.Core.Bool.{Bool, true, false, cond, _||_, or-true, false≢true}
+use mathlib.Core.Bool.{Bool, true, false, cond, _||_, or-true}
 use mathlib.Core.List.{List, [], _∷_}
 use lib.ListN.{getD}
 use lib.IntN.{ℤ, negℤ, _+ℤ_, _-ℤ_}
@@ -35,7 +34,6 @@ use Rattle.calculus.specs.declared.Binary.the-variants.{And, Add, Subtract, Equ
 use Rattle.calculus.specs.declared.Given.{Given}
 use Rattle.calculus.specs.declared.Given.the-variants.{Absent, Present}
 use Rattle.cells.specs.Cells.{held}
-use Rattle.book.specs.Syntax.{sameType}
 use Rattle.book.specs.Typing.{unaryType, binaryType}
 use Rattle.book.specs.Steps.{reads, readsAny}
 use Rattle.book.specs.declared.ValueType.{ValueType}
@@ -43,12 +41,6 @@ use Rattle.book.specs.declared.ValueType.the-variants.{YesNo, Numeric}
 use Rattle.evaluation.specs.Run.{State, envOf}
 use Rattle.evaluation.specs.Types.{HasType, Holds, HoldsAt, OutcomeFits, Typed, AllTyped}
 use Rattle.evaluation.specs.Readiness.{TermReady}
-
-pub same-type : (a b : ValueType) → sameType a b ≡ true → a ≡ b
-same-type YesNo YesNo e = refl
-same-type YesNo Numeric e = absurd (false≢true e)
-same-type Numeric YesNo e = absurd (false≢true e)
-same-type Numeric Numeric e = refl
 
 -- Typings under other facts on the variables
 

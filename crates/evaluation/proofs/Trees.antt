@@ -27,16 +27,9 @@ use Rattle.book.specs.declared.Consequence.{Consequence}
 use Rattle.book.specs.declared.Consequence.the-variants.{Of, Fixed}
 use Rattle.book.specs.declared.Target.{Target}
 use Rattle.book.specs.declared.Clause.{Clause}
+use Rattle.book.proofs.Same.{same-type, same-target}
 use Rattle.acceptance.specs.Accepted.{WellFormed}
 use Rattle.evaluation.specs.Types.{Typed, AllTyped, WellTyped, AllWellTyped}
-use Rattle.evaluation.proofs.Soundness.{same-type}
-
-same-target : (a b : Target) → sameTarget a b ≡ true → a ≡ b
-same-target a b e =
-    let h = both (eqb (a .sub) (b .sub)) (eqb (a .variable) (b .variable)) e in
-    let p : a .sub ≡ b .sub = eqb-true (a .sub) (b .sub) (h .0) in
-    let q : a .variable ≡ b .variable = eqb-true (a .variable) (b .variable) (h .1) in
-    λ i. record { sub = p i; variable = q i }
 
 module _ (book : List Scope) (s : Scope) where
   abbrev types : ℕ → ValueType

@@ -7,7 +7,7 @@ use mathlib.Core.Path.{_≡_, sym, ap, subst, _∙_}
 use mathlib.Core.Bool.{Bool, true, false, false≢true}
 use mathlib.Core.List.{List, _++_}
 use native.Mathlib.Omega.{arith}
-use lib.ListN.{length, getD, take, drop, replicate, length-take, length-drop}
+use lib.ListN.{length, getD, take, drop, replicate, length-take}
 use lib.Seq.{getD-take, getD-drop}
 use Rattle.calculus.specs.declared.Value.{Value}
 use Rattle.calculus.specs.declared.Cause.{Cause}
@@ -50,9 +50,6 @@ among-more xs a b w l h =
     let there : p .0 < length (take b xs) = omega (arith, p .1, s, t) in
     let same : getD (take b xs) (p .0) 0 ≡ w = getD-take b xs (p .0) 0 (omega arith) ∙ sym (getD-take a xs (p .0) 0 low) ∙ p .2 in
     ap (among (take b xs)) (sym same) ∙ among-at (take b xs) (p .0) there
-
-pub part-room : (xs : List ℕ) (a w : ℕ) → a + 32 ≤ length xs → w ≡ 32 → length (take w (drop a xs)) ≡ 32
-part-room xs a w l e = let t = length-take w (drop a xs) in let d = length-drop a xs in omega (arith, t, d)
 
 module _ {bytes places counts links orders : List ℕ} {i left : ℕ} {own₀ memo₀ : List ℕ} (e : Entry bytes places counts links orders i left own₀ memo₀) where
   abbrev book : List Scope

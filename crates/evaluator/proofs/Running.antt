@@ -7,7 +7,7 @@
 -- Assumes nothing.
 use Prim.Native.Nat.{ℕ, suc, _+_, _-_, _*_, _<_, _≤_}
 use mathlib.Core.Path.{_≡_, refl, sym, ap, subst, _∙_}
-use mathlib.Core.Bool.{true, false, _||_, false≢true}
+use mathlib.Core.Bool.{true, false, _||_}
 use mathlib.Core.List.{List, [], _∷_, map, reverse}
 use mathlib.Core.Logic.{_⊎_, inl, inr, ⊎-elim}
 use native.Mathlib.Omega.{arith}
@@ -25,7 +25,7 @@ use Rattle.calculus.specs.declared.Given.{Given}
 use Rattle.calculus.specs.declared.Given.the-variants.{Absent, Present}
 use Rattle.order.specs.Order.{among}
 use Rattle.order.proofs.Booleans.{decide, or-cases}
-use Rattle.order.proofs.Among.{among-snoc}
+use Rattle.order.proofs.Among.{among-snoc, among-none}
 use Rattle.cells.specs.Cells.{givenAt, held}
 use Rattle.book.specs.Syntax.{Scope}
 use Rattle.book.specs.Decode.{scopesOf}
@@ -47,7 +47,7 @@ use Rattle.lists.specs.Writing.{valuesOf}
 use Rattle.evaluation.specs.Run.{Entered, values, ended, State, envOf, onValue, onEntered, begin, runSteps, enter}
 use Rattle.evaluation.proofs.Running.{countOf, steps-count}
 use Rattle.evaluation.proofs.Entering.{accepted-entered-steps}
-use Rattle.evaluation.proofs.Counts.{Bounded, entered-bounded}
+use Rattle.evaluation.proofs.Counts.{bounded-count, entered-bounded}
 use Rattle.evaluator.specs.Steps.{stepOutcome, Stored, givensFrom, overAll, calledCount, overView, HandedAll, enteredAt, ranView, Came}
 use Rattle.evaluator.specs.declared.Ran.{Ran}
 use Rattle.evaluator.specs.declared.Ran.the-variants.{Values, Ended}
@@ -78,17 +78,9 @@ pub record Running (bytes : List ℕ) (i : ℕ) (given own called handed : List 
       → Done bytes i n (length (scopeAt (scopesOf bytes) i .variables) + k)
       → held (givenAt called (k * 32 + x)) ≡ getD (getD (state .called) k []) x (Truth false)
 
-nothing : {A : Type 0} (w : ℕ) → among [] w ≡ true → A
-unfolding among
-nothing w e = absurd (false≢true e)
-
 more-than : (k l : ℕ) → k ≤ l → (l ≡ k → ⊥) → k < l
 more-than k l h ne =
     ⊎-elim (λ (t : ltb k l ≡ true). ltb-true k l t) (λ (t : ltb k l ≡ false). absurd (ne (omega (arith, ltb-false k l t)))) (decide (ltb k l))
-
-bounded-count : (w : ℕ) (e : Entered) → Bounded w e → countOf e ≤ w
-bounded-count w (values vs n) h = omega arith
-bounded-count w (ended c n) h = h
 
 module _ (bytes : List ℕ) (i : ℕ) (given : List ℕ) (ok : judge bytes ≡ Accepted (length (scopesOf bytes))) (here : i < length (scopesOf bytes)) where
   abbrev book : List Scope
@@ -135,8 +127,8 @@ module _ (bytes : List ℕ) (i : ℕ) (given : List ℕ) (ok : judge bytes ≡ A
         ownLength = length-map (s .variables) _;
         calledLength = length-map (s .subScopes) _;
         rest = sym (accepted-entered-steps bytes (length book) ok i here gs);
-        owns = λ x l d. nothing x d;
-        calls = λ k x l m d. nothing (vars + k) d;
+        owns = λ x l d. among-none x d;
+        calls = λ k x l m d. among-none (vars + k) d;
       }
 
   module _ {own called handed : List ℕ} {count n : ℕ} (r : Running bytes i given own called handed count n) (more : n < stepCount s) where

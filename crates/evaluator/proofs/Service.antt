@@ -5,7 +5,7 @@
 --     values-so, ends-so                  the answer of a run
 -- Assumes nothing.
 use Prim.Native.Nat.{ℕ, zero, suc, _+_, _*_, _<_, _≤_}
-use mathlib.Core.Path.{_≡_, refl, sym, ap, subst, _∙_}
+use mathlib.Core.Path.{_≡_, sym, ap, subst, _∙_}
 use mathlib.Core.Bool.{true, false≢true}
 use mathlib.Core.List.{List, [], _∷_, reverse}
 use native.Mathlib.Omega.{arith}
@@ -23,7 +23,7 @@ use Rattle.book.specs.References.{scopeAt}
 use Rattle.book.specs.Scopes.{blocks}
 use Rattle.book.specs.Judge.{judge}
 use Rattle.book.specs.declared.ValueType.{ValueType}
-use Rattle.book.specs.declared.ValueType.the-variants.{YesNo, Numeric}
+use Rattle.book.specs.declared.ValueType.the-variants.{YesNo}
 use Rattle.book.specs.declared.Variable.{Variable}
 use Rattle.book.specs.declared.Fault.{Fault}
 use Rattle.book.specs.declared.Judged.{Judged}
@@ -42,6 +42,7 @@ use Rattle.evaluation.specs.Evaluate.{Reply, replyOf, evaluate, asked, memoryAf
 use Rattle.evaluation.specs.declared.Refusal.{Refusal}
 use Rattle.evaluation.specs.declared.Refusal.the-variants.{Book, NoSuchScope, BadInput, BufferTooSmall}
 use Rattle.evaluation.specs.declared.Answer.{Answer}
+use Rattle.book.proofs.Same.{same-self}
 use Rattle.evaluation.specs.declared.Answer.the-variants.{Values, Ended, Refused}
 use Rattle.evaluation.proofs.Entering.{accepted-complete}
 use Rattle.evaluation.proofs.Types.{inputs-fitting, values-typed, values-length}
@@ -122,13 +123,9 @@ module _ (bytes : List ℕ) (n i : ℕ) (ok : judge bytes ≡ judged.Accepted n)
           there = rw (lt-ltb i (length (scopesOf bytes)) (omega (arith, count)), taken .list, le-leb (resultLength (scopeAt (scopesOf bytes) i .variables)) (length memory) l)
 
 -- values of the variables' types
-same-refl : (t : ValueType) → sameType t t ≡ true
-same-refl YesNo = refl
-same-refl Numeric = refl
-
 is-of : (t : ValueType) (g : Given) → isGiven g ≡ true → valueType (held g) ≡ t → isOf t g ≡ true
 is-of t Absent p e = absurd (false≢true p)
-is-of t (Present v) p e = ap (sameType t) e ∙ same-refl t
+is-of t (Present v) p e = ap (sameType t) e ∙ same-self t
 
 fits-at : (xs : List Variable) (cells : List ℕ) (k : ℕ) → ValuesFit xs (valuesFrom cells k (length xs)) → (v : ℕ) → v < length xs
     → valueType (held (givenAt cells (k + v))) ≡ getD xs v (record { holds = YesNo }) .holds

@@ -1,5 +1,6 @@
 // The instructions of accepted code other than the entry of a sub-scope, over parts of a lent stack and of lent tries.
 use book::ValueType;
+use book::same_type;
 use book::type_of;
 use calculus::Binary;
 use calculus::Cause;
@@ -12,7 +13,6 @@ use calculus::apply_unary;
 use calculus::truth_of;
 use cells::cell_of;
 use cells::given_of;
-use lists::same_type;
 use record::byte_at;
 use record::distance_at;
 use record::number_at;

@@ -17,10 +17,10 @@ use Rattle.calculus.specs.declared.Value.{Value}
 use Rattle.calculus.specs.declared.Given.{Given}
 use Rattle.calculus.specs.declared.Given.the-variants.{Absent, Present}
 use Rattle.order.proofs.Booleans.{decide}
-use Rattle.book.specs.Syntax.{sameType}
 use Rattle.book.specs.declared.ValueType.{ValueType}
-use Rattle.book.specs.declared.ValueType.the-variants.{YesNo, Numeric}
+use Rattle.book.specs.declared.ValueType.the-variants.{YesNo}
 use Rattle.book.specs.declared.Variable.{Variable}
+use Rattle.book.proofs.Same.{same-type}
 use Rattle.lists.specs.Inputs.{Inputs, bad, good, inputLength, inputType, inputValue, isGiven, badRecord, inputsFrom, inputs}
 use Rattle.lists.specs.Writing.{valueType}
 use Rattle.lists.proofs.Reading.{Fine, fine}
@@ -34,12 +34,6 @@ typeAt variables v = getD variables v (record { holds = YesNo }) .holds
 record Suited (variables : List Variable) (gs : List Given) : Type 0 where
   number : length gs ≡ length variables
   typed : (v : ℕ) (x : Value) → getD gs v Absent ≡ Present x → valueType x ≡ typeAt variables v
-
-same-type : (s t : ValueType) → sameType s t ≡ true → s ≡ t
-same-type YesNo YesNo e = refl
-same-type YesNo Numeric e = absurd (false≢true e)
-same-type Numeric YesNo e = absurd (false≢true e)
-same-type Numeric Numeric e = refl
 
 value-type : (k : ℕ) (rest : List ℕ) → valueType (inputValue k rest) ≡ inputType k
 value-type k rest = ⊎-elim (λ q. rw q) (λ q. rw q) (decide (eqb k 1))

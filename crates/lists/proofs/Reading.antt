@@ -1,20 +1,19 @@
 -- Laws of an input list read into cells.
 --     fine                 what holds of a record that is not bad
 --     tests                the tests of a record, those that need no variable first
---     all-left             a slice's part to its end
 --     start, turn, stop    reading goes on: at first, after a good record, at the list's end
 --     room, cell           a good record is whole, and its variable has a cell
 --     fault                a bad record makes the list bad
 -- Assumes nothing.
-use Prim.Native.Nat.{ℕ, zero, suc, _+_, _-_, _≤_, _<_}
+use Prim.Native.Nat.{ℕ, zero, suc, _+_, _≤_, _<_}
 use mathlib.Core.Path.{_≡_, refl, sym, ap, _∙_}
-use mathlib.Core.Bool.{Bool, true, false, not, cond, _&&_, _||_, true≢false}
+use mathlib.Core.Bool.{Bool, true, false, not, cond, _&&_, _||_}
 use mathlib.Core.List.{List, [], _∷_, map}
 use mathlib.Core.Logic.{⊎-elim}
 use native.Mathlib.Omega.{arith}
 use native.Mathlib.Numerals.{add-one}
-use lib.ListN.{length, getD, set, take, drop, replicate, length-drop, length-set, length-map, List·getD-map, drop-of-length-le}
-use lib.Seq.{take-all, drop-cons, drop-drop, getD-set-same, getD-set-other}
+use lib.ListN.{length, getD, set, drop, replicate, length-drop, length-set, length-map, List·getD-map, drop-of-length-le}
+use lib.Seq.{drop-cons, drop-drop, getD-set-same, getD-set-other}
 use lib.Dec.{eqb, ltb}
 use mir.Syntax.{w32}
 use mir.Val.{SFits, toZ}
@@ -23,7 +22,8 @@ use Rattle.calculus.specs.Values.{numberOf}
 use Rattle.calculus.specs.declared.Given.{Given}
 use Rattle.calculus.specs.declared.Given.the-variants.{Absent, Present}
 use Rattle.record.specs.Bytes.{bigEndian, numberAt}
-use Rattle.order.proofs.Booleans.{decide}
+use Rattle.order.proofs.Booleans.{decide, neither}
+use Rattle.order.proofs.Matrix.{zeros}
 use Rattle.cells.specs.Cells.{cellOf, givenOf, givenAt}
 use Rattle.cells.proofs.RoundTrip.{given-cell}
 use Rattle.book.specs.Syntax.{sameType}
@@ -33,10 +33,6 @@ use Rattle.lists.specs.Inputs.{bad, inputLength, inputType, inputValue, 
 use Rattle.lists.specs.Reading.{malformed, Taken}
 
 -- A record that is not bad
-
-none-of : (a b : Bool) → (a || b) ≡ false → (a ≡ false) × (b ≡ false)
-none-of true b e = absurd (true≢false e)
-none-of false b e = (refl, e)
 
 pub record Fine (variables : List Variable) (given : List Given) (k : ℕ) (rest : List ℕ) : Type 0 where
   pub whole : inputLength k ≤ length rest
@@ -53,15 +49,15 @@ fine variables given k rest e =
     let unknown = not (ltb v (length variables)) in
     let invalid = eqb k 1 && ltb 1 (getD rest 1 0) in
     let cut = ltb (length rest) (inputLength k) in
-    let a = none-of (eqb (inputLength k) 0) (cut || (invalid || (unknown || (mismatch || repeated)))) e in
-    let b = none-of cut (invalid || (unknown || (mismatch || repeated))) (a .1) in
-    let c = none-of invalid (unknown || (mismatch || repeated)) (b .1) in
-    let d = none-of unknown (mismatch || repeated) (c .1) in
+    let a = neither (eqb (inputLength k) 0) (cut || (invalid || (unknown || (mismatch || repeated)))) e in
+    let b = neither cut (invalid || (unknown || (mismatch || repeated))) (a .1) in
+    let c = neither invalid (unknown || (mismatch || repeated)) (b .1) in
+    let d = neither unknown (mismatch || repeated) (c .1) in
     record {
       whole = ltb-false (length rest) (inputLength k) (b .0);
       known = ltb-true v (length variables) (not-false (ltb v (length variables)) (d .0));
-      typed = not-false (sameType (inputType k) (getD variables v (record { holds = YesNo }) .holds)) (none-of mismatch repeated (d .1) .0);
-      fresh = none-of mismatch repeated (d .1) .1;
+      typed = not-false (sameType (inputType k) (getD variables v (record { holds = YesNo }) .holds)) (neither mismatch repeated (d .1) .0);
+      fresh = neither mismatch repeated (d .1) .1;
     }
 
 -- a record's number is one of 32 bits
@@ -119,10 +115,6 @@ stored cells gs v c g h l e d w =
 
 -- Reading on
 
--- a slice's part to its end
-pub all-left : (k : ℕ) (l : List ℕ) → take (length l - k) (drop k l) ≡ drop k l
-all-left k l = let d = length-drop k l in take-all (length l - k) (drop k l) (omega arith)
-
 skip : (variables : List Variable) (n : ℕ) (l : List ℕ) (gs : List Given) → n ≤ length l → inputsFrom variables l n gs ≡ inputsFrom variables (drop n l) 0 gs
 unfolding inputsFrom
 skip variables zero l gs h = refl
@@ -138,11 +130,6 @@ pub record Read (variables : List Variable) (bytes cells : List ℕ) (at : ℕ) 
   pub inside : at ≤ length bytes
   pub size : length cells ≡ 32
 
-no-cell : (n v : ℕ) → _≡_ {A = ℕ} (getD (replicate n 0) v 0) 0
-no-cell zero v = refl
-no-cell (suc n) zero = refl
-no-cell (suc n) (suc v) = no-cell n v
-
 pub start : (variables : List Variable) (bytes : List ℕ) {cells : List ℕ} → cells ≡ replicate 32 0 → Read variables bytes cells 0
 unfolding inputs givenAt givenOf
 start variables bytes e =
@@ -150,7 +137,7 @@ start variables bytes e =
       givens = map (λ v. Absent) variables;
       rest = refl;
       number = length-map variables (λ v. Absent);
-      decoded = λ v. rw (e, no-cell 32 v) (sym (List·getD-map (λ (x : Variable). Absent) variables v (record { holds = YesNo })));
+      decoded = λ v. rw (e, zeros 32 v) (sym (List·getD-map (λ (x : Variable). Absent) variables v (record { holds = YesNo })));
       inside = omega arith;
       size = rw e refl;
     }

@@ -1,5 +1,6 @@
 // Input lists and results: a list of inputs read into cells, the results of a scope written from them.
 use book::ValueType;
+use book::same_type;
 use book::type_of;
 use book::variable_at;
 use book::variable_count;
@@ -130,21 +131,6 @@ fn is_given(g: Given) -> bool
     match g {
         Given::Absent => false,
         Given::Present(_) => true,
-    }
-}
-
-pub fn same_type(a: ValueType, b: ValueType) -> bool
-    ensures { λ r. ⌜ r ≡ sameType a b ⌝ }
-{
-    match a {
-        ValueType::YesNo => match b {
-            ValueType::YesNo => true,
-            ValueType::Numeric => false,
-        },
-        ValueType::Numeric => match b {
-            ValueType::YesNo => false,
-            ValueType::Numeric => true,
-        },
     }
 }
 

@@ -1,3 +1,4 @@
+pub mod Landing
 pub mod Steps
 mod Refused
 pub mod Examples

@@ -32,10 +32,9 @@ use Rattle.calculus.specs.declared.Joined.the-variants.{Nothing, One, Many}
 use Rattle.calculus.specs.declared.Unary.{Unary}
 use Rattle.calculus.specs.declared.Binary.{Binary}
 use Rattle.calculus.specs.declared.Binary.the-variants.{And, Add, Subtract, Equal, Less}
-use Rattle.book.specs.Syntax.{sameType}
 use Rattle.book.specs.Typing.{unaryType, operandType}
+use Rattle.book.proofs.Same.{same-self}
 use Rattle.book.specs.declared.ValueType.{ValueType}
-use Rattle.book.specs.declared.ValueType.the-variants.{YesNo, Numeric}
 use Rattle.evaluation.specs.Run.{ended}
 use Rattle.evaluation.specs.Types.{HasType}
 use Rattle.machine.specs.Instructions.{instructionOf, unary, binary}
@@ -59,10 +58,6 @@ bits-back u k h = omega arith
 number-back : (z : ℤ) (k : List ℕ) → SFits w32 z → numberAt (numberBytes z ++ k) 0 ≡ z
 unfolding numberAt numberBytes
 number-back z k f = ap (toZ w32) (bits-back (ofZ w32 z) k (fits-ofZ f .fits)) ∙ toZ-ofZ f
-
-same-self : (t : ValueType) → sameType t t ≡ true
-same-self YesNo = refl
-same-self Numeric = refl
 
 -- Skipping
 

@@ -3,6 +3,7 @@
 --     among-at       each number of a list is in it
 --     among-place    what is in a list stands at some place
 --     among-first    what is in a list is its first number or in the rest
+--     among-none     nothing is in the empty list
 -- Assumes nothing.
 use Prim.Native.Nat.{ℕ, zero, suc, _<_}
 use mathlib.Core.Path.{_≡_, refl, sym}
@@ -20,6 +21,10 @@ pub among-snoc : (xs : List ℕ) (v w : ℕ) → among (xs ++ (v ∷ [])) w ≡ 
 unfolding among
 among-snoc [] v w = or-false (eqb w v)
 among-snoc (x ∷ xs) v w = ⊎-elim (λ e. rw e refl) (λ e. rw e (among-snoc xs v w)) (decide (eqb w x))
+
+pub among-none : {A : Type 0} (v : ℕ) → among [] v ≡ true → A
+unfolding among
+among-none v e = absurd (false≢true e)
 
 pub among-at : (xs : List ℕ) (i : ℕ) → i < length xs → among xs (getD xs i 0) ≡ true
 unfolding among

@@ -3,4 +3,5 @@ mod Same
 mod Signs
 pub mod Endian
 pub mod Overwrite
+pub mod Parts
 pub mod RoundTrip

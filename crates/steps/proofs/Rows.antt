@@ -9,9 +9,10 @@ use mathlib.Core.Logic.{⊎-elim}
 use native.Mathlib.Omega.{arith}
 use native.Mathlib.Nat.{eq-or-lt-of-le}
 use native.Mathlib.Numerals.{add-one}
-use lib.ListN.{length, take, drop, length-append, length-drop, take-append-drop, drop-of-length-le}
-use lib.Seq.{take-at, drop-at, drop-cons, take-append-le, drop-append-le, length-take-le}
+use lib.ListN.{length, take, drop, drop-of-length-le}
+use lib.Seq.{take-at, drop-at, drop-cons, length-take-le}
 use borrow.Author.Tests.{eq-eqb, ne-eqb}
+use Rattle.record.proofs.Parts.{part-room, before-kept, lent-length}
 use Rattle.book.specs.Lists.{any}
 use Rattle.book.specs.Syntax.{Scope, emptyScope}
 use Rattle.book.specs.References.{scopeAt}
@@ -19,20 +20,6 @@ use Rattle.book.specs.Steps.{stepCount, stepOrder, dependencyCycleIn, dependenc
 use Rattle.book.specs.Limits.{Within}
 use Rattle.steps.specs.Answers.{Written, StepsFilled}
 use Rattle.steps.proofs.Orders.{few-steps}
-
--- what stands in the front of a list does not depend on what follows
-front-kept : (front ys zs : List ℕ) (a n : ℕ) → a + n ≤ length front → take n (drop a (front ++ ys)) ≡ take n (drop a (front ++ zs))
-front-kept front ys zs a n l =
-    let d = length-drop a front in
-    let only : (ws : List ℕ) → take n (drop a (front ++ ws)) ≡ take n (drop a front) =
-    λ ws. ap (take n) (drop-append-le a front ws (omega arith)) ∙ take-append-le n (drop a front) ws (omega arith) in
-    only ys ∙ sym (only zs)
-
--- and a part that is put in place of another keeps what stands before it
-before-kept : (xs : List ℕ) (b : ℕ) (ys : List ℕ) (a n : ℕ) → b ≤ length xs → a + n ≤ b → take n (drop a (take b xs ++ ys)) ≡ take n (drop a xs)
-before-kept xs b ys a n l m =
-    let long = length-take-le b xs l in
-    front-kept (take b xs) ys (drop b xs) a n (omega arith) ∙ ap (λ (zs : List ℕ). take n (drop a zs)) (take-append-drop b xs)
 
 -- row i begins with the order of scope i's steps
 abbrev Row : List Scope → List ℕ → ℕ → Type 0
@@ -80,18 +67,12 @@ module _ (book : List Scope) (from : List ℕ) where
       front : length (take (i * 40) orders) ≡ i * 40
       front = let long = g .long in length-take-le (i * 40) orders (omega arith)
 
-      forty : i * 40 + 40 - i * 40 ≡ 40
-      forty = omega arith
-
       pub next-long : length next ≡ length from
       next-long =
           let long = g .long in
-          let d = length-drop (i * 40) orders in
-          let p : length part ≡ 40 = kept ∙ ap (λ (k : ℕ). length (take k (drop (i * 40) orders))) forty ∙ length-take-le 40 (drop (i * 40) orders) (omega arith) in
-          let e : length (drop (i * 40 + 40 - i * 40) (drop (i * 40) orders)) ≡ length (drop (i * 40) orders) - 40 =
-          ap (λ (k : ℕ). length (drop k (drop (i * 40) orders))) forty ∙ length-drop 40 (drop (i * 40) orders) in
-          length-append (take (i * 40) orders) (part ++ drop (i * 40 + 40 - i * 40) (drop (i * 40) orders))
-          ∙ omega (arith, front, length-append part (drop (i * 40 + 40 - i * 40) (drop (i * 40) orders)))
+          lent-length orders part (i * 40) (i * 40 + 40 - i * 40)
+          (kept ∙ part-room orders (i * 40) (i * 40 + 40 - i * 40) (omega arith) refl) (omega arith)
+          ∙ long
 
       this : Row book next i
       this =

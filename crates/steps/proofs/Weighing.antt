@@ -23,7 +23,8 @@ use Rattle.book.specs.Tables.{subScopeAt}
 use Rattle.steps.specs.Limits.{Scoped, WholeOrder}
 use Rattle.steps.specs.Answers.{weightBy, Weighed}
 use Rattle.order.proofs.Booleans.{decide}
-use Rattle.steps.proofs.Weights.{sum-congruent, block-bound, every-block, block-snoc, called-before, weight-sum, overweight-one, overweight-none}
+use Rattle.book.proofs.Sums.{sum-same}
+use Rattle.steps.proofs.Weights.{block-bound, every-block, block-snoc, called-before, weight-sum, overweight-one, overweight-none}
 
 -- the weights of the sub-scopes from the k-th on, taken from a table
 unfoldable pub sumFrom : List Scope → ℕ → List ℕ → ℕ → ℕ
@@ -91,7 +92,7 @@ module _ (bytes order from : List ℕ) (n : ℕ) (scoped : Scoped bytes n) (bloc
         right =
             ew
             ∙ ap suc
-            (sum-congruent (λ j. getD weights j 0) (weight book) (scopeAt book i .subScopes)
+            (sum-same (λ j. getD weights j 0) (weight book) (scopeAt book i .subScopes)
             (λ j m. g .done j (called-before book whole (blocked .sound) k (omega arith) j (rw is-block at m)) .0))
             ∙ sym (weight-sum book whole (blocked .sound) i in-book)
 

@@ -2,7 +2,6 @@
 --     weight-sum              "Weight: 1 plus the weights of the sub-scopes called": where the blocks hold all scopes and no number dangles
 --     called-before           the block of a sub-scope that is called stands before the caller's
 --     overweight-one, overweight-none     whether a weight is above 4,096
---     sum-congruent           a sum depends only on what is given for the list's elements
 -- Assumes nothing.
 use Prim.Native.Nat.{ℕ, zero, suc, _<_, _≤_, _+_, _-_}
 use mathlib.Core.Path.{_≡_, refl, sym, ap, _∙_}
@@ -23,14 +22,7 @@ use Rattle.book.specs.Scopes.{calls, blocks, sum, weightIn, weight, overweight}
 use Rattle.order.proofs.Booleans.{decide}
 use Rattle.book.proofs.Searches.{any-false, anyFrom-at, anyFrom-none}
 use Rattle.book.proofs.Naming.{named-sub-scopes}
-
-pub sum-congruent : (f g : ℕ → ℕ) (xs : List ℕ) → ((j : ℕ) → among xs j ≡ true → f j ≡ g j) → sum f xs ≡ sum g xs
-unfolding sum among
-sum-congruent f g [] same = refl
-sum-congruent f g (x ∷ xs) same =
-    let here : f x ≡ g x = same x (rw (eq-eqb x x refl)) in
-    let later : sum f xs ≡ sum g xs = sum-congruent f g xs (λ j m. same j (rw m (or-true (eqb j x)))) in
-    rw (here, later)
+use Rattle.book.proofs.Sums.{sum-same}
 
 -- The order of all blocks
 
@@ -47,7 +39,7 @@ module _ (book : List Scope) (whole : length (blocks book) ≡ length book) wher
   unfolding blocks
   block-bound k l = order-no-repeats (calls book) (length book) k (omega arith) .0
 
-  new-block : (k : ℕ) → k < length book → among (take k (blocks book)) (getD (blocks book) k 0) ≡ false
+  pub new-block : (k : ℕ) → k < length book → among (take k (blocks book)) (getD (blocks book) k 0) ≡ false
   unfolding blocks
   new-block k l = order-no-repeats (calls book) (length book) k (omega arith) .1
 
@@ -120,7 +112,7 @@ module _ (book : List Scope) (whole : length (blocks book) ≡ length book) wher
       sym (settled (suc k) i (omega arith) there)
       ∙ (rw is at (after-more k few i))
       ∙ ap suc
-      (sum-congruent (after k) (weight book) (scopeAt book i .subScopes)
+      (sum-same (after k) (weight book) (scopeAt book i .subScopes)
       (λ j m. settled k j (omega arith) (called-before sound k few j (rw (p .2) m))))
 
 -- Weights above 4,096

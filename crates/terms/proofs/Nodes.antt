@@ -1,16 +1,12 @@
 -- The outcome of a node among those below a limit: its node's, over the outcomes of the nodes below it.
 -- Assumes nothing.
-use Prim.Native.Nat.{ℕ, zero, suc, _<_, _≤_}
+use Prim.Native.Nat.{ℕ, _<_, _≤_}
 use mathlib.Core.Path.{_≡_, refl, sym, ap, _∙_}
 use mathlib.Core.Bool.{Bool, true, false, cond, false≢true}
 use mathlib.Core.List.{List}
-use mathlib.Core.Logic.{⊎-elim}
-use native.Mathlib.Nat.{eq-or-lt-of-le}
-use native.Mathlib.Omega.{arith}
-use lib.ListN.{length, getD}
+use lib.ListN.{length}
 use lib.Dec.{eqb}
-use borrow.Author.Tests.{eq-eqb, ne-eqb}
-use Rattle.calculus.specs.Terms.{Term, Terms, none, also, error}
+use Rattle.calculus.specs.Terms.{Term, Terms, none, also}
 use Rattle.calculus.specs.Evaluation.{Env, eval, exceptions}
 use Rattle.calculus.specs.Defaults.{gather, settle}
 use Rattle.calculus.specs.Outcomes.{choose}
@@ -25,25 +21,9 @@ use Rattle.book.specs.References.{scopeAt}
 use Rattle.book.specs.Tables.{nodeAt}
 use Rattle.book.specs.Trees.{exception, nodeTerm, termBelow}
 use Rattle.book.specs.declared.Node.{Node}
-use Rattle.book.specs.declared.Node.the-variants.{Constant, Default}
+use Rattle.book.specs.declared.Node.the-variants.{Default}
+use Rattle.book.proofs.Terms.{term-past, term-here}
 use Rattle.terms.specs.Outcomes.{envOf, outcomeBelow, gatherBelow, restBelow, defaultBelow, isNothing}
-
-module _ (nodes : List Node) where
-  -- at the limit and past it there is no node
-  below-past : (l n : ℕ) → l ≤ n → termBelow nodes l n ≡ error Empty
-  unfolding termBelow
-  below-past zero n h = refl
-  below-past (suc l) n h = rw (ne-eqb n l (λ e. omega arith)) (below-past l n (omega arith))
-
-  -- below the limit, a node's term does not depend on it
-  below-at : (l n : ℕ) → n < l → termBelow nodes l n ≡ nodeTerm (termBelow nodes n) (getD nodes n (Constant false))
-  unfolding termBelow
-  below-at zero n h = absurd (omega arith)
-  below-at (suc l) n h =
-      ⊎-elim
-      (λ (e : n ≡ l). rw (eq-eqb n l e, ← e))
-      (λ (k : n < l). rw (ne-eqb n l (λ e. omega arith)) (below-at l n k))
-      (eq-or-lt-of-le (omega arith))
 
 -- an exception is gathered; 255 is none
 exceptions-listed : (e : Env) (lower : ℕ → Term) (g : Gathered) (x : ℕ) (ts : Terms)
@@ -74,14 +54,14 @@ module _ (bytes own called : List ℕ) (i : ℕ) where
 
   pub past : (limit n : ℕ) → limit ≤ n → outcomeBelow bytes own called i limit n ≡ Ends Empty
   unfolding outcomeBelow eval
-  past limit n h = ap (eval (envOf own called)) (below-past nodes limit n h)
+  past limit n h = ap (eval (envOf own called)) (term-past nodes limit n h)
 
   -- the outcome of a node that was fetched, by the variant that it was found to be
   pub here : (limit n : ℕ) (found nd : Node) → n < limit → limit ≤ length nodes → found ≡ nodeAt (scopesOf bytes) i n → found ≡ nd
       → outcomeBelow bytes own called i limit n ≡ eval (envOf own called) (nodeTerm (termBelow nodes n) nd)
   unfolding outcomeBelow nodeAt
   here limit n found nd h k p q =
-      ap (eval (envOf own called)) (below-at nodes limit n h ∙ ap (nodeTerm (termBelow nodes n)) (sym p ∙ q))
+      ap (eval (envOf own called)) (term-here nodes limit n h ∙ ap (nodeTerm (termBelow nodes n)) (sym p ∙ q))
 
   pub default-here : (n x y z j c : ℕ)
       → eval (envOf own called) (nodeTerm (termBelow nodes n) (Default x y z j c)) ≡ defaultBelow bytes own called i n x y z j c

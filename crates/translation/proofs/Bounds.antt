@@ -29,10 +29,11 @@ use Rattle.book.specs.declared.Consequence.the-variants.{Of, Fixed}
 use Rattle.book.specs.declared.Target.{Target}
 use Rattle.book.specs.declared.Clause.{Clause}
 use Rattle.book.proofs.Terms.{term-here}
+use Rattle.book.proofs.Sums.{sum-same}
 use Rattle.acceptance.specs.Accepted.{WithinLimits, WellFormed}
 use Rattle.acceptance.proofs.Namings.{operands-lower, clause-nodes}
 use Rattle.translation.proofs.Parts.{parts, allParts}
-use Rattle.translation.proofs.Sums.{Below, append-below, gathered-below, sum-append, sum-same, sum-below, range-gathered}
+use Rattle.translation.proofs.Sums.{Below, append-below, gathered-below, sum-append, sum-below, range-gathered}
 
 -- Nodes
 

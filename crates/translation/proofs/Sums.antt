@@ -1,7 +1,6 @@
 -- Sums of a function's values.
 --     append-below, gathered-below    numbers that are below a bound in each of several lists
 --     sum-append       over two lists
---     sum-same         of functions that agree on a list
 --     sum-below        over a list in which no number stands twice: no more than over all numbers below a bound of them
 --     range-gathered   over all numbers of things each of which adds one to what it names
 -- Assumes nothing.
@@ -20,11 +19,7 @@ use Rattle.order.proofs.Booleans.{neither}
 use Rattle.order.proofs.Among.{among-at, among-first}
 use Rattle.book.specs.Sharing.{gathered, repeats}
 use Rattle.book.specs.Scopes.{sum}
-
--- f a + f (a + 1) + .., m of them
-unfoldable pub range : (ℕ → ℕ) → ℕ → ℕ → ℕ
-range f a zero = 0
-range f a (suc m) = f a + range f (suc a) m
+use Rattle.book.proofs.Sums.{range}
 
 -- what is in a list's rest is in the list
 among-rest : (x : ℕ) (xs : List ℕ) (y : ℕ) → among xs y ≡ true → among (x ∷ xs) y ≡ true
@@ -55,12 +50,6 @@ pub sum-append : (f : ℕ → ℕ) (xs ys : List ℕ) → sum f (xs ++ ys) ≡ s
 unfolding sum
 sum-append f [] ys = omega arith
 sum-append f (x ∷ xs) ys = omega (arith, sum-append f xs ys)
-
-pub sum-same : (f g : ℕ → ℕ) (xs : List ℕ) → ((x : ℕ) → among xs x ≡ true → f x ≡ g x) → sum f xs ≡ sum g xs
-unfolding sum
-sum-same f g [] h = refl
-sum-same f g (x ∷ xs) h =
-    rw (h x (among-at (x ∷ xs) 0 (omega arith)), sum-same f g xs (λ y e. h y (among-rest x xs y e)))
 
 -- f, and 0 at x
 abbrev except : ℕ → (ℕ → ℕ) → ℕ → ℕ

@@ -3,44 +3,24 @@
 --     sound-chained    of each scope of a sound book
 --     chained-head     the chain of a clause begins before the cell of its own exceptions
 -- Assumes nothing.
-use Prim.Native.Nat.{ℕ, zero, suc, _<_, _≤_, _+_}
-use mathlib.Core.Path.{_≡_, refl, sym}
-use mathlib.Core.Bool.{Bool, true, false, not, _||_, false≢true}
-use mathlib.Core.List.{List, [], _∷_}
+use Prim.Native.Nat.{ℕ, _<_, _≤_, _+_}
+use mathlib.Core.Path.{_≡_}
+use mathlib.Core.Bool.{true, false}
+use mathlib.Core.List.{List}
 use mathlib.Core.Logic.{_⊎_, inl, inr, ⊎-elim}
 use native.Mathlib.Omega.{arith}
 use lib.ListN.{length, getD}
 use lib.Dec.{eqb, ltb}
-use borrow.Author.Tests.{ltb-true, eqb-true, not-false}
+use borrow.Author.Tests.{ltb-true, eqb-true}
 use Rattle.order.proofs.Booleans.{decide, both, or-cases}
-use Rattle.book.specs.Lists.{any, anyFrom}
-use Rattle.book.specs.Syntax.{Scope, emptyScope, sameTarget}
+use Rattle.book.specs.Syntax.{Scope, sameTarget}
 use Rattle.book.specs.Decode.{scopesOf}
-use Rattle.book.specs.References.{scopeAt, noClause, nodeNames, namesCalled, namesTarget, namesParent, clauseNames, danglesIn, dangles}
+use Rattle.book.specs.References.{scopeAt, noClause, namesCalled, namesTarget, namesParent, clauseNames, danglesIn}
 use Rattle.book.specs.declared.Target.{Target}
 use Rattle.book.specs.declared.Clause.{Clause}
+use Rattle.book.proofs.Naming.{named-clauses, scope-sound}
 use Rattle.trees.specs.Links.{headOf, Sound}
 use Rattle.trees.proofs.Slots.{Fit, slot-bound, head-base, head-exception}
-
-or-neither : (a b : Bool) → (a || b) ≡ false → (a ≡ false) × (b ≡ false)
-or-neither true b e = absurd (false≢true (sym e))
-or-neither false b e = (refl, e)
-
--- where the search finds nothing, what `getD` gives lacks the property if the default does
-any-default : {A : Type 0} (p : A → Bool) (xs : List A) (d : A) → any p xs ≡ false → p d ≡ false → (i : ℕ) → p (getD xs i d) ≡ false
-unfolding any
-any-default p [] d e h i = h
-any-default p (x ∷ xs) d e h zero = or-neither (p x) (any p xs) e .0
-any-default p (x ∷ xs) d e h (suc i) = any-default p xs d (or-neither (p x) (any p xs) e .1) h i
-
-any-from : {A : Type 0} (p : ℕ → A → Bool) (k : ℕ) (xs : List A) → anyFrom p k xs ≡ false
-    → (i : ℕ) → i < length xs → (d : A) → p (k + i) (getD xs i d) ≡ false
-unfolding anyFrom
-any-from p k [] e i h d = absurd (omega arith)
-any-from p k (x ∷ xs) e zero h d = let z : k + 0 ≡ k = omega arith in rw z (or-neither (p k x) (anyFrom p (suc k) xs) e .0)
-any-from p k (x ∷ xs) e (suc i) h d =
-    let z : k + suc i ≡ suc k + i = omega arith in
-    rw z (any-from p (suc k) xs (or-neither (p k x) (anyFrom p (suc k) xs) e .1) i (omega arith) d)
 
 -- a clause without parent, or with one of lower number and the same target
 abbrev pub Parent : List Clause → ℕ → Clause → Type 0
@@ -83,14 +63,6 @@ module _ (book : List Scope) (s : Scope) (variables : (j : ℕ) → length (scop
       inr (ltb-true (c .parent) n (p .0), p .1))
       (or-cases (eqb (c .parent) 255) _ e)
 
-  named : danglesIn book s ≡ false → (n : ℕ) → n < length (s .clauses) → clauseNames book s n (getD (s .clauses) n noClause) ≡ true
-  unfolding danglesIn
-  named e n l =
-      let a = or-neither (any (λ i. not (ltb i (length book))) (s .subScopes)) _ e in
-      let b = or-neither (anyFrom (λ n x. not (nodeNames book s n x)) 0 (s .nodes)) _ (a .1) in
-      let z : 0 + n ≡ n = omega arith in
-      not-false _ (rw z at (any-from (λ n c. not (clauseNames book s n c)) 0 (s .clauses) (b .1) n l noClause))
-
   parts : (n : ℕ) (c : Clause) → clauseNames book s n c ≡ true → (namesTarget book s (c .target) ≡ true) × (namesParent s n c ≡ true)
   unfolding clauseNames
   parts n c e =
@@ -101,16 +73,15 @@ module _ (book : List Scope) (s : Scope) (variables : (j : ℕ) → length (scop
   chained few e =
       record {
         few = few;
-        target = λ n l. target-fit (getD (s .clauses) n noClause .target) (parts n (getD (s .clauses) n noClause) (named e n l) .0);
-        parent = λ n l. named-parent n (getD (s .clauses) n noClause) (parts n (getD (s .clauses) n noClause) (named e n l) .1);
+        target = λ n l. target-fit (getD (s .clauses) n noClause .target) (parts n (getD (s .clauses) n noClause) (named-clauses book s e n l noClause) .0);
+        parent = λ n l. named-parent n (getD (s .clauses) n noClause) (parts n (getD (s .clauses) n noClause) (named-clauses book s e n l noClause) .1);
       }
 
 pub sound-chained : (bytes places counts : List ℕ) → Sound bytes places counts → (i : ℕ) → Chained (scopeAt (scopesOf bytes) i .clauses)
-unfolding dangles danglesIn any anyFrom
 sound-chained bytes places counts g i =
     let book = scopesOf bytes in
     chained book (scopeAt book i) (g .variables) (g .variables i) (g .subScopes i) (g .clauses i)
-    (any-default (danglesIn book) book emptyScope (g .named) refl i)
+    (scope-sound book (g .named) i)
 
 pub chained-head : (cs : List Clause) → Chained cs → (n : ℕ) → n < length cs → headOf (getD cs n noClause) < 289 + n
 chained-head cs g n l =

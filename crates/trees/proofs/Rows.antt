@@ -9,23 +9,10 @@ use mathlib.Core.List.{List, _++_, append-assoc}
 use mathlib.Core.Logic.{⊎-elim}
 use native.Mathlib.Omega.{arith}
 use native.Mathlib.Nat.{eq-or-lt-of-le}
-use lib.ListN.{length, getD, take, drop, replicate, length-append, length-drop, length-replicate, take-append-drop, getD-replicate}
-use lib.Seq.{take-at, drop-at, take-append-le, drop-append-le, length-take-le, getD-take, getD-drop, drop-drop}
+use lib.ListN.{length, getD, take, drop, replicate, length-append, length-replicate, getD-replicate}
+use lib.Seq.{take-at, drop-at, length-take-le, getD-take, getD-drop, drop-drop}
+use Rattle.record.proofs.Parts.{part-room, before-kept, lent-length}
 use Rattle.trees.specs.Links.{Linked, Sound, Blank, Blanks, AllLinked, row}
-
--- what stands in the front of a list does not depend on what follows
-front-kept : (front ys zs : List ℕ) (a n : ℕ) → a + n ≤ length front → take n (drop a (front ++ ys)) ≡ take n (drop a (front ++ zs))
-front-kept front ys zs a n l =
-    let d = length-drop a front in
-    let only : (ws : List ℕ) → take n (drop a (front ++ ws)) ≡ take n (drop a front) =
-    λ ws. ap (take n) (drop-append-le a front ws (omega arith)) ∙ take-append-le n (drop a front) ws (omega arith) in
-    only ys ∙ sym (only zs)
-
--- and a part that is put in place of another keeps what stands before it
-before-kept : (xs : List ℕ) (b : ℕ) (ys : List ℕ) (a n : ℕ) → b ≤ length xs → a + n ≤ b → take n (drop a (take b xs ++ ys)) ≡ take n (drop a xs)
-before-kept xs b ys a n l m =
-    let long = length-take-le b xs l in
-    front-kept (take b xs) ys (drop b xs) a n (omega arith) ∙ ap (λ (zs : List ℕ). take n (drop a zs)) (take-append-drop b xs)
 
 pub record Filling (bytes : List ℕ) (scopes : ℕ) (from links : List ℕ) (i : ℕ) : Type 0 where
   pub at : i ≤ scopes
@@ -59,11 +46,8 @@ module _ (bytes places counts : List ℕ) (scopes : ℕ) (from : List ℕ) (b : 
       width : i * 834 + 834 - i * 834 ≡ 834
       width = omega arith
 
-      room : length (drop (i * 834) links) ≡ length from - i * 834
-      room = length-drop (i * 834) links ∙ ap (λ (n : ℕ). n - i * 834) (g .long)
-
       part-long : length (take (i * 834 + 834 - i * 834) (drop (i * 834) links)) ≡ 834
-      part-long = ap (λ (n : ℕ). length (take n (drop (i * 834) links))) width ∙ length-take-le 834 (drop (i * 834) links) (omega (arith, room, b .size))
+      part-long = part-room links (i * 834) (i * 834 + 834 - i * 834) (omega (arith, g .long, b .size)) width
 
       -- the part that is lent
       pub blank : Blank bytes places counts (take (i * 834 + 834 - i * 834) (drop (i * 834) links))
@@ -88,10 +72,9 @@ module _ (bytes places counts : List ℕ) (scopes : ℕ) (from : List ℕ) (b : 
 
         pub next-long : length next ≡ length from
         next-long =
-            let d = length-drop (i * 834 + 834 - i * 834) (drop (i * 834) links) in
-            let a = length-append (take (i * 834) links) (part ++ drop (i * 834 + 834 - i * 834) (drop (i * 834) links)) in
-            let p = length-append part (drop (i * 834 + 834 - i * 834) (drop (i * 834) links)) in
-            omega (arith, front, room, w .size, b .size)
+            let long = g .long in
+            let size = b .size in
+            lent-length links part (i * 834) (i * 834 + 834 - i * 834) (w .size ∙ sym width) (omega arith) ∙ long
 
         this : row i next ≡ part
         this =

@@ -15,9 +15,9 @@ use lib.ListN.{length, getD, set, replicate, length-set, length-replicate}
 use lib.Seq.{getD-set-same, getD-set-other}
 use lib.Dec.{eqb, ltb}
 use borrow.Author.Tests.{eqb-true, eqb-false, ne-eqb, ltb-true}
-use Rattle.book.specs.Syntax.{Scope, noNode, emptyScope}
-use Rattle.book.specs.Lists.{any, anyFrom}
-use Rattle.book.specs.References.{scopeAt, namesException, nodeNames, danglesIn, dangles}
+use Rattle.book.specs.Syntax.{Scope, noNode}
+use Rattle.book.specs.Lists.{anyFrom}
+use Rattle.book.specs.References.{scopeAt, namesException, nodeNames, dangles}
 use Rattle.book.specs.Typing.{nodeType, typeBelow, typeOfNode, exceptionFits, nodeFits, mismatchIn}
 use Rattle.book.specs.Tables.{countAt, nodeAt}
 use Rattle.book.specs.declared.ValueType.{ValueType}
@@ -25,8 +25,8 @@ use Rattle.book.specs.declared.ValueType.the-variants.{YesNo, Numeric}
 use Rattle.book.specs.declared.Node.{Node}
 use Rattle.book.specs.declared.Node.the-variants as node
 use Rattle.order.proofs.Booleans.{decide, both, or-cases}
-use Rattle.book.proofs.Searches.{any-from, any-default}
-use Rattle.book.proofs.Naming.{named-nodes}
+use Rattle.book.proofs.Searches.{any-from}
+use Rattle.book.proofs.Naming.{named-nodes, scope-sound}
 use Rattle.order.proofs.Matrix.{zeros}
 use Rattle.typing.specs.Types.{byteOf, typeIn, typeOver, nodeSuits, clauseSuits, clauseMisfits, mismatchAt}
 
@@ -56,11 +56,6 @@ next : (book : List Scope) (s : Scope) (n k : ℕ)
     ≡ cond (eqb k n) (nodeType book s (typeBelow book s n) (getD (s .nodes) n noNode)) (typeBelow book s n k)
 unfolding typeBelow
 next book s n k = refl
-
--- nothing dangles where there is no scope
-no-scope : (book : List Scope) → danglesIn book emptyScope ≡ false
-unfolding danglesIn any anyFrom
-no-scope book = refl
 
 not-last : (n m : ℕ) → n ≤ suc m → (n ≡ suc m → ⊥) → n ≤ m
 not-last n m h d = omega arith
@@ -165,7 +160,7 @@ module _ (book : List Scope) (i : ℕ) (types : List ℕ) (n : ℕ) (g : Table b
       rw (g .known, ← ex)
       (same-fits book s n (typeBelow book s n) (typeBelow book s (length (s .nodes)))
       (λ k l. higher book s k n (length (s .nodes)) l (g .within)) x
-      (rw ex (named-nodes book s (any-default (danglesIn book) book emptyScope sound (no-scope book) i) n h noNode)))
+      (rw ex (named-nodes book s (scope-sound book sound i) n h noNode)))
 
   pub told : n < length (scopeAt book i .nodes) → dangles book ≡ false → (x : Node) → x ≡ nodeAt book i n → (r : Bool) → r ≡ nodeSuits types x
       → misfit book i n (getD (scopeAt book i .nodes) n noNode) ≡ not r

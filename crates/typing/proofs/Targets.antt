@@ -6,7 +6,7 @@
 --     ranged        each clause's target is so
 -- Assumes nothing.
 use Prim.Native.Nat.{ℕ, _+_, _*_, _<_}
-use mathlib.Core.Path.{_≡_, refl, sym, _∙_}
+use mathlib.Core.Path.{_≡_, sym, ap, _∙_}
 use mathlib.Core.Bool.{true, false, _&&_}
 use mathlib.Core.Logic.{_⊎_, inl, inr, ⊎-elim}
 use mathlib.Core.List.{List}
@@ -14,16 +14,15 @@ use native.Mathlib.Omega.{arith}
 use lib.ListN.{length, getD}
 use lib.Dec.{eqb, ltb}
 use borrow.Author.Tests.{eq-eqb, ne-eqb, eqb-true, ltb-true}
-use Rattle.book.specs.Lists.{any, anyFrom}
-use Rattle.book.specs.Syntax.{Scope, emptyScope, sameTarget}
-use Rattle.book.specs.References.{scopeAt, noClause, namesCalled, namesTarget, clauseNames, danglesIn, dangles}
+use Rattle.book.specs.Syntax.{Scope, sameTarget}
+use Rattle.book.specs.References.{scopeAt, noClause, namesCalled, namesTarget, clauseNames, dangles}
 use Rattle.book.specs.Tables.{clauseAt}
 use Rattle.book.specs.declared.Target.{Target}
 use Rattle.book.specs.Limits.{Within}
 use Rattle.typing.specs.Marks.{slotOf}
 use Rattle.order.proofs.Booleans.{decide, both}
-use Rattle.book.proofs.Searches.{any-default}
-use Rattle.book.proofs.Naming.{named-clauses}
+use Rattle.book.proofs.Naming.{named-clauses, scope-sound}
+use Rattle.book.proofs.Same.{same-target}
 
 pub record Ranged (t : Target) : Type 0 where
   pub variable : t .variable < 32
@@ -69,14 +68,7 @@ slot-same a b r s e =
     (r .sub)
 
 pub same-slot : (a b : Target) → sameTarget a b ≡ true → slotOf a ≡ slotOf b
-unfolding slotOf
-same-slot a b e =
-    let parts = both (eqb (a .sub) (b .sub)) (eqb (a .variable) (b .variable)) e in
-    rw (eqb-true (a .sub) (b .sub) (parts .0), eqb-true (a .variable) (b .variable) (parts .1))
-
-nothing-dangles : (book : List Scope) → danglesIn book emptyScope ≡ false
-unfolding danglesIn any anyFrom
-nothing-dangles book = refl
+same-slot a b e = ap slotOf (same-target a b e)
 
 module _ (book : List Scope) (few : Within book) where
   named-ranged : (i : ℕ) (t : Target) → namesTarget book (scopeAt book i) t ≡ true → Ranged t
@@ -98,9 +90,9 @@ module _ (book : List Scope) (few : Within book) where
       (decide (eqb (t .sub) 255))
 
   pub ranged : dangles book ≡ false → (i n : ℕ) → n < length (scopeAt book i .clauses) → Ranged (clauseAt book i n .target)
-  unfolding dangles clauseNames clauseAt
+  unfolding clauseNames clauseAt
   ranged h i n l =
       let s = scopeAt book i in
       let t = getD (s .clauses) n noClause .target in
-      let here = any-default (danglesIn book) book emptyScope h (nothing-dangles book) i in
+      let here = scope-sound book h i in
       named-ranged i t (both (namesTarget book s t) _ (named-clauses book s here n l noClause) .0)

@@ -8,6 +8,7 @@ use book::clause_at;
 use book::clause_count;
 use book::node_at;
 use book::node_count;
+use book::same_type;
 use book::sub_scope_at;
 use book::variable_at;
 use calculus::Binary;
@@ -45,21 +46,6 @@ fn type_in(types: &[u8], n: u8) -> ValueType
         ValueType::YesNo
     } else {
         ValueType::Numeric
-    }
-}
-
-fn same_type(a: ValueType, b: ValueType) -> bool
-    ensures { λ r. ⌜ r ≡ sameType a b ⌝ }
-{
-    match a {
-        ValueType::YesNo => match b {
-            ValueType::YesNo => true,
-            ValueType::Numeric => false,
-        },
-        ValueType::Numeric => match b {
-            ValueType::YesNo => false,
-            ValueType::Numeric => true,
-        },
     }
 }
 

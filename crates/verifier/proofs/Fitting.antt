@@ -20,6 +20,7 @@ use Rattle.record.proofs.Decision.{by-range, over, isAny}
 use Rattle.machine.specs.Instructions.{instructionOf}
 use Rattle.machine.specs.Blocks.{Block, bodyLength, stageOf, variablesOf}
 use Rattle.machine.specs.Acceptance.{lands, fits}
+use Rattle.machine.proofs.Landing.{lands-here}
 use Rattle.verifier.specs.Instructions.{namingOf, distancePlace, named, distanceOf}
 use Rattle.verifier.specs.Pass.{namesAt}
 use Rattle.verifier.specs.declared.Progress.{Progress}
@@ -76,11 +77,6 @@ pub by-kind : (P : ℕ → Type 0) → Each P instructions → (k : ℕ) → sta
 by-kind P ps k e = find P instructions ps k (is-listed k e)
 
 -- Fitting
-
-pub lands-here : (after : List ℕ) → lands after 0 0 ≡ true
-unfolding lands
-lands-here [] = refl
-lands-here (b ∷ rest) = refl
 
 ends : (x : Bool) (after : List ℕ) → x ≡ (x && lands after 0 0)
 ends true after = sym (lands-here after)

@@ -21,7 +21,7 @@ use Rattle.machine.specs.Blocks.{Block, bodyLength}
 use Rattle.machine.specs.Instructions.{instructionOf}
 use Rattle.machine.specs.Acceptance.{lands, fits, allFit}
 use Rattle.verifier.specs.Instructions.{farthest}
-use Rattle.verifier.proofs.Fitting.{lands-here}
+use Rattle.machine.proofs.Landing.{lands-here}
 use Rattle.verifier.specs.Pass.{mark, Marked, Quiet, Passed, AllLand, Marks}
 
 -- the search for a mark

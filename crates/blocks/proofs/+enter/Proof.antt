@@ -3,9 +3,9 @@ use mathlib.Core.Path.{_≡_, refl, sym, _∙_}
 use lib.ListN.{length}
 use native.Mathlib.Omega.{arith}
 use Rattle.order.proofs.Matrix.{zeros}
-use Rattle.blocks.proofs.Entering.{all-left}
 use Rattle.blocks.proofs.Tables.{small}
-use Rattle.blocks.proofs.Entering.{Running, starts, stepping, turn, ends, sticks, short, world, body-of, ordered, in-code, came-end, at-small, lent-rest, rest-length, lent-size, lent-before, lent-here, lent-there, part-at, part-room, sub-of}
+use Rattle.record.proofs.Parts.{part-room}
+use Rattle.blocks.proofs.Entering.{Running, starts, stepping, turn, ends, sticks, short, world, body-of, ordered, in-code, came-end, at-small, lent-rest, rest-length, lent-size, lent-before, lent-here, lent-there, part-at, sub-of}
 use Rattle.blocks.proofs.Entering.{entry-small, entry-twice, entry-ended, entry-stuck, entry-short, entry-turn, entry-few, callee-entry, came-values, came-ended, came-stuck, came-short}
 use Rattle.blocks.proofs.Tables.{bounded}
 use borrow.Author.Needs.{needs}

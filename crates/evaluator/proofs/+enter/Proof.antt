@@ -6,7 +6,8 @@ use native.Mathlib.Omega.{arith}
 use borrow.Author.Needs.{needs}
 use Rattle.evaluator.specs.Known.{Known}
 use Rattle.evaluator.proofs.Running.{Running}
-use Rattle.evaluator.proofs.Entering.{scope-few, row-ready, left-some, callee, noting, part-room, begins, ends, step-few, put-room, turn-variable, end-variable}
+use Rattle.record.proofs.Parts.{part-room}
+use Rattle.evaluator.proofs.Entering.{scope-few, row-ready, left-some, callee, noting, begins, ends, step-few, put-room, turn-variable, end-variable}
 use Rattle.evaluator.proofs.Entering.{number-below, number-few, called-room, end-hand, few-ended, few-values, end-call, turn-call}
 use Prim.Native.Nat.{ℕ, _<_, _+_, _-_, _*_}
 use borrow.Fn.Kinds.{In}

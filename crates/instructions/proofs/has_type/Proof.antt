@@ -3,7 +3,7 @@ use Rattle.instructions.proofs.has_type.Statement.{statement}
 use Rattle.instructions.proofs.has_type.Tie as tie
 use Rattle.instructions.proofs.has_type.Reads as reads
 use Rattle.instructions.proofs.has_type.Lts as lts
-use Rattle.lists.proofs.same_type.Reads as same-type-reads
+use Rattle.book.proofs.same_type.Reads as same-type-reads
 use Rattle.instructions.proofs.type_in.Reads as type-in-reads
 
 -- src/lib.rt:76:18
