@@ -12,7 +12,7 @@ use Rattle.book.specs.Syntax.{typeOf}
 use Rattle.book.specs.declared.Variable.{Variable}
 use Rattle.lists.specs.Inputs.{bad, good, inputLength, inputs}
 
--- an input record, by its kind and the bytes after it: of no known kind, cut, or misprinted
+-- an input record, by its kind and the bytes after it: of no known kind, truncated, or an invalid byte
 unfoldable pub malformed : ℕ → List ℕ → Bool
 malformed k rest = eqb (inputLength k) 0 || (ltb (length rest) (inputLength k) || (eqb k 1 && ltb 1 (getD rest 1 0)))
 

@@ -134,7 +134,7 @@ fn is_given(g: Given) -> bool
     }
 }
 
-// Whether an input record is of no known kind, is cut, or has a yes/no other than 0 and 1.
+// Whether an input record is of no known kind, is truncated, or has a yes/no other than 0 and 1.
 fn is_malformed(kind: u8, rest: &[u8]) -> bool
     ensures { λ r. ⌜ r ≡ malformed kind (now (rest .entry)) ⌝ }
 {
