@@ -32,7 +32,7 @@ use Rattle.scan.proofs.Bodies.{stage-below}
 use Rattle.scan.specs.declared.Step.{Step}
 use Rattle.scan.specs.declared.Step.the-variants.{Stop, Next}
 use Rattle.scan.specs.Counting.{tallyOf, InLimits}
-use Rattle.scan.specs.Step.{stepOf, metAt, stepAt, stepOver}
+use Rattle.scan.specs.Step.{bookRecordAt, stepOf, metAt, stepAt, stepOver}
 
 -- what stands at a position, as the pass takes it
 abbrev pub byRecord : List ℕ → ℕ → ℕ → List ℕ → Record → Step
@@ -62,6 +62,10 @@ step-record book at counts last scopes h =
     rw (lt-ltb at (length book) h, length-drop (at + 1) book)
     (by-tests counts last scopes book (getD book at 0) (shapeIn Book (getD book at 0) .stage) (at + 1) (shapeIn Book (getD book at 0) .length)
     (eqb (shapeIn Book (getD book at 0) .stage) 0) (ltb (length book - (at + 1)) (shapeIn Book (getD book at 0) .length)))
+
+pub as-record : (book : List ℕ) (at : ℕ) (r : Record) → r ≡ bookRecordAt book at → r ≡ recordAt Book book at
+unfolding bookRecordAt
+as-record book at r e = e
 
 pub by-record : (book : List ℕ) (at : ℕ) (counts : List ℕ) (last scopes : ℕ) → at < length book → (r : Record) → r ≡ recordAt Book book at
     → byRecord counts last scopes book r ≡ stepAt book at (tallyOf counts last scopes)

@@ -4,6 +4,8 @@ use mathlib.Core.Bool.{cond, not}
 use mathlib.Core.List.{List}
 use lib.ListN.{getD, drop}
 use Rattle.record.specs.Kinds.{shapeIn}
+use Rattle.record.specs.Record.{recordAt}
+use Rattle.record.specs.declared.Record.{Record}
 use Rattle.record.specs.declared.Medium.the-variants.{Book}
 use Rattle.book.specs.declared.Tally.{Tally}
 use Rattle.book.specs.declared.Fault.the-variants.{Truncated, UnknownKind, OutOfOrder, LimitExceeded, InvalidByte}
@@ -21,6 +23,10 @@ stepOf m =
     (cond (limitExceeded m) (Stop LimitExceeded)
     (cond (invalidByte m) (Stop InvalidByte)
     (Next (stageOf m) (shapeIn Book (m .kind) .length))))))
+
+-- what stands at a position of a book
+unfoldable pub bookRecordAt : List ℕ → ℕ → Record
+bookRecordAt bytes at = recordAt Book bytes at
 
 -- the record that begins at a position
 unfoldable pub metAt : List ℕ → ℕ → Tally → Met

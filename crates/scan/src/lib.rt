@@ -11,7 +11,7 @@ ghost use Prim.Native.Nat.{_<_, _≤_};
 ghost use lib.Dec.{eqb};
 ghost use lib.ListN.{length};
 ghost use Rattle.book.specs.Records.{follows, invalid};
-ghost use Rattle.scan.specs.Step.{stepAt, stepOver};
+ghost use Rattle.scan.specs.Step.{bookRecordAt, stepAt, stepOver};
 ghost use Rattle.scan.specs.Counting.{slotOf, numberOf, scopesWith, tallyOf, Counts, Counting};
 ghost use Rattle.scan.specs.Filling.{Room, Stored, Blank, Recorded};
 
@@ -25,6 +25,12 @@ enum Step {
 struct Slot {
     pub base: usize,
     pub limit: usize,
+}
+
+// A lent book and the position that is read next.
+pub struct Reader<'a> {
+    pub src: &'a [u8],
+    pub at: usize,
 }
 
 // What reading all records leaves: the first faulty one's first fault, or the tables of so many scopes.
@@ -116,6 +122,34 @@ fn number_of(counts: &[u8], stage: usize, scopes: usize) -> usize
     counts[(scopes - 1) * 4 + (stage - 2)] as usize
 }
 
+// What stands at a position of a book.
+pub fn book_record_at(book: &[u8], at: usize) -> Record
+    ensures { λ r. ⌜ r ≡ bookRecordAt (now (book .entry)) at ⌝ }
+{
+    record_at(Medium::Book, book, at)
+}
+
+// A reader of a book, from a position on.
+pub fn open_at<'a>(src: &'a [u8], at: usize) -> Reader<'a>
+    ensures { λ r. ⌜ (r .src ≡ src .entry) × (r .at ≡ at) ⌝ }
+{
+    Reader { src, at }
+}
+
+// The record that a reader reads next. Reading goes on where its body ends.
+pub fn next<'a>(r: Reader<'a>) -> Record
+    ensures { λ s. ⌜ s ≡ bookRecordAt (now (r .entry .src)) (r .entry .at) ⌝ }
+{
+    book_record_at(r.src, r.at)
+}
+
+// From a book and a position to a reader and back.
+pub fn read_from(book: &[u8], at: usize) -> Record
+    ensures { λ r. ⌜ r ≡ bookRecordAt (now (book .entry)) at ⌝ }
+{
+    next(open_at(book, at))
+}
+
 // A whole record after one of the stage `last`, the tables having those before it.
 fn step_over(
     counts: &[u8],
@@ -147,7 +181,7 @@ fn step_at(book: &[u8], counts: &[u8], at: usize, last: usize, scopes: usize) ->
     requires { ⌜ (at < length (now book)) × Counting (now counts) last scopes ⌝ }
     ensures { λ r. ⌜ r ≡ stepAt (now (book .entry)) at (tallyOf (now (counts .entry)) last scopes) ⌝ }
 {
-    match record_at(Medium::Book, book, at) {
+    match read_from(book, at) {
         Record::End => Step::Stop(Fault::Truncated),
         Record::Unknown => Step::Stop(Fault::UnknownKind),
         Record::Truncated => Step::Stop(Fault::Truncated),

@@ -3,13 +3,13 @@
 use mathlib.Core.Path.{refl, sym, _∙_}
 use native.Mathlib.Omega.{arith}
 use Rattle.record.specs.declared.Record.the-variants.{End, Unknown, Truncated}
-use Rattle.scan.proofs.Steps.{by-record, whole-step, whole-record}
+use Rattle.scan.proofs.Steps.{as-record, by-record, whole-step, whole-record}
 use borrow.Author.Needs.{needs}
 use Rattle.scan.proofs.step_at.Statement.{statement}
 use Rattle.scan.proofs.step_at.Tie as tie
 
-record-at-requires : tie.Need-record-at-requires
-record-at-requires c κs = search needs
+read-from-requires : tie.Need-read-from-requires
+read-from-requires c κs = search needs
 
 enum-told : tie.Need-enum-told
 enum-told c = search needs
@@ -24,7 +24,7 @@ enum-known-kind : tie.Need-enum-known-kind
 enum-known-kind c = search needs
 
 add-body : tie.Need-add-body
-add-body c = let w = whole-record _ _ _ _ _ _ (sym (c .before .kind .given .1) ∙ c .before .before .before .record-at .ensures) in omega arith
+add-body c = let w = whole-record _ _ _ _ _ _ (sym (c .before .kind .given .1) ∙ as-record _ _ _ (c .before .before .before .read-from .ensures)) in omega arith
 
 sub-body : tie.Need-sub-body
 sub-body c = search needs
@@ -33,28 +33,28 @@ part-body-start : tie.Need-part-body-start
 part-body-start c = search needs
 
 part-body-end : tie.Need-part-body-end
-part-body-end c = let w = whole-record _ _ _ _ _ _ (sym (c .before .kind .given .1) ∙ c .before .before .before .record-at .ensures) in omega arith
+part-body-end c = let w = whole-record _ _ _ _ _ _ (sym (c .before .kind .given .1) ∙ as-record _ _ _ (c .before .before .before .read-from .ensures)) in omega arith
 
 step-over-requires : tie.Need-step-over-requires
-step-over-requires c κs = let w = whole-record _ _ _ _ _ _ (sym (c .before .before .kind .given .1) ∙ c .before .before .before .before .record-at .ensures) in (c .before .before .before .before .before .before .before .pre .1, w .known, w .below)
+step-over-requires c κs = let w = whole-record _ _ _ _ _ _ (sym (c .before .before .kind .given .1) ∙ as-record _ _ _ (c .before .before .before .before .read-from .ensures)) in (c .before .before .before .before .before .before .before .pre .1, w .known, w .below)
 
 returns : tie.Need-returns
-returns c = by-record _ _ _ _ _ (c .before .before .before .before .before .pre .0) End (sym (c .enum-told .given .1) ∙ c .before .before .record-at .ensures)
+returns c = by-record _ _ _ _ _ (c .before .before .before .before .before .pre .0) End (sym (c .enum-told .given .1) ∙ as-record _ _ _ (c .before .before .read-from .ensures))
 
 returns-2 : tie.Need-returns-2
-returns-2 c = by-record _ _ _ _ _ (c .before .before .before .before .before .pre .0) Unknown (sym (c .enum-told2 .given .1) ∙ c .before .before .record-at .ensures)
+returns-2 c = by-record _ _ _ _ _ (c .before .before .before .before .before .pre .0) Unknown (sym (c .enum-told2 .given .1) ∙ as-record _ _ _ (c .before .before .read-from .ensures))
 
 returns-3 : tie.Need-returns-3
-returns-3 c = by-record _ _ _ _ _ (c .before .before .before .before .before .pre .0) Truncated (sym (c .enum-told3 .given .1) ∙ c .before .before .record-at .ensures)
+returns-3 c = by-record _ _ _ _ _ (c .before .before .before .before .before .pre .0) Truncated (sym (c .enum-told3 .given .1) ∙ as-record _ _ _ (c .before .before .read-from .ensures))
 
 returns-4 : tie.Need-returns-4
-returns-4 c = c .step-over .ensures ∙ whole-step _ _ _ _ _ (c .before .before .before .before .before .before .before .before .pre .0) _ _ _ _ (sym (c .before .before .before .kind .given .1) ∙ c .before .before .before .before .before .record-at .ensures) _ refl
+returns-4 c = c .step-over .ensures ∙ whole-step _ _ _ _ _ (c .before .before .before .before .before .before .before .before .pre .0) _ _ _ _ (sym (c .before .before .before .kind .given .1) ∙ as-record _ _ _ (c .before .before .before .before .before .read-from .ensures)) _ refl
 
 pub step-at-spec : {M : Type 1} → statement M
 step-at-spec =
     tie.close
     (tie.spec
-    record-at-requires
+    read-from-requires
     enum-told
     enum-told-2
     enum-told-3
