@@ -17,7 +17,7 @@ ghost use Prim.Native.Nat.{_+_, _≤_};
 ghost use lib.ListN.{length, replicate};
 ghost use mathlib.Core.List.{map};
 ghost use Rattle.cells.specs.Cells.{givenOf, held};
-ghost use Rattle.book.specs.Syntax.{typeOf, sameType};
+ghost use Rattle.book.specs.Syntax.{typeOf};
 ghost use Rattle.book.specs.Decode.{scopesOf};
 ghost use Rattle.book.specs.References.{scopeAt};
 ghost use Rattle.book.specs.Tables.{Laid};

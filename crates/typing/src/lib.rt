@@ -17,7 +17,6 @@ use record::byte_at;
 ghost use mathlib.Core.Path.{_≡_};
 ghost use mathlib.Core.Bool.{false};
 ghost use lib.ListN.{length};
-ghost use Rattle.book.specs.Syntax.{sameType};
 ghost use Rattle.book.specs.Decode.{scopesOf};
 ghost use Rattle.book.specs.Typing.{unaryType, binaryType, operandType, mismatches};
 ghost use Rattle.book.specs.References.{dangles};
