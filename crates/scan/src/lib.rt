@@ -28,7 +28,7 @@ struct Slot {
 }
 
 // A lent book and the position that is read next.
-pub struct Reader<'a> {
+struct Reader<'a> {
     pub src: &'a [u8],
     pub at: usize,
 }
@@ -123,28 +123,28 @@ fn number_of(counts: &[u8], stage: usize, scopes: usize) -> usize
 }
 
 // What stands at a position of a book.
-pub fn book_record_at(book: &[u8], at: usize) -> Record
+fn book_record_at(book: &[u8], at: usize) -> Record
     ensures { λ r. ⌜ r ≡ bookRecordAt (now (book .entry)) at ⌝ }
 {
     record_at(Medium::Book, book, at)
 }
 
 // A reader of a book, from a position on.
-pub fn open_at<'a>(src: &'a [u8], at: usize) -> Reader<'a>
+fn open_at<'a>(src: &'a [u8], at: usize) -> Reader<'a>
     ensures { λ r. ⌜ (r .src ≡ src .entry) × (r .at ≡ at) ⌝ }
 {
     Reader { src, at }
 }
 
 // The record that a reader reads next. Reading goes on where its body ends.
-pub fn next<'a>(r: Reader<'a>) -> Record
+fn next<'a>(r: Reader<'a>) -> Record
     ensures { λ s. ⌜ s ≡ bookRecordAt (now (r .entry .src)) (r .entry .at) ⌝ }
 {
     book_record_at(r.src, r.at)
 }
 
 // From a book and a position to a reader and back.
-pub fn read_from(book: &[u8], at: usize) -> Record
+fn read_from(book: &[u8], at: usize) -> Record
     ensures { λ r. ⌜ r ≡ bookRecordAt (now (book .entry)) at ⌝ }
 {
     next(open_at(book, at))
