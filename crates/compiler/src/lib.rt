@@ -700,7 +700,7 @@ fn emit_block(
     put_two(out, r, 1, i as u8)
 }
 
-// The code of an accepted book of n scopes, in memory of its length; its length alone in no memory.
+// The code of an accepted book of n scopes, at the end of memory that holds it; its length in any memory.
 fn emit_blocks(
     book: &[u8],
     places: &[u16],
