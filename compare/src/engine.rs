@@ -62,6 +62,31 @@ fn answer(packed: u64) -> Answer {
     }
 }
 
+/// A service that evaluates a scope of a book, or runs one of code: both take the same and answer alike.
+type Service =
+    unsafe extern "C" fn(*const u8, usize, usize, *const u8, usize, *mut u8, usize) -> u64;
+
+fn reply(
+    service: Service,
+    bytes: &[u8],
+    scope: usize,
+    inputs: &[u8],
+    results: &mut [u8],
+) -> Result<Answer, u8> {
+    let packed = unsafe {
+        service(
+            bytes.as_ptr(),
+            bytes.len(),
+            scope,
+            inputs.as_ptr(),
+            inputs.len(),
+            results.as_mut_ptr(),
+            results.len(),
+        )
+    };
+    unpack(packed).map(answer)
+}
+
 /// Outcome, count and length, or the refusal; the results are written to the memory lent.
 pub fn evaluate(
     book: &[u8],
@@ -69,18 +94,12 @@ pub fn evaluate(
     inputs: &[u8],
     results: &mut [u8],
 ) -> Result<Answer, u8> {
-    let packed = unsafe {
-        engine_evaluate(
-            book.as_ptr(),
-            book.len(),
-            scope,
-            inputs.as_ptr(),
-            inputs.len(),
-            results.as_mut_ptr(),
-            results.len(),
-        )
-    };
-    unpack(packed).map(answer)
+    reply(engine_evaluate, book, scope, inputs, results)
+}
+
+/// Outcome, count and length, or the refusal; the results are written to the memory lent.
+pub fn run(code: &[u8], scope: usize, inputs: &[u8], results: &mut [u8]) -> Result<Answer, u8> {
+    reply(engine_run, code, scope, inputs, results)
 }
 
 /// Length of the code written to the memory lent, or the refusal.
@@ -88,20 +107,4 @@ pub fn compile(book: &[u8], code: &mut [u8]) -> Result<usize, u8> {
     let packed =
         unsafe { engine_compile(book.as_ptr(), book.len(), code.as_mut_ptr(), code.len()) };
     unpack(packed).map(|length| length as usize)
-}
-
-/// Outcome, count and length, or the refusal; the results are written to the memory lent.
-pub fn run(code: &[u8], scope: usize, inputs: &[u8], results: &mut [u8]) -> Result<Answer, u8> {
-    let packed = unsafe {
-        engine_run(
-            code.as_ptr(),
-            code.len(),
-            scope,
-            inputs.as_ptr(),
-            inputs.len(),
-            results.as_mut_ptr(),
-            results.len(),
-        )
-    };
-    unpack(packed).map(answer)
 }
