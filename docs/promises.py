@@ -5,8 +5,8 @@
     python3 docs/promises.py --write    puts the first line of each edit behind its name in docs/CLAIMS.md
 
 Under the heading "Public promises" a row is for one function, `crate::name`; under "Definitions" for a crate. The last column names edits of
-that crate's must-fail/. Ends with status 0 when each public function has a row with two edits or more, each edit named is there, each edit
-there is named, and each of a function stands beside what its first line says.
+that crate's must-fail/, or `crate/name` of another's, which holds the definition. Ends with status 0 when each public function has a row with
+two edits or more, each edit named is there, each edit there is named, and each of a function stands beside what its first line says.
 """
 import glob
 import os
@@ -25,9 +25,14 @@ def functions():
     return found
 
 
+def placed(crate, name):
+    """The crate of an edit, and its name there."""
+    return tuple(name.split("/")) if "/" in name else (crate, name)
+
+
 def shows(crate, edit):
     """What an edit shows: its first line, without the names of the functions that it is about."""
-    path = f"crates/{crate}/must-fail/{edit}.edit"
+    path = "crates/{}/must-fail/{}.edit".format(*placed(crate, edit))
     if not os.path.exists(path):
         return None
     first = open(path, encoding="utf-8").readline().strip().removeprefix("# ")
@@ -45,9 +50,9 @@ def main():
     amiss, rows, named = [], {}, set()
     for subject, equals, edits, line in rows_of(text, "## Public promises"):
         crate, function = re.match(r"`(\w+)::(\w+)`$", subject).groups()
-        names = re.findall(r"`(\w+)`:", edits)
+        names = re.findall(r"`([\w/]+)`:", edits)
         rows[f"{crate}::{function}"] = names
-        named |= {(crate, name) for name in names}
+        named |= {placed(crate, name) for name in names}
         if len(names) < 2:
             amiss.append(f"{crate}::{function}: {len(names)} edits")
         shown = "; ".join(f"`{name}`: {shows(crate, name)}" for name in names) or "none"
