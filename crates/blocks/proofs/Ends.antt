@@ -23,7 +23,8 @@ use Rattle.machine.specs.Run.{Finals, missing, finals, inFront, finalsOf, allEn
 use Rattle.blocks.specs.declared.Ran.{Ran}
 use Rattle.blocks.specs.declared.Ran.the-variants as coded
 use Rattle.instructions.specs.Views.{tab, cellWith, ownCell, givensAt, valuesIn, calleeWith, calleeAt, memory}
-use Rattle.blocks.specs.Entries.{nonzero, Finished}
+use Rattle.blocks.specs.Entries.{nonzero, Ending, Finished}
+use Rattle.instructions.specs.Effects.{variablesIn, subScopesIn}
 use Rattle.instructions.proofs.Memory.{present, absent, tab-same}
 
 pub record Held (cells : List ℕ) (n v : ℕ) : Type 0 where
@@ -97,14 +98,38 @@ end-is : (v s : ℕ) (sizes : ℕ → ℕ) (own flags called marks : List ℕ) (
 unfolding memory
 end-is v s sizes own flags called marks count = rw (finals-tab own flags 0 v, entered-tab called marks sizes 0 s, values-tab own v)
 
-module _ {own : List ℕ} {v : ℕ} {marks : List ℕ} {s count : ℕ} where
-  pub end-unset : {r : Bool} → r ≡ nonzero own 0 v → not r ≡ true → Finished own v marks s count coded.Stuck
-  end-unset {r} e n = record { shows = λ sizes flags called. end-is v s sizes own flags called marks count ∙ rw (← e, not-true r n) }
+module _ (heads : List ℕ) (p : ℕ) (own marks : List ℕ) (v : ℕ) (is-v : v ≡ getD heads (p * 48 + 1) 0) where
+  variables-here : v ≡ variablesIn heads p
+  unfolding variablesIn
+  variables-here = is-v
 
-  pub end-waiting : {r q : Bool} → r ≡ nonzero own 0 v → not r ≡ false → q ≡ nonzero marks 0 s → not q ≡ true → Finished own v marks s count coded.Stuck
-  end-waiting {r} {q} e n f m =
-      record { shows = λ sizes flags called. end-is v s sizes own flags called marks count ∙ rw (← e, not-false r n, ← f, not-true q m) }
+  pub own-room : Ending heads p own marks → v ≤ length own
+  own-room e = rw variables-here (e .variables)
 
-  pub end-values : {r q : Bool} → r ≡ nonzero own 0 v → not r ≡ false → q ≡ nonzero marks 0 s → not q ≡ false → Finished own v marks s count (coded.Values count)
-  end-values {r} {q} e n f m =
-      record { shows = λ sizes flags called. end-is v s sizes own flags called marks count ∙ rw (← e, not-false r n, ← f, not-false q m) }
+  pub end-unset : {count : ℕ} {r : Bool} → r ≡ nonzero own 0 v → not r ≡ true → Finished heads p own marks count coded.Stuck
+  end-unset {count} {r} e n =
+      record {
+        shows = λ sizes flags called.
+            end-is (variablesIn heads p) (subScopesIn heads p) sizes own flags called marks count ∙ rw (← variables-here, ← e, not-true r n);
+      }
+
+  module _ (s : ℕ) (is-s : s ≡ getD heads (p * 48 + 2) 0) where
+    subs-here : s ≡ subScopesIn heads p
+    unfolding subScopesIn
+    subs-here = is-s
+
+    pub mark-room : Ending heads p own marks → s ≤ length marks
+    mark-room e = rw subs-here (e .subScopes)
+
+    module _ (count : ℕ) (r q : Bool) (e : r ≡ nonzero own 0 v) (n : not r ≡ false) (f : q ≡ nonzero marks 0 s) where
+      ends-so : (sizes : ℕ → ℕ) (flags called : List ℕ)
+          → atEnd (memory (variablesIn heads p) (subScopesIn heads p) sizes own flags called marks count) ≡ whole (finals (valuesIn own 0 (variablesIn heads p))) q count
+      ends-so sizes flags called =
+          end-is (variablesIn heads p) (subScopesIn heads p) sizes own flags called marks count
+          ∙ rw (← variables-here, ← subs-here, ← e, not-false r n, ← f)
+
+      pub end-waiting : not q ≡ true → Finished heads p own marks count coded.Stuck
+      end-waiting m = record { shows = λ sizes flags called. ends-so sizes flags called ∙ rw (not-true q m) }
+
+      pub end-values : not q ≡ false → Finished heads p own marks count (coded.Values count)
+      end-values m = record { shows = λ sizes flags called. ends-so sizes flags called ∙ rw (not-false q m) }

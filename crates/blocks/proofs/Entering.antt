@@ -41,7 +41,7 @@ use Rattle.blocks.specs.declared.Ran as coded-type
 use Rattle.blocks.specs.declared.Ran.the-variants as coded
 use Rattle.instructions.specs.Views.{entryOf, entries, opened, tab, cellWith, ownCell, givensAt, valuesIn, calleeWith, calleeAt, memory}
 use Rattle.instructions.specs.Effects.{Room, Ample, Moves, Bounded, Sized, Stepping, Stepped, Typing, variablesIn, subScopesIn, blockIn, sizeIn, memoryIn}
-use Rattle.blocks.specs.Entries.{back, runAt, variablesAt, Enough, Shows, Finished, Entry, Came, Advances}
+use Rattle.blocks.specs.Entries.{back, runAt, variablesAt, Enough, Shows, Ending, Finished, Entry, Came, Advances}
 use Rattle.instructions.proofs.Memory.{tab-length, tab-at, tab-same, tab-set, tab-map}
 use Rattle.machine.proofs.Landing.{lands-here}
 use Rattle.record.proofs.Parts.{all-left, part-room, lent-length}
@@ -151,7 +151,7 @@ unfolding givensAt givenOf
 absent-tab called at vs k = map-tab (λ (x : Variable). Absent) (record { holds = YesNo }) vs 0 (λ x. givenOf (getD called (at + x) 0)) (λ i l. rw (k (at + (0 + i))))
 
 module _ {code spans heads places : List ℕ} (o : World code spans heads places) (p : ℕ) (l : p < blockCount code) where
-  variables-same : variablesIn heads p ≡ variablesAt code p
+  pub variables-same : variablesIn heads p ≡ variablesAt code p
   unfolding variablesAt blockAt
   variables-same = variables-are o p l
 
@@ -561,21 +561,28 @@ module _ {code spans heads places : List ℕ} {p : ℕ} {own : List ℕ} (e : En
 
   module _ {st₀ tr₀ body st tr own' called marks flags : List ℕ} {count at h t : ℕ}
       (r : Running code heads places p st₀ tr₀ own body st tr own' called marks flags count at h t) where
-    end-of : {v s : ℕ} → length body ≤ at → v ≡ variablesIn heads p → s ≡ subScopesIn heads p
-        → atEnd (memory v s (sizeIn heads places p) own' flags called marks count) ≡ runAt code p (givensAt own 0 (variablesAt code p))
+    end-of : length body ≤ at
+        → atEnd (memory (variablesIn heads p) (subScopesIn heads p) (sizeIn heads places p) own' flags called marks count) ≡ runAt code p (givensAt own 0 (variablesAt code p))
     unfolding memoryIn
-    end-of q ev es =
-        rw (ev, es)
-        (sym (exec-past (envAt code p) (blk code p .body) at (entries st h) (opened tr t)
+    end-of q =
+        sym (exec-past (envAt code p) (blk code p .body) at (entries st h) (opened tr t)
         (memory (variablesIn heads p) (subScopesIn heads p) (sizeIn heads places p) own' flags called marks count) (rw (← r .isBody) q))
-        ∙ r .same)
+        ∙ r .same
 
-    pub came-end : {v s : ℕ} (a : coded-type.Ran) → length body ≤ at → v ≡ variablesIn heads p → s ≡ subScopesIn heads p → Finished own' v marks s count a
-        → Came code p own a own' st₀ tr₀
-    came-end a q ev es f =
+    pub ending : Ending heads p own' marks
+    ending =
+        let b = bounded world p (e .block) in
+        let v = b .variables in
+        let s = b .subScopes in
+        let x = r .sized .ownSize in
+        let y = r .sized .markSize in
+        record { block = b .block; variables = omega arith; subScopes = omega arith }
+
+    pub came-end : (a : coded-type.Ran) → length body ≤ at → Finished heads p own' marks count a → Came code p own a own' st₀ tr₀
+    came-end a q f =
         record {
           size = r .sized .ownSize;
-          shows = shown a own' (Enough p st₀ tr₀ → ⊥) (end-of q ev es) (ev ∙ variables-same world p (e .block)) (f .shows (sizeIn heads places p) flags called);
+          shows = shown a own' (Enough p st₀ tr₀ → ⊥) (end-of q) (variables-same world p (e .block)) (f .shows (sizeIn heads places p) flags called);
         }
 
     pub at-small : at < length body → at + 1 ≤ getD spans (p * 2 + 1) 0

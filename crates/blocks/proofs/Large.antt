@@ -1,70 +1,46 @@
 -- Entries with slices that suffice.
---     copied, copy-on, copy-all      cells copied
---     large, came-*                  what an entry comes to where the slices suffice
+--     copied-own                     what is given, copied
+--     large, enough, came-to         what an entry comes to where the slices suffice
 -- Assumes nothing.
 use Prim.Native.Nat.{ℕ, zero, suc, _+_, _-_, _*_, _<_, _≤_}
 use mathlib.Core.Path.{_≡_, refl, ap, sym, _∙_}
 use mathlib.Core.List.{List}
-use mathlib.Core.Logic.{⊎-elim}
 use native.Mathlib.Omega.{arith}
-use lib.ListN.{length, getD, set, replicate, length-set, length-replicate}
-use lib.Seq.{getD-set-same, getD-set-other, ext-getD}
-use lib.Dec.{eqb}
-use borrow.Author.Tests.{eqb-true, eqb-false}
-use Rattle.order.proofs.Booleans.{decide}
+use lib.ListN.{length, getD, replicate, length-replicate}
+use lib.Seq.{ext-getD}
+use Rattle.cells.specs.Rows.{Copied}
 use Rattle.calculus.specs.declared.Cause.{Cause}
-use Rattle.blocks.specs.declared.Ran as coded-type
-use Rattle.blocks.specs.declared.Ran.the-variants as coded
+use Rattle.blocks.specs.declared.Ran.{Ran}
+use Rattle.blocks.specs.declared.Ran.the-variants.{Values, Ended, Stuck, NoRoom}
 use Rattle.blocks.specs.Entries.{Enough, Came, CameTo}
 
-pub record Copied (given own : List ℕ) (v : ℕ) : Type 0 where
-  pub size : length own ≡ 32
-  pub below : v ≤ 32
-  pub same : (i : ℕ) → i < v → getD own i 0 ≡ getD given i 0
-
-pub copied : (given own : List ℕ) → length own ≡ 32 → Copied given own 0
-copied given own e = record { size = e; below = omega arith; same = λ i l. absurd (omega arith) }
-
-module _ {given own : List ℕ} {v : ℕ} (c : Copied given own v) where
-  pub copy-on : v < 32 → Copied given (set own v (getD given v 0)) (v + 1)
-  copy-on l =
-      let s = c .size in
-      let k = length-set own v (getD given v 0) in
-      record {
-        size = k ∙ s;
-        below = omega arith;
-        same = λ i q.
-            ⊎-elim
-            (λ e.
-            let z : i ≡ v = eqb-true i v e in
-            rw (z, getD-set-same own v (getD given v 0) 0 (omega arith)))
-            (λ e.
-            let n : i ≡ v → ⊥ = eqb-false i v e in
-            getD-set-other own v i (getD given v 0) 0 n ∙ c .same i (omega arith))
-            (decide (eqb i v));
-      }
-
-  pub copy-all : 32 ≤ v → length given ≡ 32 → own ≡ given
-  copy-all l e =
-      let s = c .size in
-      let b = c .below in
-      ext-getD 0 own given (s ∙ sym e) (λ i q. c .same i (omega arith))
+-- all the cells are copied
+pub copied-own : {given own own' : List ℕ} → length given ≡ 32 → length own ≡ 32 → Copied given 0 32 own 0 own' → own' ≡ given
+copied-own {given} {own} {own'} g o c =
+    let s = c .size in
+    ext-getD 0 own' given (s ∙ o ∙ sym g) (λ i q. let z : 0 + i ≡ i = omega arith in rw z at (c .inside i (omega arith)))
 
 pub large : (p : ℕ) → p < 32 → Enough p (replicate 32768 0) (replicate 32768 0)
 large p l = record { stack = rw (length-replicate {A = ℕ} 32768 0) (omega arith); tries = rw (length-replicate {A = ℕ} 32768 0) (omega arith) }
 
-pub came-large : (r : coded-type.Ran) {code : List ℕ} {p : ℕ} {g given own st tr : List ℕ} → g ≡ given → Came code p g r own st tr → Enough p st tr → CameTo code p given r own
-came-large (coded.Values n) e k f = record { size = k .size; shows = rw (← e) (k .shows) }
-came-large (coded.Ended c n) e k f = record { size = k .size; shows = rw (← e) (k .shows) }
-came-large coded.Stuck e k f = record { size = k .size; shows = rw (← e) (k .shows) }
-came-large coded.NoRoom e k f = record { size = k .size; shows = k .shows f }
+-- what an answer needs of slices so that it is what the run comes to
+abbrev pub Needed : Ran → Type 0 → Type 0
+Needed (Values n) A = Unit {0}
+Needed (Ended c n) A = Unit {0}
+Needed Stuck A = Unit {0}
+Needed NoRoom A = A
 
-module _ {code : List ℕ} {p : ℕ} {g given : List ℕ} {r : coded-type.Ran} {own st tr : List ℕ} (e : g ≡ given) (k : Came code p g r own st tr) where
-  pub came-with-values : (n : ℕ) → r ≡ coded.Values n → CameTo code p given (coded.Values n) own
-  came-with-values n f = record { size = k .size; shows = rw (← e) (rw f at (k .shows)) }
+pub enough : (a : Ran) {A : Type 0} → A → Needed a A
+enough (Values n) x = tt
+enough (Ended c n) x = tt
+enough Stuck x = tt
+enough NoRoom x = x
 
-  pub came-with-end : (c : Cause) (n : ℕ) → r ≡ coded.Ended c n → CameTo code p given (coded.Ended c n) own
-  came-with-end c n f = record { size = k .size; shows = rw (← e) (rw f at (k .shows)) }
-
-  pub came-with-none : r ≡ coded.Stuck → CameTo code p given coded.Stuck own
-  came-with-none f = record { size = k .size; shows = rw (← e) (rw f at (k .shows)) }
+pub came-to : (a : Ran) {code : List ℕ} {p : ℕ} {given : List ℕ} {r : Ran} {own st tr : List ℕ} → r ≡ a → Came code p given r own st tr
+    → Needed a (Enough p st tr) → CameTo code p given a own
+came-to (Values n) e k x = record { size = k .size; shows = rw e at (k .shows) }
+came-to (Ended c n) e k x = record { size = k .size; shows = rw e at (k .shows) }
+came-to Stuck e k x = record { size = k .size; shows = rw e at (k .shows) }
+came-to NoRoom {code} {p} {given} {r} {own} {st} {tr} e k x =
+    let short : Enough p st tr → ⊥ = rw e at (k .shows) in
+    record { size = k .size; shows = short x }

@@ -5,6 +5,7 @@ mod Ends
 mod Limits
 mod Tables
 mod Entering
+mod Known
 mod Large
 mod Typed
 pub mod Scopes

@@ -18,6 +18,8 @@ use Rattle.verifier.specs.Tables as tables
 use Rattle.blocks.specs.declared.Ran.{Ran}
 use Rattle.blocks.specs.declared.Ran.the-variants.{Values, Ended, Stuck, NoRoom}
 use Rattle.instructions.specs.Views.{tab, givensAt, valuesIn, memory}
+use Rattle.instructions.specs.Effects.{variablesIn, subScopesIn}
+use Rattle.cells.specs.Rows.{rowCount, rowCells}
 
 -- n cells from v on are not 0
 unfoldable pub nonzero : List ℕ → ℕ → ℕ → Bool
@@ -48,9 +50,16 @@ Shows (Ended c n) s own v short = s ≡ machine.ran (ended c n)
 Shows Stuck s own v short = s ≡ machine.stuck
 Shows NoRoom s own v short = short
 
--- a block is at its end
-pub record Finished (own : List ℕ) (v : ℕ) (marks : List ℕ) (s count : ℕ) (r : Ran) : Type 0 where
-  pub shows : (sizes : ℕ → ℕ) (flags called : List ℕ) → Shows r (atEnd (memory v s sizes own flags called marks count)) own v ⊥
+-- the cells of block p's variables and the marks of its sub-scopes
+pub record Ending (heads : List ℕ) (p : ℕ) (own marks : List ℕ) : Type 0 where
+  pub block : p < 32
+  pub variables : variablesIn heads p ≤ length own
+  pub subScopes : subScopesIn heads p ≤ length marks
+
+-- block p is at its end
+pub record Finished (heads : List ℕ) (p : ℕ) (own marks : List ℕ) (count : ℕ) (r : Ran) : Type 0 where
+  pub shows : (sizes : ℕ → ℕ) (flags called : List ℕ)
+      → Shows r (atEnd (memory (variablesIn heads p) (subScopesIn heads p) sizes own flags called marks count)) own (variablesIn heads p) ⊥
 
 -- block p of accepted code with its tables can be entered
 pub record Entry (code spans heads places : List ℕ) (p : ℕ) (own : List ℕ) : Type 0 where
@@ -75,3 +84,8 @@ pub record Advances (next n end r : ℕ) : Type 0 where
 pub record CameTo (code : List ℕ) (p : ℕ) (given : List ℕ) (r : Ran) (own : List ℕ) : Type 0 where
   pub size : length own ≡ 32
   pub shows : Shows r (runAt code p (givensAt given 0 (variablesAt code p))) own (variablesAt code p) ⊥
+
+-- every row that has a count is what entering its block with nothing given comes to
+pub record Known (code memo : List ℕ) : Type 0 where
+  pub size : length memo ≡ 1056
+  pub rows : (q : ℕ) → q < 32 → (rowCount memo q ≡ 0 → ⊥) → CameTo code q [] (Values (rowCount memo q)) (rowCells memo q)

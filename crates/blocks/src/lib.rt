@@ -1,15 +1,24 @@
 // The machine that runs accepted code: each entry of a block works on parts of a lent stack and of lent tries.
 use calculus::Cause;
+use cells::copy_cells;
+use cells::none_given;
+use cells::recall;
+use cells::remember;
 use instructions::Move;
 use instructions::block_of;
 use instructions::first;
 use instructions::step;
 use record::byte_at;
+use record::part_of;
 ghost use mathlib.Core.Path.{_≡_};
 ghost use Prim.Native.Nat.{_+_, _-_, _*_, _<_, _≤_};
-ghost use lib.ListN.{length};
-ghost use Rattle.instructions.specs.Effects.{variablesIn, subScopesIn};
-ghost use Rattle.blocks.specs.Entries.{nonzero, Finished, Entry, Came, CameTo, Advances};
+ghost use lib.ListN.{length, getD};
+ghost use Rattle.blocks.specs.Entries.{nonzero, Ending, Finished, Entry, Known, Came, CameTo, Advances};
+
+// Where the tables hold a block's numbers of variables and of sub-scopes.
+const VARIABLES: usize = 1;
+
+const SUB_SCOPES: usize = 2;
 
 // How the run of a block ended, with the count of scopes entered; or the lent slices were too short.
 pub enum Ran {
@@ -34,32 +43,26 @@ fn all_set(cells: &[u64], n: usize) -> bool
     true
 }
 
-// A block's end: every variable is set, every sub-scope entered.
-fn finish(own: &[u64], variables: usize, marks: &[u64], subs: usize, count: usize) -> Ran
-    requires { ⌜ (variables ≤ length (now own)) × (subs ≤ length (now marks)) ⌝ }
-    ensures { λ r. ⌜ Finished (now (own .entry)) variables (now (marks .entry)) subs count r ⌝ }
+// Byte i of what the tables hold of block p.
+fn head_at(heads: &[u8], p: usize, i: usize) -> usize
+    requires { ⌜ (p < 32) × (i < 48) ⌝ }
+    ensures { λ r. ⌜ r ≡ getD (now (heads .entry)) (p * 48 + i) 0 ⌝ }
 {
-    if !all_set(own, variables) {
+    byte_at(heads, p * 48 + i) as usize
+}
+
+// The end of block p: every variable is set, every sub-scope entered.
+fn finish(heads: &[u8], p: usize, own: &[u64], marks: &[u64], count: usize) -> Ran
+    requires { ⌜ Ending (now heads) p (now own) (now marks) ⌝ }
+    ensures { λ r. ⌜ Finished (now (heads .entry)) p (now (own .entry)) (now (marks .entry)) count r ⌝ }
+{
+    if !all_set(own, head_at(heads, p, VARIABLES)) {
         return Ran::Stuck;
     }
-    if !all_set(marks, subs) {
+    if !all_set(marks, head_at(heads, p, SUB_SCOPES)) {
         return Ran::Stuck;
     }
     Ran::Values(count)
-}
-
-fn variables_of(heads: &[u8], p: usize) -> usize
-    requires { ⌜ p < 32 ⌝ }
-    ensures { λ r. ⌜ r ≡ variablesIn (now (heads .entry)) p ⌝ }
-{
-    byte_at(heads, p * 48 + 1) as usize
-}
-
-fn sub_scopes_of(heads: &[u8], p: usize) -> usize
-    requires { ⌜ p < 32 ⌝ }
-    ensures { λ r. ⌜ r ≡ subScopesIn (now (heads .entry)) p ⌝ }
-{
-    byte_at(heads, p * 48 + 2) as usize
 }
 
 // n bytes on, or the end.
@@ -73,7 +76,7 @@ fn advance(next: usize, n: usize, end: usize) -> usize
     next + n
 }
 
-// Enters block p with what its cells give, and leaves the values of its variables there.
+// Enters block p with what its cells give, and leaves the values of its variables there. What is known is not run again.
 fn enter(
     code: &[u8],
     spans: &[usize],
@@ -83,14 +86,46 @@ fn enter(
     st: &mut [u64],
     tr: &mut [usize],
     own: &mut [u64],
+    memo: &mut [u64],
 ) -> Ran
-    requires { ⌜ Entry (now code) (now spans) (now heads) (now places) p (now own) ⌝ }
+    requires { ⌜ Entry (now code) (now spans) (now heads) (now places) p (now own) × Known (now code) (now memo) ⌝ }
     ensures { λ r. ⌜ Came (now (code .entry)) p (now (own .entry)) r (now (own .exit)) (now (st .entry)) (now (tr .entry)) ⌝ }
+    ensures { λ _. ⌜ Known (now (code .entry)) (now (memo .exit)) ⌝ }
 {
-    let span = p * 2;
-    let from = spans[span];
-    let to = spans[span + 1];
-    let body = &code[from..to];
+    let bare = none_given(own, head_at(heads, p, VARIABLES));
+    let known = recall(memo, p, bare, own);
+    if 0 < known {
+        return Ran::Values(known);
+    }
+    match run_block(code, spans, heads, places, p, st, tr, own, memo) {
+        Ran::Values(n) => {
+            remember(own, n, p, bare, memo);
+            Ran::Values(n)
+        }
+        Ran::Ended(c, n) => Ran::Ended(c, n),
+        Ran::Stuck => Ran::Stuck,
+        Ran::NoRoom => Ran::NoRoom,
+    }
+}
+
+// Runs the instructions of block p.
+fn run_block(
+    code: &[u8],
+    spans: &[usize],
+    heads: &[u8],
+    places: &[u8],
+    p: usize,
+    st: &mut [u64],
+    tr: &mut [usize],
+    own: &mut [u64],
+    memo: &mut [u64],
+) -> Ran
+    requires { ⌜ Entry (now code) (now spans) (now heads) (now places) p (now own) × Known (now code) (now memo) ⌝ }
+    ensures { λ r. ⌜ Came (now (code .entry)) p (now (own .entry)) r (now (own .exit)) (now (st .entry)) (now (tr .entry)) ⌝ }
+    ensures { λ _. ⌜ Known (now (code .entry)) (now (memo .exit)) ⌝ }
+{
+    let from = spans[p * 2];
+    let body = part_of(code, from, spans[p * 2 + 1] - from);
     let mut called = [0u64; 256];
     let mut marks = [0u64; 8];
     let mut flags = [0u8; 32];
@@ -118,6 +153,7 @@ fn enter(
                 &mut st[h..],
                 &mut tr[t * 2..],
                 &mut called[part..part + 32],
+                memo,
             ) {
                 Ran::Values(n) => {
                     marks[k] = 1;
@@ -155,28 +191,30 @@ fn enter(
             }
         }
     }
-    finish(
-        own,
-        variables_of(heads, p),
-        &marks,
-        sub_scopes_of(heads, p),
-        count,
-    )
+    finish(heads, p, own, &marks, count)
 }
 
-// Copies the cells of what is given.
-fn copy_cells(given: &[u64], own: &mut [u64])
-    requires { ⌜ (length (now given) ≡ 32) × (length (now own) ≡ 32) ⌝ }
-    ensures { λ _. ⌜ now (own .exit) ≡ now (given .entry) ⌝ }
+// Runs block p with what is given, nothing known of the blocks that it enters.
+fn run_given(
+    code: &[u8],
+    spans: &[usize],
+    heads: &[u8],
+    places: &[u8],
+    p: usize,
+    given: &[u64],
+    st: &mut [u64],
+    tr: &mut [usize],
+    own: &mut [u64],
+) -> Ran
+    requires { ⌜ Entry (now code) (now spans) (now heads) (now places) p (now own) × (length (now given) ≡ 32) ⌝ }
+    ensures { λ r. ⌜ Came (now (code .entry)) p (now (given .entry)) r (now (own .exit)) (now (st .entry)) (now (tr .entry)) ⌝ }
 {
-    let mut v: usize = 0;
-    while v < 32 {
-        own[v] = given[v];
-        v += 1;
-    }
+    let mut memo = [0u64; 1056];
+    copy_cells(given, 0, own, 0);
+    run_block(code, spans, heads, places, p, st, tr, own, &mut memo)
 }
 
-// Enters block p with a stack and tries that always suffice.
+// Runs block p with a stack and tries that always suffice.
 fn run_large(
     code: &[u8],
     spans: &[usize],
@@ -191,11 +229,10 @@ fn run_large(
 {
     let mut st = [0u64; 32768];
     let mut tr = [0usize; 32768];
-    copy_cells(given, own);
-    enter(code, spans, heads, places, p, &mut st, &mut tr, own)
+    run_given(code, spans, heads, places, p, given, &mut st, &mut tr, own)
 }
 
-// Enters block p, with a small stack and few tries at first.
+// Runs block p, with a small stack and few tries at first.
 pub fn run_cells(
     code: &[u8],
     spans: &[usize],
@@ -210,8 +247,7 @@ pub fn run_cells(
 {
     let mut st = [0u64; 512];
     let mut tr = [0usize; 512];
-    copy_cells(given, own);
-    match enter(code, spans, heads, places, p, &mut st, &mut tr, own) {
+    match run_given(code, spans, heads, places, p, given, &mut st, &mut tr, own) {
         Ran::Values(n) => Ran::Values(n),
         Ran::Ended(c, n) => Ran::Ended(c, n),
         Ran::Stuck => Ran::Stuck,

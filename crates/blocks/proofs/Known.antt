@@ -1,0 +1,106 @@
+-- What is known of blocks that were entered with nothing given.
+--     recalled, not-recalled, noted    a row that is read, and one that is written
+--     nothing-known                    before the first block
+-- Assumes nothing.
+use Prim.Native.Nat.{ℕ, zero, suc, _+_, _*_, _<_, _≤_}
+use mathlib.Core.Path.{_≡_, refl, sym, ap, subst, _∙_}
+use mathlib.Core.Bool.{Bool, true, false}
+use mathlib.Core.List.{List, []}
+use mathlib.Core.Logic.{⊎-elim}
+use native.Mathlib.Omega.{arith}
+use lib.ListN.{length, getD, replicate, length-replicate, getD-replicate}
+use lib.Dec.{eqb}
+use borrow.Author.Tests.{eqb-true, eqb-false}
+use Rattle.order.proofs.Booleans.{decide}
+use Rattle.calculus.specs.declared.Given.the-variants.{Absent}
+use Rattle.cells.specs.Cells.{givenOf, givenAt}
+use Rattle.cells.specs.Rows.{Ungiven, rowCount, rowCells, RowRoom, Recalled, Noted, Remembered}
+use Rattle.instructions.specs.Effects.{variablesIn}
+use Rattle.instructions.specs.Views.{tab, givensAt}
+use Rattle.instructions.proofs.Memory.{tab-same}
+use Rattle.blocks.specs.declared.Ran.{Ran}
+use Rattle.blocks.specs.declared.Ran.the-variants.{Values}
+use Rattle.blocks.specs.Entries.{runAt, variablesAt, Entry, Came, CameTo, Known}
+use Rattle.blocks.proofs.Tables.{small}
+use Rattle.blocks.proofs.Entering.{world, variables-same}
+
+-- where nothing is given, it does not matter in which cells
+givens-none : (own : List ℕ) (n : ℕ) → ((u : ℕ) → u < n → givenAt own u ≡ Absent) → givensAt own 0 n ≡ givensAt [] 0 n
+unfolding givensAt givenAt givenOf
+givens-none own n h =
+    tab-same (λ x. givenOf (getD own (0 + x) 0)) (λ x. givenOf (getD [] (0 + x) 0)) 0 n
+    (λ i l. let z : 0 + (0 + i) ≡ i = omega arith in rw z (h i l))
+
+-- cells that are as they were
+pub unrecalled : {memo own own' : List ℕ} {p : ℕ} {b : Bool} {r : ℕ} → Recalled memo p b own r own' → r ≤ 0 → own' ≡ own
+unrecalled f l = f .kept (omega arith)
+
+pub came-from : {code : List ℕ} {p : ℕ} {own own' own'' st tr : List ℕ} {a : Ran} → own' ≡ own → Came code p own' a own'' st tr → Came code p own a own'' st tr
+came-from {code} {p} {own} {own'} {own''} {st} {tr} {a} e k = subst (λ (xs : List ℕ). Came code p xs a own'' st tr) e k
+
+pub entry-from : {code spans heads places : List ℕ} {p : ℕ} {own own' : List ℕ} → own' ≡ own → Entry code spans heads places p own → Entry code spans heads places p own'
+entry-from {code} {spans} {heads} {places} {p} e k = subst (λ (xs : List ℕ). Entry code spans heads places p xs) (sym e) k
+
+pub entry-sized : {code spans heads places : List ℕ} {p : ℕ} {own own' : List ℕ} → Entry code spans heads places p own → length own' ≡ 32
+    → Entry code spans heads places p own'
+entry-sized e s = record { accepts = e .accepts; tabled = e .tabled; sizes = e .sizes; block = e .block; room = s }
+
+pub came-so : {code : List ℕ} {p : ℕ} {own own' st tr : List ℕ} {a r : Ran} → Came code p own a own' st tr → a ≡ r → Came code p own r own' st tr
+came-so {code} {p} {own} {own'} {st} {tr} k e = subst (λ (x : Ran). Came code p own x own' st tr) e k
+
+module _ {code spans heads places : List ℕ} {p : ℕ} {own : List ℕ} (e : Entry code spans heads places p own) where
+  few : p < 32
+  few = small (world e) p (e .block)
+
+  pub row-room : {own' memo : List ℕ} → length own' ≡ 32 → Known code memo → RowRoom p own' memo
+  row-room s k = record { row = few; room = s; size = k .size }
+
+  module _ {n : ℕ} {b : Bool} (v : n ≡ getD heads (p * 48 + 1) 0) (u : Ungiven own n b) where
+    variables-are : n ≡ variablesAt code p
+    unfolding variablesIn
+    variables-are = v ∙ variables-same (world e) p (e .block)
+
+    givens-are : b ≡ true → givensAt own 0 (variablesAt code p) ≡ givensAt [] 0 (variablesAt code p)
+    givens-are t = givens-none own (variablesAt code p) (λ x l. u .none t x (rw variables-are l))
+
+    pub recalled : {memo : List ℕ} {r : ℕ} {own' st tr : List ℕ} → Known code memo → Recalled memo p b own r own' → 0 < r
+        → Came code p own (Values r) own' st tr
+    recalled {memo} {r} {own'} k f l =
+        let here = f .found (λ z. omega arith) in
+        let row = k .rows p few (λ z. omega (arith, here .1)) in
+        record { size = rw (here .2) (row .size); shows = rw (givens-are (here .0), here .1, here .2) (row .shows) }
+
+    module _ {memo memo' own' : List ℕ} {count : ℕ} (k : Known code memo) (c : CameTo code p own (Values count) own') where
+      kept-row : Noted own' count p memo memo' → b ≡ true → CameTo code p [] (Values (rowCount memo' p)) (rowCells memo' p)
+      kept-row w t =
+          rw (w .counts, w .cells) (record { size = c .size; shows = rw (← givens-are t) (c .shows) })
+
+      other-row : Noted own' count p memo memo' → (q : ℕ) → q < 32 → (q ≡ p → ⊥) → (rowCount memo' q ≡ 0 → ⊥)
+          → CameTo code q [] (Values (rowCount memo' q)) (rowCells memo' q)
+      other-row w q l n o =
+          let same = w .others q l n in
+          rw (same .0, same .1) (k .rows q l (λ z. o (same .0 ∙ z)))
+
+      pub noted : length memo' ≡ length memo → Remembered own' count p b memo memo' → Known code memo'
+      noted s m =
+          ⊎-elim
+          (λ t.
+          let w = m .noted t in
+          record {
+            size = s ∙ k .size;
+            rows = λ q l o.
+                ⊎-elim
+                (λ h. let z : q ≡ p = eqb-true q p h in subst (λ (i : ℕ). CameTo code i [] (Values (rowCount memo' i)) (rowCells memo' i)) (sym z) (kept-row w t))
+                (λ h. other-row w q l (eqb-false q p h) o)
+                (decide (eqb q p));
+          })
+          (λ t. rw (m .kept t) k)
+          (decide b)
+
+pub nothing-known : (code : List ℕ) → Known code (replicate 1056 0)
+unfolding rowCount
+nothing-known code =
+    record {
+      size = length-replicate {A = ℕ} 1056 0;
+      rows = λ q l ne. absurd (ne (getD-replicate {A = ℕ} 1056 (q * 33) 0 0 (omega arith)));
+    }
