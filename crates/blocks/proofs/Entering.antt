@@ -5,7 +5,7 @@
 --     finishes                                 the block's end
 -- Assumes nothing.
 use Prim.Native.Nat.{ℕ, zero, suc, _+_, _-_, _*_, _<_, _≤_}
-use mathlib.Core.Path.{_≡_, refl, ap, sym, _∙_}
+use mathlib.Core.Path.{_≡_, refl, ap, sym, subst, _∙_}
 use mathlib.Core.Bool.{Bool, true, false, not, cond}
 use mathlib.Core.List.{List, [], _∷_, _++_, map}
 use native.Mathlib.Omega.{arith}
@@ -45,39 +45,23 @@ use Rattle.blocks.specs.Entries.{back, runAt, variablesAt, Enough, Shows
 use Rattle.instructions.proofs.Memory.{tab-length, tab-at, tab-same, tab-set, tab-map}
 use Rattle.machine.proofs.Landing.{lands-here}
 use Rattle.record.proofs.Parts.{all-left, part-room, lent-length}
-use Rattle.blocks.proofs.Positions.{exec-past, exec-at, exec-to, Aligned, fits-at}
-use Rattle.blocks.proofs.Invariant.{Within, MemGood, TriesGood, NextGood, Behind, step-good, begin-good, run-cons}
+use Rattle.blocks.specs.declared.Place.{Place}
+use Rattle.blocks.specs.declared.Went as went-type
+use Rattle.blocks.specs.declared.Went.the-variants as went
+use Rattle.blocks.specs.Running.{Aligned, TriesGood, blk, before, envAt, weightAt, Held, runFrom, Running, Standing, Acts, Acted, restAt, Steps, SteppedAt}
+use Rattle.blocks.proofs.Positions.{exec-past, exec-at, exec-to, fits-at}
+use Rattle.blocks.proofs.Invariant.{Within, MemGood, NextGood, Behind, step-good, begin-good, run-cons}
 use Rattle.blocks.proofs.Tables.{World, small, fit, heavy, below, variables-are, subs-are, bounded, typing, named, callee-below, callee-variables, callee-runs, size-is}
 
-abbrev pub blk : List ℕ → ℕ → Block
-blk code p = getD (parse code 0 .blocks) p emptyBlock
+-- the run of a block with nothing said of types
+abbrev Good : List ℕ → ℕ → Memory → Type 0
+Good code p m = MemGood (before code p) (blk code p) (envAt code p) ⊥ (weightIn (before code p)) (weightAt code p) m
 
-abbrev pub before : List ℕ → ℕ → List Block
-before code p = back (parse code 0 .blocks) p
+is-held : {code : List ℕ} {p : ℕ} {m : Memory} → Good code p m → Held code p m
+is-held g = record { many = g .many; counted = g .counted }
 
-abbrev pub envAt : List ℕ → ℕ → Surroundings
-envAt code p = surroundings (before code p) (blk code p) (λ j handed. runIn (before code p) j handed)
-
-abbrev pub weightAt : List ℕ → ℕ → ℕ
-weightAt code p = suc (sum (weightIn (before code p)) (blk code p .subScopes))
-
-abbrev pub Held : List ℕ → ℕ → Memory → Type 0
-Held code p m = MemGood (before code p) (blk code p) (envAt code p) ⊥ (weightIn (before code p)) (weightAt code p) m
-
-abbrev pub Landing : List ℕ → ℕ → List Try → Type 0
-Landing code p ts = TriesGood (before code p) (blk code p) (envAt code p) ⊥ (weightIn (before code p)) (weightAt code p) ts
-
-pub record Running (code heads places : List ℕ) (p : ℕ) (st₀ tr₀ own₀ body st tr own called marks flags : List ℕ) (count at h t : ℕ) : Type 0 where
-  pub isBody : body ≡ blk code p .body
-  pub same : exec (envAt code p) (blk code p .body) at (entries st h) (opened tr t) (memoryIn heads places p own flags called marks count)
-      ≡ runAt code p (givensAt own₀ 0 (variablesAt code p))
-  pub aligned : Aligned (blk code p .body) at
-  pub tries : Landing code p (opened tr t)
-  pub mem : Held code p (memoryIn heads places p own flags called marks count)
-  pub room : Room h t st tr
-  pub sized : Sized own flags called marks
-  pub stack : length st ≡ length st₀
-  pub openRoom : length tr ≡ length tr₀
+is-good : {code : List ℕ} {p : ℕ} {m : Memory} → Held code p m → Good code p m
+is-good k = record { typed = λ x. absurd x; many = k .many; counted = k .counted }
 
 -- Parts that were lent
 
@@ -188,17 +172,18 @@ module _ {code spans heads places : List ℕ} (o : World code spans heads places
     unfolding runAt blockAt back
     run-is gs = run-cons (blk code p) (before code p) (blk code p .scope) gs ∙ rw (eq-eqb (blk code p .scope) (blk code p .scope) refl)
 
-    pub starts : (st tr body : List ℕ) → body ≡ blk code p .body → length own ≡ 32 → length flags ≡ 32 → length called ≡ 256 → length marks ≡ 8
-        → Running code heads places p st tr own body st tr own called marks flags 1 0 0 0
+    pub starts : (st tr body : List ℕ) (s : Place) → s .at ≡ 0 → s .height ≡ 0 → s .tries ≡ 0 → s .count ≡ 1 → body ≡ blk code p .body
+        → length own ≡ 32 → length flags ≡ 32 → length called ≡ 256 → length marks ≡ 8
+        → Running code heads places p st tr (runAt code p (givensAt own 0 (variablesAt code p))) body st tr own called marks flags s
     unfolding entries opened
-    starts st tr body e a b c d =
+    starts st tr body s at₀ height₀ tries₀ count₀ e a b c d =
         let gs = givensAt own 0 (variablesAt code p) in
         record {
           isBody = e;
-          same = rw begin-is (sym (run-is gs));
-          aligned = λ q. lands-here (blk code p .body);
-          tries = tt;
-          mem = rw begin-is (begin-good (before code p) (blk code p) ⊥ gs (λ x. absurd x));
+          same = rw (at₀, height₀, tries₀, count₀, begin-is) (sym (run-is gs));
+          aligned = rw at₀ (λ q. lands-here (blk code p .body));
+          tries = rw tries₀ tt;
+          mem = rw (count₀, begin-is) (is-held (begin-good (before code p) (blk code p) ⊥ gs (λ x. absurd x)));
           room = record { height = omega arith; stack = omega arith; tries = omega arith; pairs = omega arith };
           sized = record { ownSize = a; flagSize = b; calledSize = c; markSize = d };
           stack = refl;
@@ -207,8 +192,20 @@ module _ {code spans heads places : List ℕ} (o : World code spans heads places
 
   -- An instruction
 
-  module _ {st₀ tr₀ own₀ body st tr own called marks flags : List ℕ} {count at h t : ℕ}
-      (r : Running code heads places p st₀ tr₀ own₀ body st tr own called marks flags count at h t) (in-body : at < length body) where
+  module _ {st₀ tr₀ : List ℕ} {whole : Ran} {body st tr own called marks flags : List ℕ} {s : Place}
+      (r : Running code heads places p st₀ tr₀ whole body st tr own called marks flags s) (in-body : s .at < length body) where
+    abbrev at : ℕ
+    at = s .at
+
+    abbrev h : ℕ
+    h = s .height
+
+    abbrev t : ℕ
+    t = s .tries
+
+    abbrev count : ℕ
+    count = s .count
+
     abbrev code-body : List ℕ
     code-body = blk code p .body
 
@@ -228,7 +225,7 @@ module _ {code spans heads places : List ℕ} (o : World code spans heads places
     next-good =
         step-good (before code p) (blk code p) (envAt code p) ⊥ (weightIn (before code p)) (weightAt code p) (λ x. refl)
         (λ k m hs. below o p l (getD (blk code p .subScopes) k 0) hs) (fit o p l) at inside (r .aligned inside)
-        (entries st h) (opened tr t) (memoryIn heads places p own flags called marks count) (r .tries) (r .mem)
+        (entries st h) (opened tr t) (memoryIn heads places p own flags called marks count) (r .tries) (is-good (r .mem))
 
     re-aligned : {x y : ℕ} → x ≡ y → Aligned code-body x → Aligned code-body y
     re-aligned z a q = rw (← z) (a (rw z q))
@@ -253,8 +250,10 @@ module _ {code spans heads places : List ℕ} (o : World code spans heads places
     next-is : {d : ℕ} {es : List Joined} {ts : List Try} {M : Memory} {X : Next} → X ≡ go d es ts M
         → NextGood (before code p) (blk code p) (envAt code p) ⊥ (weightIn (before code p)) (weightAt code p)
         (λ d. Aligned code-body (suc at + (bodyLength kind + d))) X
-        → Aligned code-body (suc at + (bodyLength kind + d)) × Landing code p ts × Held code p M
-    next-is x k = rw x at k
+        → Aligned code-body (suc at + (bodyLength kind + d)) × TriesGood code-body ts × Held code p M
+    next-is {d} {es} {ts} {M} x k =
+        let g : Aligned code-body (suc at + (bodyLength kind + d)) × TriesGood code-body ts × Good code p M = rw x at k in
+        (g .0, g .1, is-held (g .2))
 
     runs-on : exec (envAt code p) code-body at (entries st h) (opened tr t) (memoryIn heads places p own flags called marks count)
         ≡ follow (effect (envAt code p) (instructionOf kind (drop (suc at) code-body)) (length (drop (bodyLength kind) (drop (suc at) code-body)))
@@ -262,11 +261,8 @@ module _ {code spans heads places : List ℕ} (o : World code spans heads places
         (λ d st₁ ts₁ m₁. exec (envAt code p) (drop (suc at) code-body) (bodyLength kind + d) st₁ ts₁ m₁)
     runs-on = exec-at (envAt code p) code-body at (entries st h) (opened tr t) (memoryIn heads places p own flags called marks count) inside
 
-    abbrev pub whole : Ran
-    whole = runAt code p (givensAt own₀ 0 (variablesAt code p))
-
     abbrev pub rest : List ℕ
-    rest = take (length body - (at + 1)) (drop (at + 1) body)
+    rest = restAt body at
 
     pub stepping : (getD body at 0 ≡ 43 → ⊥) → Stepping heads places p (getD body at 0) rest st h tr t own flags called marks
     stepping n =
@@ -282,34 +278,38 @@ module _ {code spans heads places : List ℕ} (o : World code spans heads places
 
     -- what was done is the effect of the instruction here
     module _ {m : Move} {st' tr' own' flags' called' : List ℕ}
-        (s : Stepped heads places p (getD body at 0) rest st h tr t own flags called marks m st' tr' own' flags' called') where
+        (d : Stepped heads places p (getD body at 0) rest st h tr t own flags called marks m st' tr' own' flags' called') where
       moves : Moves m (bodyLength kind) st' tr' (memoryIn heads places p own' flags' called' marks count)
           (effect (envAt code p) (instructionOf kind (drop (suc at) code-body)) (length (drop (bodyLength kind) (drop (suc at) code-body)))
           (entries st h) (opened tr t) (memoryIn heads places p own flags called marks count))
-      moves = rw (all-left (at + 1) body, r .isBody, add-one at) at (s .same (envAt code p) count (typing o p l))
+      moves = rw (all-left (at + 1) body, r .isBody, add-one at) at (d .same (envAt code p) count (typing o p l))
 
-      pub turn : (n h' t' at' : ℕ) → m ≡ move.Go n h' t' → Advances (at + 1) n (length body) at'
+      pub turn : (n : ℕ) (x : Place) → m ≡ move.Go n (x .height) (x .tries) → Advances (at + 1) n (length body) (x .at) → x .count ≡ count
           → length st' ≡ length st → length tr' ≡ length tr → Sized own' flags' called' marks
-          → Running code heads places p st₀ tr₀ own₀ body st' tr' own' called' marks flags' count at' h' t'
-      turn n h' t' at' g adv ls lt sz =
+          → Running code heads places p st₀ tr₀ whole body st' tr' own' called' marks flags' x
+      turn n x g adv k ls lt sz =
+          let at' = x .at in
+          let h' = x .height in
+          let t' = x .tries in
           let v : Moves (move.Go n h' t') (bodyLength kind) st' tr' (memoryIn heads places p own' flags' called' marks count)
           (effect (envAt code p) (instructionOf kind (drop (suc at) code-body)) (length (drop (bodyLength kind) (drop (suc at) code-body)))
           (entries st h) (opened tr t) (memoryIn heads places p own flags called marks count)) = rw g at moves in
           let z : suc at + (bodyLength kind + (n - bodyLength kind)) ≡ at + 1 + n = omega (arith, v .1) in
-          let good = next-is (v .0) next-good in
+          let good-next = next-is (v .0) next-good in
           let there = advanced (at + 1) n at' adv (entries st' h') (opened tr' t') (memoryIn heads places p own' flags' called' marks count) in
           record {
             isBody = r .isBody;
             same =
-                there
-                ∙ ap (λ (x : ℕ). exec (envAt code p) code-body x (entries st' h') (opened tr' t') (memoryIn heads places p own' flags' called' marks count)) (sym z)
+                rw k
+                (there
+                ∙ ap (λ (y : ℕ). exec (envAt code p) code-body y (entries st' h') (opened tr' t') (memoryIn heads places p own' flags' called' marks count)) (sym z)
                 ∙ sym (exec-to (envAt code p) code-body at (bodyLength kind + (n - bodyLength kind)) (entries st' h') (opened tr' t')
                 (memoryIn heads places p own' flags' called' marks count))
                 ∙ sym (runs-on ∙ rw (v .0))
-                ∙ r .same;
-            aligned = advanced-aligned (at + 1) n at' adv (re-aligned z (good .0));
-            tries = good .1;
-            mem = good .2;
+                ∙ r .same);
+            aligned = advanced-aligned (at + 1) n at' adv (re-aligned z (good-next .0));
+            tries = good-next .1;
+            mem = rw k (good-next .2);
             room = v .2;
             sized = sz;
             stack = ls ∙ r .stack;
@@ -493,30 +493,33 @@ module _ {code spans heads places : List ℕ} (o : World code spans heads places
               ≡ go 0 (entries st h) (opened tr t) (memoryIn heads places p own flags called' (set marks sub 1) (count + m))
           goes-to = entry-next ∙ rw (q, new-memory)
 
-          pub entry-turn : (at' : ℕ) (st' tr' : List ℕ) → Advances (at + 1) 1 (length body) at'
+          pub entry-turn : (x : Place) (st' tr' : List ℕ) → Advances (at + 1) 1 (length body) (x .at) → x .height ≡ h → x .tries ≡ t → x .count ≡ count + m
               → ((i : ℕ) → i < h → getD st' i 0 ≡ getD st i 0) → ((i : ℕ) → i < t * 2 → getD tr' i 0 ≡ getD tr i 0)
               → length st' ≡ length st → length tr' ≡ length tr
-              → Running code heads places p st₀ tr₀ own₀ body st' tr' own called' (set marks sub 1) flags (count + m) at' h t
+              → Running code heads places p st₀ tr₀ whole body st' tr' own called' (set marks sub 1) flags x
           unfolding shapeIn shapesOf kinds
-          entry-turn at' st' tr' adv a b c d =
+          entry-turn x st' tr' adv kh kt kc a b c d =
+              let at' = x .at in
               let es = entries-same st st' h a in
               let ts = opened-same tr tr' t b in
               let z : suc at + (bodyLength kind + 0) ≡ at + 1 + 1 = rw entry-kind (omega arith) in
-              let good = next-is goes-to next-good in
+              let good-next = next-is goes-to next-good in
               let k = length-set marks sub 1 in
               record {
                 isBody = r .isBody;
                 same =
-                    rw (es, ts)
+                    rw (kh, kt, kc, es, ts)
                     (advanced (at + 1) 1 at' adv (entries st h) (opened tr t) (memoryIn heads places p own flags called' (set marks sub 1) (count + m))
-                    ∙ ap (λ (x : ℕ). exec (envAt code p) code-body x (entries st h) (opened tr t) (memoryIn heads places p own flags called' (set marks sub 1) (count + m))) (sym z)
+                    ∙ ap (λ (y : ℕ). exec (envAt code p) code-body y (entries st h) (opened tr t) (memoryIn heads places p own flags called' (set marks sub 1) (count + m))) (sym z)
                     ∙ sym (exec-to (envAt code p) code-body at (bodyLength kind + 0) (entries st h) (opened tr t) (memoryIn heads places p own flags called' (set marks sub 1) (count + m)))
                     ∙ sym (runs-on ∙ rw goes-to)
                     ∙ r .same);
-                aligned = advanced-aligned (at + 1) 1 at' adv (re-aligned z (good .0));
-                tries = rw ts (good .1);
-                mem = good .2;
-                room = record { height = r .room .height; stack = rw c (r .room .stack); tries = r .room .tries; pairs = rw d (r .room .pairs) };
+                aligned = advanced-aligned (at + 1) 1 at' adv (re-aligned z (good-next .0));
+                tries = rw (kt, ts) (good-next .1);
+                mem = rw kc (good-next .2);
+                room =
+                    rw (kh, kt)
+                    (record { height = r .room .height; stack = rw c (r .room .stack); tries = r .room .tries; pairs = rw d (r .room .pairs) });
                 sized =
                     record {
                       ownSize = r .sized .ownSize;
@@ -531,8 +534,8 @@ module _ {code spans heads places : List ℕ} (o : World code spans heads places
           pub entry-few : count + m ≤ 4096
           unfolding memoryIn memory
           entry-few =
-              let good = next-is goes-to next-good in
-              let c = good .2 .counted in
+              let good-next = next-is goes-to next-good in
+              let c = good-next .2 .counted in
               let w = heavy o p l in
               omega arith
 
@@ -552,6 +555,13 @@ module _ {code spans heads places : List ℕ} {p : ℕ} {own : List ℕ} (e : En
   pub in-code : getD spans (p * 2 + 1) 0 ≤ length code
   in-code = e .tabled .blocks p (e .block) .inside
 
+  pub at-small : {body : List ℕ} {at : ℕ} → body ≡ blk code p .body → at < length body → at + 1 ≤ getD spans (p * 2 + 1) 0
+  at-small i q =
+      let b = ap length (body-of ∙ sym i) in
+      let u = length-take (getD spans (p * 2 + 1) 0 - getD spans (p * 2) 0) (drop (getD spans (p * 2) 0) code) in
+      let o = ordered in
+      omega arith
+
   -- what an end shows, it shows of any equal end
   pub shown : (r : coded-type.Ran) {x y : Ran} (own' : List ℕ) {v w : ℕ} (A : Type 0) → x ≡ y → v ≡ w → Shows r x own' v ⊥ → Shows r y own' w A
   shown (coded.Values n) own' A q z k = rw (← q, ← z) k
@@ -559,14 +569,14 @@ module _ {code spans heads places : List ℕ} {p : ℕ} {own : List ℕ} (e : En
   shown coded.Stuck own' A q z k = rw (← q) k
   shown coded.NoRoom own' A q z k = absurd k
 
-  module _ {st₀ tr₀ body st tr own' called marks flags : List ℕ} {count at h t : ℕ}
-      (r : Running code heads places p st₀ tr₀ own body st tr own' called marks flags count at h t) where
-    end-of : length body ≤ at
-        → atEnd (memory (variablesIn heads p) (subScopesIn heads p) (sizeIn heads places p) own' flags called marks count) ≡ runAt code p (givensAt own 0 (variablesAt code p))
+  module _ {st₀ tr₀ body st tr own' called marks flags : List ℕ} {s : Place}
+      (r : Running code heads places p st₀ tr₀ (runAt code p (givensAt own 0 (variablesAt code p))) body st tr own' called marks flags s) where
+    end-of : length body ≤ s .at
+        → atEnd (memory (variablesIn heads p) (subScopesIn heads p) (sizeIn heads places p) own' flags called marks (s .count)) ≡ runAt code p (givensAt own 0 (variablesAt code p))
     unfolding memoryIn
     end-of q =
-        sym (exec-past (envAt code p) (blk code p .body) at (entries st h) (opened tr t)
-        (memory (variablesIn heads p) (subScopesIn heads p) (sizeIn heads places p) own' flags called marks count) (rw (← r .isBody) q))
+        sym (exec-past (envAt code p) (blk code p .body) (s .at) (entries st (s .height)) (opened tr (s .tries))
+        (memory (variablesIn heads p) (subScopesIn heads p) (sizeIn heads places p) own' flags called marks (s .count)) (rw (← r .isBody) q))
         ∙ r .same
 
     pub ending : Ending heads p own' marks
@@ -578,19 +588,67 @@ module _ {code spans heads places : List ℕ} {p : ℕ} {own : List ℕ} (e : En
         let y = r .sized .markSize in
         record { block = b .block; variables = omega arith; subScopes = omega arith }
 
-    pub came-end : (a : coded-type.Ran) → length body ≤ at → Finished heads p own' marks count a → Came code p own a own' st₀ tr₀
+    pub came-end : (a : coded-type.Ran) → length body ≤ s .at → Finished heads p own' marks (s .count) a → Came code p own a own' st₀ tr₀
     came-end a q f =
         record {
           size = r .sized .ownSize;
           shows = shown a own' (Enough p st₀ tr₀ → ⊥) (end-of q) (variables-same world p (e .block)) (f .shows (sizeIn heads places p) flags called);
         }
 
-    pub at-small : at < length body → at + 1 ≤ getD spans (p * 2 + 1) 0
-    at-small q =
-        let b = ap length (body-of ∙ sym (r .isBody)) in
-        let u = length-take (getD spans (p * 2 + 1) 0 - getD spans (p * 2) 0) (drop (getD spans (p * 2) 0) code) in
-        let o = ordered in
-        omega arith
+-- What an instruction does to the run
+
+pub stands : {code heads places : List ℕ} {p : ℕ} {st₀ tr₀ : List ℕ} {whole : Ran} {body st tr own called marks flags : List ℕ} {s : Place}
+    → Running code heads places p st₀ tr₀ whole body st tr own called marks flags s → Standing code heads places p body st tr own called marks flags s
+stands r =
+    record {
+      isBody = r .isBody;
+      same = refl;
+      aligned = r .aligned;
+      tries = r .tries;
+      mem = r .mem;
+      room = r .room;
+      sized = r .sized;
+      stack = refl;
+      openRoom = refl;
+    }
+
+module _ {code heads places : List ℕ} {p : ℕ} {st₀ tr₀ : List ℕ} {whole : Ran} {body st tr own called marks flags : List ℕ} {s : Place}
+    (r : Running code heads places p st₀ tr₀ whole body st tr own called marks flags s) where
+  pub goes-on : {st' tr' own' called' marks' flags' : List ℕ} {x : Place}
+      → Running code heads places p st tr (runFrom code heads places p st tr own called marks flags s) body st' tr' own' called' marks' flags' x
+      → Running code heads places p st₀ tr₀ whole body st' tr' own' called' marks' flags' x
+  goes-on k =
+      record {
+        isBody = k .isBody;
+        same = k .same ∙ r .same;
+        aligned = k .aligned;
+        tries = k .tries;
+        mem = k .mem;
+        room = k .room;
+        sized = k .sized;
+        stack = k .stack ∙ r .stack;
+        openRoom = k .openRoom ∙ r .openRoom;
+      }
+
+  pub ends-so : {y : Ran} → runFrom code heads places p st tr own called marks flags s ≡ y → whole ≡ y
+  ends-so e = sym (r .same) ∙ e
+
+  pub too-short : (Enough p st tr → ⊥) → Enough p st₀ tr₀ → ⊥
+  too-short k q =
+      let a = r .stack in
+      let b = r .openRoom in
+      k (record { stack = omega (arith, q .stack); tries = omega (arith, q .tries) })
+
+-- what an instruction other than an entry does
+module _ {code spans heads places : List ℕ} (o : World code spans heads places) (p : ℕ) (l : p < blockCount code)
+    {body st tr own called marks flags : List ℕ} {s : Place} (r : Standing code heads places p body st tr own called marks flags s) (in-body : s .at < length body)
+    (st' tr' own' flags' called' : List ℕ) (ls : length st' ≡ length st) (lt : length tr' ≡ length tr) (sz : Sized own' flags' called' marks) where
+  pub acts : (a : went-type.Went) → Steps body s heads places p marks st tr own flags called st' tr' own' flags' called' a
+      → Acts code heads places p st tr (runFrom code heads places p st tr own called marks flags s) body (s .at) st' tr' own' called' marks flags' a
+  acts (went.On x) (n, d, adv, k) = let b = adv .on in (turn o p l r in-body d n x refl adv k ls lt sz, omega arith)
+  acts (went.Ended c n) (d, k) = rw k (ends o p l r in-body d c refl)
+  acts went.Stuck d = sticks o p l r in-body d refl
+  acts went.NoRoom d = short o p l r in-body d refl ls lt
 
 -- a part to the end of a slice, lent and written
 pub lent-rest : (xs part : List ℕ) (a : ℕ) → a ≤ length xs → length part ≡ length (take (length xs - a) (drop a xs))
@@ -628,3 +686,41 @@ module _ {code : List ℕ} {q c : ℕ} {part : List ℕ} {a : coded-type.Ran} {o
 
 pub sub-of : {k : ℕ} (at : ℕ) (body : List ℕ) → k ≡ getD (take (length body - (at + 1)) (drop (at + 1) body)) 0 0 → k ≡ getD (drop (at + 1) body) 0 0
 sub-of at body e = e ∙ ap (λ (l : List ℕ). getD l 0 0) (all-left (at + 1) body)
+
+-- what an instruction came to
+
+pub moved : {next n end a b : ℕ} → b ≡ a → Advances next n end a → Advances next n end b
+moved {next} {n} {end} e k = subst (λ (y : ℕ). Advances next n end y) (sym e) k
+
+pub further : {at n end a : ℕ} → Advances (at + 1) n end a → at < a
+further k = let o = k .on in omega arith
+
+module _ {code body : List ℕ} {s : Place} {heads places : List ℕ} {p : ℕ} {st tr own called marks flags : List ℕ} {a : went-type.Went}
+    {st' tr' own' called' marks' flags' : List ℕ} (k : Acted code body s heads places p st tr own called marks flags a st' tr' own' called' marks' flags') where
+  pub went-on : {x : Place} → a ≡ went.On x
+      → Running code heads places p st tr (runFrom code heads places p st tr own called marks flags s) body st' tr' own' called' marks' flags' x × (s .at < x .at)
+  went-on e = rw e at (k .shows)
+
+  pub went-ended : {c : Cause} {n : ℕ} → a ≡ went.Ended c n → runFrom code heads places p st tr own called marks flags s ≡ ran (ended c n)
+  went-ended e = rw e at (k .shows)
+
+  pub went-stuck : a ≡ went.Stuck → runFrom code heads places p st tr own called marks flags s ≡ stuck
+  went-stuck e = rw e at (k .shows)
+
+  pub went-short : a ≡ went.NoRoom → Enough p st tr → ⊥
+  went-short e = rw e at (k .shows)
+
+module _ {body : List ℕ} {s : Place} {heads places : List ℕ} {p : ℕ} {marks st tr own flags called st' tr' own' flags' called' : List ℕ} {m : Move}
+    (d : Stepped heads places p (getD body (s .at) 0) (restAt body (s .at)) st (s .height) tr (s .tries) own flags called marks m st' tr' own' flags' called') where
+  pub stepped-on : {n h t : ℕ} (x : Place) → m ≡ move.Go n h t → x .height ≡ h → x .tries ≡ t → x .count ≡ s .count → Advances (s .at + 1) n (length body) (x .at)
+      → SteppedAt body s heads places p marks st tr own flags called (went.On x) st' tr' own' flags' called'
+  stepped-on {n} x e kh kt kc adv = record { shows = (n, rw (kh, kt, ← e) d, adv, kc) }
+
+  pub stepped-end : {c : Cause} → m ≡ move.Ended c → SteppedAt body s heads places p marks st tr own flags called (went.Ended c (s .count)) st' tr' own' flags' called'
+  stepped-end e = record { shows = (rw (← e) d, refl) }
+
+  pub stepped-stuck : m ≡ move.Stuck → SteppedAt body s heads places p marks st tr own flags called went.Stuck st' tr' own' flags' called'
+  stepped-stuck e = record { shows = rw (← e) d }
+
+  pub stepped-short : m ≡ move.NoRoom → SteppedAt body s heads places p marks st tr own flags called went.NoRoom st' tr' own' flags' called'
+  stepped-short e = record { shows = rw (← e) d }

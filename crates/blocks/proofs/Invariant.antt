@@ -40,7 +40,9 @@ use Rattle.machine.specs.Machine.{Cell, unset, given, stored, Callee, waiting, 
 use Rattle.machine.specs.Run.{Finals, missing, finals, inFront, finalsOf, allEntered, whole, atEnd, follow, exec, typeIn, cellOf, begins, begin, surroundings, runIn}
 use Rattle.machine.proofs.Landing.{lands-here}
 use Rattle.book.proofs.Same.{same-type}
-use Rattle.blocks.proofs.Positions.{exec-past, exec-at, exec-to, lands-within, lands-on, Aligned, fits-at}
+use Rattle.blocks.specs.Running.{Aligned, pending}
+use Rattle.blocks.specs.Running as running
+use Rattle.blocks.proofs.Positions.{exec-past, exec-at, exec-to, lands-within, lands-on, fits-at}
 
 -- Own variables
 
@@ -79,13 +81,6 @@ finals-typed (x ∷ xs) (given v ∷ cs) f = final-front x xs v (finalsOf cs) (f
 finals-typed (x ∷ xs) (stored v ∷ cs) f = final-front x xs v (finalsOf cs) (f .0) (finals-typed xs cs (f .1))
 
 -- Counting
-
--- the weights of the sub-scopes that wait
-abbrev pub pending : (ℕ → ℕ) → List ℕ → List Callee → ℕ
-pending w [] cs = 0
-pending w (i ∷ is) [] = 0
-pending w (i ∷ is) (waiting gs ∷ cs) = w i + pending w is cs
-pending w (i ∷ is) (entered vs ∷ cs) = pending w is cs
 
 abbrev isEntered : Callee → Bool
 isEntered (waiting gs) = false
@@ -135,8 +130,7 @@ module _ (earlier : List Block) (b : Block) (env : Surroundings) (A : Type 0) (w
     pub counted : m .count + pending w (b .subScopes) (m .callees) ≤ W
 
   abbrev pub TriesGood : List Try → Type 0
-  TriesGood [] = Unit {0}
-  TriesGood (t ∷ ts) = Aligned (b .body) (length (b .body) - t .lands) × TriesGood ts
+  TriesGood ts = running.TriesGood (b .body) ts
 
   module _ (J : ℕ → Type 0) where
     abbrev pub NextGood : Next → Type 0

@@ -18,6 +18,7 @@ use Rattle.machine.specs.Acceptance.{lands, fits, allFit}
 use Rattle.machine.specs.Machine.{Memory, Try, Ran, Next, Surroundings, effect}
 use Rattle.machine.specs.Run.{atEnd, follow, exec}
 use Rattle.machine.proofs.Steps as steps
+use Rattle.blocks.specs.Running.{Aligned}
 use Rattle.machine.proofs.Steps.{exec-drop}
 
 -- Runs
@@ -69,9 +70,6 @@ lands-part (b ∷ xs) (suc n) zero d e f = absurd (true≢false (sym e))
 lands-part (b ∷ xs) (suc n) (suc p) d e f = let z : suc p + d ≡ suc (p + d) = omega arith in rw z (lands-part xs n p d e f)
 
 -- a position before the end is that of an instruction
-abbrev pub Aligned : List ℕ → ℕ → Type 0
-Aligned body at = at < length body → lands body 0 at ≡ true
-
 -- behind an instruction, and d bytes on
 pub lands-on : (body : List ℕ) (at d : ℕ) → at < length body → lands body 0 at ≡ true
     → lands (drop (bodyLength (getD body at 0)) (drop (suc at) body)) 0 d ≡ true

@@ -17,7 +17,7 @@ use Rattle.verifier.specs.Tables.{blockAt, blockCount}
 use Rattle.blocks.specs.Entries.{back, runAt}
 use Rattle.blocks.proofs.Invariant.{GivensFit, RanGood, block-good, run-cons}
 use Rattle.blocks.proofs.Tables.{World, fit, below}
-use Rattle.blocks.proofs.Entering.{blk, before, envAt, weightAt}
+use Rattle.blocks.specs.Running.{blk, before, envAt, weightAt}
 
 module _ {code spans heads places : List ℕ} (o : World code spans heads places) (p : ℕ) (l : p < blockCount code) (gs : List Given) (f : GivensFit (blk code p .variables) gs) where
   run-good : RanGood (before code p) (blk code p) (envAt code p) (GivensFit (blk code p .variables) gs) (weightIn (before code p)) (weightAt code p) (runAt code p gs)

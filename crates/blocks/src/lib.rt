@@ -14,6 +14,7 @@ ghost use mathlib.Core.Path.{_≡_};
 ghost use Prim.Native.Nat.{_+_, _-_, _*_, _<_, _≤_};
 ghost use lib.ListN.{length, getD};
 ghost use Rattle.blocks.specs.Entries.{nonzero, Ending, Finished, Entry, Known, Came, CameTo, Advances};
+ghost use Rattle.blocks.specs.Running.{StepsAt, SteppedAt, EntersAt, EnteredAt, Acting, Acted};
 
 // Where the tables hold a block's numbers of variables and of sub-scopes.
 const VARIABLES: usize = 1;
@@ -26,6 +27,33 @@ pub enum Ran {
     Ended(Cause, usize),
     Stuck,
     NoRoom,
+}
+
+// A place in the run of a block: the byte, the stack's height, the open tries, and the count of scopes entered.
+pub struct Place {
+    pub at: usize,
+    pub height: usize,
+    pub tries: usize,
+    pub count: usize,
+}
+
+// After an instruction: the next place; or how the run ended.
+pub enum Went {
+    On(Place),
+    Ended(Cause, usize),
+    Stuck,
+    NoRoom,
+}
+
+fn stand(at: usize, height: usize, tries: usize, count: usize) -> Place
+    ensures { λ r. ⌜ (r .at ≡ at) × (r .height ≡ height) × (r .tries ≡ tries) × (r .count ≡ count) ⌝ }
+{
+    Place {
+        at,
+        height,
+        tries,
+        count,
+    }
 }
 
 // Whether the first n cells are not 0.
@@ -108,6 +136,137 @@ fn enter(
     }
 }
 
+// Does the instruction at a place of block p, one other than the entry of a sub-scope.
+fn one_step(
+    body: &[u8],
+    s: Place,
+    heads: &[u8],
+    places: &[u8],
+    p: usize,
+    marks: &[u64],
+    st: &mut [u64],
+    tr: &mut [usize],
+    own: &mut [u64],
+    flags: &mut [u8],
+    called: &mut [u64],
+) -> Went
+    requires { ⌜ StepsAt (now body) s (now heads) (now places) p (now marks) (now st) (now tr) (now own) (now flags) (now called) ⌝ }
+    ensures { λ r. ⌜ SteppedAt (now (body .entry)) s (now (heads .entry)) (now (places .entry)) p (now (marks .entry)) (now (st .entry)) (now (tr .entry))
+        (now (own .entry)) (now (flags .entry)) (now (called .entry))
+        r (now (st .exit)) (now (tr .exit)) (now (own .exit)) (now (flags .exit)) (now (called .exit)) ⌝ }
+{
+    let at = s.at;
+    let next = at + 1;
+    let count = s.count;
+    match step(
+        body[at],
+        &body[next..],
+        heads,
+        places,
+        p,
+        marks,
+        st,
+        s.height,
+        tr,
+        s.tries,
+        own,
+        flags,
+        called,
+    ) {
+        Move::Go(n, h, t) => Went::On(stand(advance(next, n, body.len()), h, t, count)),
+        Move::Ended(c) => Went::Ended(c, count),
+        Move::Stuck => Went::Stuck,
+        Move::NoRoom => Went::NoRoom,
+    }
+}
+
+// Enters the sub-scope that the instruction at a place of block p names, once.
+fn enter_sub(
+    code: &[u8],
+    spans: &[usize],
+    body: &[u8],
+    s: Place,
+    heads: &[u8],
+    places: &[u8],
+    p: usize,
+    st: &mut [u64],
+    tr: &mut [usize],
+    called: &mut [u64],
+    marks: &mut [u64],
+    memo: &mut [u64],
+) -> Went
+    requires { ⌜ EntersAt (now code) (now spans) (now body) s (now heads) (now places) p (now st) (now tr) (now called) (now marks) (now memo) ⌝ }
+    ensures { λ r. ⌜ EnteredAt (now (code .entry)) (now (body .entry)) s (now (heads .entry)) (now (places .entry)) p (now (st .entry)) (now (tr .entry))
+        (now (called .entry)) (now (marks .entry)) r (now (st .exit)) (now (tr .exit)) (now (called .exit)) (now (marks .exit)) ⌝ }
+    ensures { λ _. ⌜ Known (now (code .entry)) (now (memo .exit)) ⌝ }
+{
+    let next = s.at + 1;
+    let h = s.height;
+    let t = s.tries;
+    let count = s.count;
+    let k = first(&body[next..]);
+    if marks[k] != 0 {
+        return Went::Stuck;
+    }
+    let q = block_of(heads, places, p, k);
+    let part = k * 32;
+    let left = &mut st[h..];
+    let open = &mut tr[t * 2..];
+    let own = &mut called[part..part + 32];
+    match enter(code, spans, heads, places, q, left, open, own, memo) {
+        Ran::Values(n) => {
+            marks[k] = 1;
+            Went::On(stand(advance(next, 1, body.len()), h, t, count + n))
+        }
+        Ran::Ended(c, n) => Went::Ended(c, count + n),
+        Ran::Stuck => Went::Stuck,
+        Ran::NoRoom => Went::NoRoom,
+    }
+}
+
+// Does the instruction at a place of block p.
+fn act(
+    code: &[u8],
+    spans: &[usize],
+    body: &[u8],
+    s: Place,
+    heads: &[u8],
+    places: &[u8],
+    p: usize,
+    st: &mut [u64],
+    tr: &mut [usize],
+    own: &mut [u64],
+    called: &mut [u64],
+    marks: &mut [u64],
+    flags: &mut [u8],
+    memo: &mut [u64],
+) -> Went
+    requires { ⌜ Acting (now code) (now spans) (now body) s (now heads) (now places) p (now st) (now tr) (now own) (now called) (now marks) (now flags) (now memo) ⌝ }
+    ensures { λ r. ⌜ Acted (now (code .entry)) (now (body .entry)) s (now (heads .entry)) (now (places .entry)) p (now (st .entry)) (now (tr .entry))
+        (now (own .entry)) (now (called .entry)) (now (marks .entry)) (now (flags .entry))
+        r (now (st .exit)) (now (tr .exit)) (now (own .exit)) (now (called .exit)) (now (marks .exit)) (now (flags .exit)) ⌝ }
+    ensures { λ _. ⌜ Known (now (code .entry)) (now (memo .exit)) ⌝ }
+{
+    let at = s.at;
+    if body[at] == 43 {
+        return enter_sub(
+            code,
+            spans,
+            body,
+            s,
+            heads,
+            places,
+            p,
+            st,
+            tr,
+            called,
+            marks,
+            memo,
+        );
+    }
+    one_step(body, s, heads, places, p, marks, st, tr, own, flags, called)
+}
+
 // Runs the instructions of block p.
 fn run_block(
     code: &[u8],
@@ -129,69 +288,31 @@ fn run_block(
     let mut called = [0u64; 256];
     let mut marks = [0u64; 8];
     let mut flags = [0u8; 32];
-    let mut count: usize = 1;
-    let mut at: usize = 0;
-    let mut h: usize = 0;
-    let mut t: usize = 0;
-    while at < body.len() {
-        let kind = body[at];
-        let next = at + 1;
-        let rest = &body[next..];
-        if kind == 43 {
-            let k = first(rest);
-            if marks[k] != 0 {
-                return Ran::Stuck;
-            }
-            let q = block_of(heads, places, p, k);
-            let part = k * 32;
-            match enter(
-                code,
-                spans,
-                heads,
-                places,
-                q,
-                &mut st[h..],
-                &mut tr[t * 2..],
-                &mut called[part..part + 32],
-                memo,
-            ) {
-                Ran::Values(n) => {
-                    marks[k] = 1;
-                    count += n;
-                    at = advance(next, 1, body.len());
-                }
-                Ran::Ended(c, n) => return Ran::Ended(c, count + n),
-                Ran::Stuck => return Ran::Stuck,
-                Ran::NoRoom => return Ran::NoRoom,
-            }
-        } else {
-            match step(
-                kind,
-                rest,
-                heads,
-                places,
-                p,
-                &marks,
-                st,
-                h,
-                tr,
-                t,
-                own,
-                &mut flags,
-                &mut called,
-            ) {
-                Move::Go(n, height, tries) => {
-                    at = advance(next, n, body.len());
-                    h = height;
-                    t = tries;
-                }
-                Move::Ended(c) => return Ran::Ended(c, count),
-                Move::Stuck => return Ran::Stuck,
-                Move::NoRoom => return Ran::NoRoom,
-            }
+    let mut s = stand(0, 0, 0, 1);
+    while s.at < body.len() {
+        match act(
+            code,
+            spans,
+            body,
+            s,
+            heads,
+            places,
+            p,
+            st,
+            tr,
+            own,
+            &mut called,
+            &mut marks,
+            &mut flags,
+            memo,
+        ) {
+            Went::On(x) => s = x,
+            Went::Ended(c, n) => return Ran::Ended(c, n),
+            Went::Stuck => return Ran::Stuck,
+            Went::NoRoom => return Ran::NoRoom,
         }
     }
-    finish(heads, p, own, &marks, count)
+    finish(heads, p, own, &marks, s.count)
 }
 
 // Runs block p with what is given, nothing known of the blocks that it enters.

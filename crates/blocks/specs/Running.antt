@@ -1,0 +1,128 @@
+-- The run of a block at a place of it, and what an instruction there does.
+use Prim.Native.Nat.{ℕ, suc, _+_, _-_, _<_, _≤_}
+use mathlib.Core.Path.{_≡_}
+use mathlib.Core.Bool.{true}
+use mathlib.Core.List.{List, [], _∷_}
+use lib.ListN.{length, getD, take, drop}
+use Rattle.book.specs.Scopes.{sum}
+use Rattle.evaluation.specs.Run.{ended}
+use Rattle.machine.specs.Blocks.{Block, emptyBlock, parse}
+use Rattle.machine.specs.Acceptance.{lands, weightIn}
+use Rattle.machine.specs.Machine.{Callee, waiting, entered, Memory, Try, Surroundings}
+use Rattle.machine.specs.Machine as machine
+use Rattle.machine.specs.Run.{surroundings, exec, runIn}
+use Rattle.instructions.specs.declared.Move.{Move}
+use Rattle.instructions.specs.declared.Move.the-variants as move
+use Rattle.instructions.specs.Views.{entries, opened}
+use Rattle.instructions.specs.Effects.{Room, Sized, Stepping, Stepped, memoryIn}
+use Rattle.blocks.specs.declared.Place.{Place}
+use Rattle.blocks.specs.declared.Went.{Went}
+use Rattle.blocks.specs.declared.Went.the-variants.{On, Ended, Stuck, NoRoom}
+use Rattle.blocks.specs.Entries.{back, Enough, Entry, Known, Advances}
+
+-- an instruction stands there, or the block's end is passed
+abbrev pub Aligned : List ℕ → ℕ → Type 0
+Aligned body at = at < length body → lands body 0 at ≡ true
+
+-- the open tries land on instructions
+abbrev pub TriesGood : List ℕ → List Try → Type 0
+TriesGood body [] = Unit {0}
+TriesGood body (t ∷ ts) = Aligned body (length body - t .lands) × TriesGood body ts
+
+-- the weights of the sub-scopes that wait
+abbrev pub pending : (ℕ → ℕ) → List ℕ → List Callee → ℕ
+pending w [] cs = 0
+pending w (i ∷ is) [] = 0
+pending w (i ∷ is) (waiting gs ∷ cs) = w i + pending w is cs
+pending w (i ∷ is) (entered vs ∷ cs) = pending w is cs
+
+-- block p, those before it, and what its weight is
+abbrev pub blk : List ℕ → ℕ → Block
+blk code p = getD (parse code 0 .blocks) p emptyBlock
+
+abbrev pub before : List ℕ → ℕ → List Block
+before code p = back (parse code 0 .blocks) p
+
+abbrev pub envAt : List ℕ → ℕ → Surroundings
+envAt code p = surroundings (before code p) (blk code p) (λ j handed. runIn (before code p) j handed)
+
+abbrev pub weightAt : List ℕ → ℕ → ℕ
+weightAt code p = suc (sum (weightIn (before code p)) (blk code p .subScopes))
+
+-- every sub-scope has its cells, and no more was counted than the block weighs
+pub record Held (code : List ℕ) (p : ℕ) (m : Memory) : Type 0 where
+  pub many : length (m .callees) ≡ length (blk code p .subScopes)
+  pub counted : m .count + pending (weightIn (before code p)) (blk code p .subScopes) (m .callees) ≤ weightAt code p
+
+-- what the rest of a run comes to
+abbrev pub runFrom : List ℕ → List ℕ → List ℕ → ℕ → List ℕ → List ℕ → List ℕ → List ℕ → List ℕ → List ℕ → Place → machine.Ran
+runFrom code heads places p st tr own called marks flags s =
+    exec (envAt code p) (blk code p .body) (s .at) (entries st (s .height)) (opened tr (s .tries)) (memoryIn heads places p own flags called marks (s .count))
+
+-- the run of block p, which comes to `whole`, stands at a place
+pub record Running (code heads places : List ℕ) (p : ℕ) (st₀ tr₀ : List ℕ) (whole : machine.Ran) (body st tr own called marks flags : List ℕ) (s : Place) : Type 0 where
+  pub isBody : body ≡ blk code p .body
+  pub same : runFrom code heads places p st tr own called marks flags s ≡ whole
+  pub aligned : Aligned (blk code p .body) (s .at)
+  pub tries : TriesGood (blk code p .body) (opened tr (s .tries))
+  pub mem : Held code p (memoryIn heads places p own flags called marks (s .count))
+  pub room : Room (s .height) (s .tries) st tr
+  pub sized : Sized own flags called marks
+  pub stack : length st ≡ length st₀
+  pub openRoom : length tr ≡ length tr₀
+
+abbrev pub Standing : List ℕ → List ℕ → List ℕ → ℕ → List ℕ → List ℕ → List ℕ → List ℕ → List ℕ → List ℕ → List ℕ → Place → Type 0
+Standing code heads places p body st tr own called marks flags s =
+    Running code heads places p st tr (runFrom code heads places p st tr own called marks flags s) body st tr own called marks flags s
+
+-- after an instruction at byte `at`: the run stands further on, or has come to its end
+module _ (code heads places : List ℕ) (p : ℕ) (st₀ tr₀ : List ℕ) (whole : machine.Ran) (body : List ℕ) (at : ℕ) (st tr own called marks flags : List ℕ) where
+  abbrev pub Acts : Went → Type 0
+  Acts (On s) = Running code heads places p st₀ tr₀ whole body st tr own called marks flags s × (at < s .at)
+  Acts (Ended c n) = whole ≡ machine.ran (ended c n)
+  Acts Stuck = whole ≡ machine.stuck
+  Acts NoRoom = Enough p st₀ tr₀ → ⊥
+
+-- the instruction at a place can be done
+pub record Acting (code spans body : List ℕ) (s : Place) (heads places : List ℕ) (p : ℕ) (st tr own called marks flags memo : List ℕ) : Type 0 where
+  pub entry : Entry code spans heads places p own
+  pub known : Known code memo
+  pub inside : s .at < length body
+  pub stands : Standing code heads places p body st tr own called marks flags s
+
+pub record Acted (code body : List ℕ) (s : Place) (heads places : List ℕ) (p : ℕ) (st tr own called marks flags : List ℕ)
+    (r : Went) (st' tr' own' called' marks' flags' : List ℕ) : Type 0 where
+  pub shows : Acts code heads places p st tr (runFrom code heads places p st tr own called marks flags s) body (s .at) st' tr' own' called' marks' flags' r
+
+-- it is the entry of a sub-scope
+pub record EntersAt (code spans body : List ℕ) (s : Place) (heads places : List ℕ) (p : ℕ) (st tr called marks memo : List ℕ) : Type 0 where
+  pub own : List ℕ
+  pub flags : List ℕ
+  pub acting : Acting code spans body s heads places p st tr own called marks flags memo
+  pub enters : getD body (s .at) 0 ≡ 43
+
+pub record EnteredAt (code body : List ℕ) (s : Place) (heads places : List ℕ) (p : ℕ) (st tr called marks : List ℕ) (r : Went) (st' tr' called' marks' : List ℕ) : Type 0 where
+  pub shows : (own flags : List ℕ) → Standing code heads places p body st tr own called marks flags s
+      → Acts code heads places p st tr (runFrom code heads places p st tr own called marks flags s) body (s .at) st' tr' own called' marks' flags r
+
+-- it is another instruction
+abbrev pub restAt : List ℕ → ℕ → List ℕ
+restAt body at = take (length body - (at + 1)) (drop (at + 1) body)
+
+pub record StepsAt (body : List ℕ) (s : Place) (heads places : List ℕ) (p : ℕ) (marks st tr own flags called : List ℕ) : Type 0 where
+  pub inside : s .at < length body
+  pub stepping : Stepping heads places p (getD body (s .at) 0) (restAt body (s .at)) st (s .height) tr (s .tries) own flags called marks
+
+module _ (body : List ℕ) (s : Place) (heads places : List ℕ) (p : ℕ) (marks st tr own flags called st' tr' own' flags' called' : List ℕ) where
+  abbrev pub Does : Move → Type 0
+  Does m = Stepped heads places p (getD body (s .at) 0) (restAt body (s .at)) st (s .height) tr (s .tries) own flags called marks m st' tr' own' flags' called'
+
+  abbrev pub Steps : Went → Type 0
+  Steps (On x) = (n : ℕ) × Does (move.Go n (x .height) (x .tries)) × Advances (s .at + 1) n (length body) (x .at) × (x .count ≡ s .count)
+  Steps (Ended c n) = Does (move.Ended c) × (n ≡ s .count)
+  Steps Stuck = Does move.Stuck
+  Steps NoRoom = Does move.NoRoom
+
+pub record SteppedAt (body : List ℕ) (s : Place) (heads places : List ℕ) (p : ℕ) (marks st tr own flags called : List ℕ)
+    (r : Went) (st' tr' own' flags' called' : List ℕ) : Type 0 where
+  pub shows : Steps body s heads places p marks st tr own flags called st' tr' own' flags' called' r
