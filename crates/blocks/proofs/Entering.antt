@@ -1,12 +1,14 @@
 -- The run of a block over its slices.
---     begins                                   at first
+--     starts                                   at first
 --     stepping, turn, ends, sticks, short      an instruction: it can be done, and what follows
 --     entry-*                                  the entry of a sub-scope
---     finishes                                 the block's end
+--     ending, came-end                         the block's end
+--     stands, goes-on, ends-so, too-short      a run from a place on, as a part of the whole
+--     acts, went-*, stepped-*                  what a function answers, by its cases
 -- Assumes nothing.
 use Prim.Native.Nat.{ℕ, zero, suc, _+_, _-_, _*_, _<_, _≤_}
 use mathlib.Core.Path.{_≡_, refl, ap, sym, subst, _∙_}
-use mathlib.Core.Bool.{Bool, true, false, not, cond}
+use mathlib.Core.Bool.{true}
 use mathlib.Core.List.{List, [], _∷_, _++_, map}
 use native.Mathlib.Omega.{arith}
 use native.Mathlib.Numerals.{add-one}
@@ -15,7 +17,6 @@ use lib.ListN.{length-take, List·getD-append}
 use lib.Seq.{getD-set-same, getD-set-other, getD-take, getD-drop, getD-append-add}
 use lib.Dec.{eqb, ltb}
 use borrow.Author.Tests.{eq-eqb, ne-eqb, ltb-true, ltb-false}
-use Rattle.order.proofs.Matrix.{zeros}
 use Rattle.order.proofs.Booleans.{decide}
 use mathlib.Core.Logic.{_⊎_, inl, inr, ⊎-elim}
 use Rattle.record.specs.Kinds.{kinds, shapesOf, shapeIn}
@@ -25,7 +26,6 @@ use Rattle.calculus.specs.declared.Joined.{Joined}
 use Rattle.calculus.specs.declared.Given.{Given}
 use Rattle.calculus.specs.declared.Given.the-variants.{Absent, Present}
 use Rattle.cells.specs.Cells.{givenOf, held}
-use Rattle.book.specs.Scopes.{sum}
 use Rattle.book.specs.declared.ValueType.the-variants.{YesNo}
 use Rattle.book.specs.declared.Variable.{Variable}
 use Rattle.evaluation.specs.Run.{values, ended}
@@ -552,9 +552,6 @@ module _ {code spans heads places : List ℕ} {p : ℕ} {own : List ℕ} (e : En
   pub ordered : getD spans (p * 2) 0 ≤ getD spans (p * 2 + 1) 0
   ordered = e .tabled .blocks p (e .block) .ordered
 
-  pub in-code : getD spans (p * 2 + 1) 0 ≤ length code
-  in-code = e .tabled .blocks p (e .block) .inside
-
   pub at-small : {body : List ℕ} {at : ℕ} → body ≡ blk code p .body → at < length body → at + 1 ≤ getD spans (p * 2 + 1) 0
   at-small i q =
       let b = ap length (body-of ∙ sym i) in
@@ -660,9 +657,6 @@ lent-rest xs part a l k =
 
 pub rest-length : (xs : List ℕ) (a : ℕ) → a ≤ length xs → length (take (length xs - a) (drop a xs)) ≡ length xs - a
 rest-length xs a l = part-room xs a (length xs - a) (omega arith) refl
-
-pub part-at : (xs : List ℕ) (a w x : ℕ) → w ≡ 32 → x < 32 → getD (take w (drop a xs)) x 0 ≡ getD xs (a + x) 0
-part-at xs a w x e l = getD-take w (drop a xs) x 0 (rw e l) ∙ getD-drop a xs x 0
 
 -- the entry of a callee, and what it came to
 

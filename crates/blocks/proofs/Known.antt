@@ -1,10 +1,11 @@
 -- What is known of blocks that were entered with nothing given.
---     recalled, not-recalled, noted    a row that is read, and one that is written
+--     recalled, noted                  a row that is read, and one that is written
+--     unrecalled, came-from, came-so   cells that are as they were
 --     nothing-known                    before the first block
 -- Assumes nothing.
-use Prim.Native.Nat.{ℕ, zero, suc, _+_, _*_, _<_, _≤_}
-use mathlib.Core.Path.{_≡_, refl, sym, ap, subst, _∙_}
-use mathlib.Core.Bool.{Bool, true, false}
+use Prim.Native.Nat.{ℕ, _+_, _*_, _<_, _≤_}
+use mathlib.Core.Path.{_≡_, sym, subst, _∙_}
+use mathlib.Core.Bool.{Bool, true}
 use mathlib.Core.List.{List, []}
 use mathlib.Core.Logic.{⊎-elim}
 use native.Mathlib.Omega.{arith}
@@ -16,11 +17,11 @@ use Rattle.calculus.specs.declared.Given.the-variants.{Absent}
 use Rattle.cells.specs.Cells.{givenOf, givenAt}
 use Rattle.cells.specs.Rows.{Ungiven, rowCount, rowCells, RowRoom, Recalled, Noted, Remembered}
 use Rattle.instructions.specs.Effects.{variablesIn}
-use Rattle.instructions.specs.Views.{tab, givensAt}
+use Rattle.instructions.specs.Views.{givensAt}
 use Rattle.instructions.proofs.Memory.{tab-same}
 use Rattle.blocks.specs.declared.Ran.{Ran}
 use Rattle.blocks.specs.declared.Ran.the-variants.{Values}
-use Rattle.blocks.specs.Entries.{runAt, variablesAt, Entry, Came, CameTo, Known}
+use Rattle.blocks.specs.Entries.{variablesAt, Entry, Came, CameTo, Known}
 use Rattle.blocks.proofs.Tables.{small}
 use Rattle.blocks.proofs.Entering.{world, variables-same}
 

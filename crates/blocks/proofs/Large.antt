@@ -2,14 +2,13 @@
 --     copied-own                     what is given, copied
 --     large, enough, came-to         what an entry comes to where the slices suffice
 -- Assumes nothing.
-use Prim.Native.Nat.{ℕ, zero, suc, _+_, _-_, _*_, _<_, _≤_}
-use mathlib.Core.Path.{_≡_, refl, ap, sym, _∙_}
+use Prim.Native.Nat.{ℕ, _+_, _<_}
+use mathlib.Core.Path.{_≡_, sym, _∙_}
 use mathlib.Core.List.{List}
 use native.Mathlib.Omega.{arith}
-use lib.ListN.{length, getD, replicate, length-replicate}
+use lib.ListN.{length, replicate, length-replicate}
 use lib.Seq.{ext-getD}
 use Rattle.cells.specs.Rows.{Copied}
-use Rattle.calculus.specs.declared.Cause.{Cause}
 use Rattle.blocks.specs.declared.Ran.{Ran}
 use Rattle.blocks.specs.declared.Ran.the-variants.{Values, Ended, Stuck, NoRoom}
 use Rattle.blocks.specs.Entries.{Enough, Came, CameTo}

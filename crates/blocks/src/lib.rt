@@ -117,8 +117,7 @@ fn enter(
     memo: &mut [u64],
 ) -> Ran
     requires { ⌜ Entry (now code) (now spans) (now heads) (now places) p (now own) × Known (now code) (now memo) ⌝ }
-    ensures { λ r. ⌜ Came (now (code .entry)) p (now (own .entry)) r (now (own .exit)) (now (st .entry)) (now (tr .entry)) ⌝ }
-    ensures { λ _. ⌜ Known (now (code .entry)) (now (memo .exit)) ⌝ }
+    ensures { λ r. ⌜ Came (now (code .entry)) p (now (own .entry)) r (now (own .exit)) (now (st .entry)) (now (tr .entry)) × Known (now (code .entry)) (now (memo .exit)) ⌝ }
 {
     let bare = none_given(own, head_at(heads, p, VARIABLES));
     let known = recall(memo, p, bare, own);
@@ -280,8 +279,7 @@ fn run_block(
     memo: &mut [u64],
 ) -> Ran
     requires { ⌜ Entry (now code) (now spans) (now heads) (now places) p (now own) × Known (now code) (now memo) ⌝ }
-    ensures { λ r. ⌜ Came (now (code .entry)) p (now (own .entry)) r (now (own .exit)) (now (st .entry)) (now (tr .entry)) ⌝ }
-    ensures { λ _. ⌜ Known (now (code .entry)) (now (memo .exit)) ⌝ }
+    ensures { λ r. ⌜ Came (now (code .entry)) p (now (own .entry)) r (now (own .exit)) (now (st .entry)) (now (tr .entry)) × Known (now (code .entry)) (now (memo .exit)) ⌝ }
 {
     let from = spans[p * 2];
     let body = part_of(code, from, spans[p * 2 + 1] - from);
