@@ -7,15 +7,12 @@ use Prim.Native.Nat.{ℕ, _+_, _*_, _<_, _≤_}
 use mathlib.Core.Path.{_≡_, sym, subst, _∙_}
 use mathlib.Core.Bool.{Bool, true}
 use mathlib.Core.List.{List, []}
-use mathlib.Core.Logic.{⊎-elim}
 use native.Mathlib.Omega.{arith}
-use lib.ListN.{length, getD, replicate, length-replicate, getD-replicate}
-use lib.Dec.{eqb}
-use borrow.Author.Tests.{eqb-true, eqb-false}
-use Rattle.order.proofs.Booleans.{decide}
+use lib.ListN.{length, getD, replicate}
 use Rattle.calculus.specs.declared.Given.the-variants.{Absent}
 use Rattle.cells.specs.Cells.{givenOf, givenAt}
-use Rattle.cells.specs.Rows.{Ungiven, rowCount, rowCells, RowRoom, Recalled, Noted, Remembered}
+use Rattle.cells.specs.Rows.{Ungiven, RowRoom, Recalled, Remembered}
+use Rattle.cells.proofs.Rows.{nothing-kept, kept-found, kept-noted}
 use Rattle.instructions.specs.Effects.{variablesIn}
 use Rattle.instructions.specs.Views.{givensAt}
 use Rattle.instructions.proofs.Memory.{tab-same}
@@ -67,41 +64,14 @@ module _ {code spans heads places : List ℕ} {p : ℕ} {own : List ℕ} (e : En
     pub recalled : {memo : List ℕ} {r : ℕ} {own' st tr : List ℕ} → Known code memo → Recalled memo p b own r own' → 0 < r
         → Came code p own (Values r) own' st tr
     recalled {memo} {r} {own'} k f l =
-        let here = f .found (λ z. omega arith) in
-        let row = k .rows p few (λ z. omega (arith, here .1)) in
-        record { size = rw (here .2) (row .size); shows = rw (givens-are (here .0), here .1, here .2) (row .shows) }
+        let ne : r ≡ 0 → ⊥ = λ z. omega arith in
+        let row = kept-found _ k few f ne in
+        record { size = row .size; shows = rw (givens-are (f .found ne .0)) (row .shows) }
 
-    module _ {memo memo' own' : List ℕ} {count : ℕ} (k : Known code memo) (c : CameTo code p own (Values count) own') where
-      kept-row : Noted own' count p memo memo' → b ≡ true → CameTo code p [] (Values (rowCount memo' p)) (rowCells memo' p)
-      kept-row w t =
-          rw (w .counts, w .cells) (record { size = c .size; shows = rw (← givens-are t) (c .shows) })
-
-      other-row : Noted own' count p memo memo' → (q : ℕ) → q < 32 → (q ≡ p → ⊥) → (rowCount memo' q ≡ 0 → ⊥)
-          → CameTo code q [] (Values (rowCount memo' q)) (rowCells memo' q)
-      other-row w q l n o =
-          let same = w .others q l n in
-          rw (same .0, same .1) (k .rows q l (λ z. o (same .0 ∙ z)))
-
-      pub noted : length memo' ≡ length memo → Remembered own' count p b memo memo' → Known code memo'
-      noted s m =
-          ⊎-elim
-          (λ t.
-          let w = m .noted t in
-          record {
-            size = s ∙ k .size;
-            rows = λ q l o.
-                ⊎-elim
-                (λ h. let z : q ≡ p = eqb-true q p h in subst (λ (i : ℕ). CameTo code i [] (Values (rowCount memo' i)) (rowCells memo' i)) (sym z) (kept-row w t))
-                (λ h. other-row w q l (eqb-false q p h) o)
-                (decide (eqb q p));
-          })
-          (λ t. rw (m .kept t) k)
-          (decide b)
+    pub noted : {memo memo' own' : List ℕ} {count : ℕ} → Known code memo → CameTo code p own (Values count) own' → length memo' ≡ length memo
+        → Remembered own' count p b memo memo' → Known code memo'
+    noted k c s m =
+        kept-noted _ k few m (s ∙ k .size) (λ t. record { size = c .size; shows = rw (← givens-are t) (c .shows) })
 
 pub nothing-known : (code : List ℕ) → Known code (replicate 1056 0)
-unfolding rowCount
-nothing-known code =
-    record {
-      size = length-replicate {A = ℕ} 1056 0;
-      rows = λ q l ne. absurd (ne (getD-replicate {A = ℕ} 1056 (q * 33) 0 0 (omega arith)));
-    }
+nothing-known code = nothing-kept _

@@ -19,7 +19,7 @@ use Rattle.blocks.specs.declared.Ran.{Ran}
 use Rattle.blocks.specs.declared.Ran.the-variants.{Values, Ended, Stuck, NoRoom}
 use Rattle.instructions.specs.Views.{tab, givensAt, valuesIn, memory}
 use Rattle.instructions.specs.Effects.{variablesIn, subScopesIn}
-use Rattle.cells.specs.Rows.{rowCount, rowCells}
+use Rattle.cells.specs.Rows.{Kept}
 
 -- n cells from v on are not 0
 unfoldable pub nonzero : List ℕ → ℕ → ℕ → Bool
@@ -86,6 +86,5 @@ pub record CameTo (code : List ℕ) (p : ℕ) (given : List ℕ) (r : Ran) (own 
   pub shows : Shows r (runAt code p (givensAt given 0 (variablesAt code p))) own (variablesAt code p) ⊥
 
 -- every row that has a count is what entering its block with nothing given comes to
-pub record Known (code memo : List ℕ) : Type 0 where
-  pub size : length memo ≡ 1056
-  pub rows : (q : ℕ) → q < 32 → (rowCount memo q ≡ 0 → ⊥) → CameTo code q [] (Values (rowCount memo q)) (rowCells memo q)
+abbrev pub Known : List ℕ → List ℕ → Type 0
+Known code memo = Kept (λ q count cells. CameTo code q [] (Values count) cells) memo

@@ -1,23 +1,25 @@
 -- Cells that are copied, and rows that are read and written.
 --     copied-none, copied-more, copied-all    a loop that copies cells
 --     absent-none, absent-more, ungiven-*     a loop that looks for what is given
---     not-recalled, recalled                  a row that is read
+--     not-asked, not-known, recalled          a row that is read
 --     not-noted, noted                        a row that is written
+--     nothing-kept, kept-found, kept-noted    tables whose rows are as they must be
 -- Assumes nothing.
 use Prim.Native.Nat.{ℕ, zero, suc, _+_, _*_, _<_, _≤_}
 use mathlib.Core.Path.{_≡_, refl, sym, ap, subst, _∙_}
-use mathlib.Core.Bool.{Bool, true, false, false≢true}
+use mathlib.Core.Bool.{Bool, true, false, cond, false≢true}
 use mathlib.Core.List.{List}
 use mathlib.Core.Logic.{_⊎_, inl, inr, ⊎-elim}
 use native.Mathlib.Omega.{arith}
-use lib.ListN.{length, getD, set, take, drop, length-set, length-take, length-drop}
+use lib.ListN.{length, getD, set, take, drop, replicate, length-set, length-take, length-drop, length-replicate, getD-replicate}
 use lib.Seq.{ext-getD, getD-set-same, getD-set-other, getD-take, getD-drop}
 use lib.Dec.{eqb, ltb}
 use borrow.Author.Tests.{eqb-true, eqb-false, ltb-true, ltb-false}
 use Rattle.calculus.specs.declared.Given.{Given}
-use Rattle.calculus.specs.declared.Given.the-variants.{Absent}
+use Rattle.calculus.specs.declared.Given.the-variants.{Absent, Present}
+use Rattle.calculus.specs.declared.Value.{Value}
 use Rattle.cells.specs.Cells.{givenAt}
-use Rattle.cells.specs.Rows.{Copying, Copied, Ungiven, rowCount, rowCells, RowRoom, Recalled, Noted, Remembered}
+use Rattle.cells.specs.Rows.{Copying, Copied, NoneGiven, Ungiven, rowCount, rowCells, RowRoom, Recalled, Noted, Remembered, Kept}
 
 decide : (a : Bool) → (a ≡ true) ⊎ (a ≡ false)
 decide true = inl refl
@@ -54,24 +56,21 @@ copied-all {from} {start} {v} {before} {at} {to} a b c =
 
 -- What is given
 
-abbrev pub Absents : List ℕ → ℕ → Type 0
-Absents given v = (u : ℕ) → u < v → givenAt given u ≡ Absent
-
-pub absent-none : (given : List ℕ) → Absents given 0
+pub absent-none : (given : List ℕ) → NoneGiven given 0
 absent-none given u l = absurd (omega arith)
 
-pub absent-more : (given : List ℕ) (v : ℕ) → Absents given v → (g : Given) → g ≡ givenAt given v → g ≡ Absent → Absents given (v + 1)
+pub absent-more : (given : List ℕ) (v : ℕ) → NoneGiven given v → (g : Given) → g ≡ givenAt given v → g ≡ Absent → NoneGiven given (v + 1)
 absent-more given v h g e a u l =
     ⊎-elim
     (λ (q : ltb u v ≡ true). h u (ltb-true u v q))
     (λ (q : ltb u v ≡ false). let z : u ≡ v = omega (arith, ltb-false u v q) in rw z (sym e ∙ a))
     (decide (ltb u v))
 
-pub ungiven-false : {given : List ℕ} {n : ℕ} → Ungiven given n false
-ungiven-false = record { none = λ e. absurd (false≢true e) }
+pub ungiven-false : {given : List ℕ} {n v : ℕ} {g : Given} {x : Value} → v < n → g ≡ givenAt given v → g ≡ Present x → Ungiven given n false
+ungiven-false {v = v} l e p = record { none = λ f. absurd (false≢true f); if-none = λ h. let k = sym (h v l) ∙ sym e ∙ p in cc }
 
-pub ungiven-true : {given : List ℕ} {n v : ℕ} → Absents given v → n ≤ v → Ungiven given n true
-ungiven-true h l = record { none = λ e u m. h u (omega arith) }
+pub ungiven-true : {given : List ℕ} {n v : ℕ} → NoneGiven given v → n ≤ v → Ungiven given n true
+ungiven-true h l = record { none = λ e u m. h u (omega arith); if-none = λ z. refl }
 
 -- Rows
 
@@ -94,8 +93,12 @@ row-is memo i own s l r k =
     ext-getD 0 (rowCells memo i) own (n ∙ sym r) (λ x h. let w : x < 32 = omega arith in cells-at memo i x w ∙ k x w)
 
 module _ {i : ℕ} {own memo : List ℕ} (n : RowRoom i own memo) where
-  pub not-recalled : {asked : Bool} {r : ℕ} → r ≡ 0 → Recalled memo i asked own r own
-  not-recalled e = record { kept = λ z. refl; found = λ ne. absurd (ne e) }
+  pub not-asked : {asked : Bool} → asked ≡ false → Recalled memo i asked own 0 own
+  not-asked a = record { answer = rw a refl; kept = λ z. refl; found = λ ne. absurd (ne refl) }
+
+  pub not-known : {asked : Bool} → asked ≡ true → getD memo (i * 33) 0 ≡ 0 → Recalled memo i asked own 0 own
+  unfolding rowCount
+  not-known a e = record { answer = rw a (sym e); kept = λ z. refl; found = λ ne. absurd (ne refl) }
 
   pub recalled : {own' : List ℕ} {asked : Bool} {r : ℕ} → asked ≡ true → r ≡ getD memo (i * 33) 0 → (r ≡ 0 → ⊥) → Copied memo (i * 33 + 1) 32 own 0 own'
       → Recalled memo i asked own r own'
@@ -103,7 +106,7 @@ module _ {i : ℕ} {own memo : List ℕ} (n : RowRoom i own memo) where
   recalled {own'} a e ne c =
       let same = row-is memo i own' (n .size) (n .row) (c .size ∙ n .room)
       (λ x l. let z : 0 + x ≡ x = omega arith in sym (c .inside x l) ∙ ap (λ (y : ℕ). getD own' y 0) z) in
-      record { kept = λ z. absurd (ne z); found = λ f. (a, e, sym same) }
+      record { answer = rw a e; kept = λ z. absurd (ne z); found = λ f. (a, sym same) }
 
   pub not-noted : {count : ℕ} {asked : Bool} → asked ≡ false → Remembered own count i asked memo memo
   not-noted e = record { kept = λ z. refl; noted = λ z. absurd (false≢true (sym e ∙ z)) }
@@ -156,3 +159,39 @@ module _ {i : ℕ} {own memo : List ℕ} (n : RowRoom i own memo) where
           noted = λ z.
               record { counts = getD-set-same memo' (i * 33) count 0 there; cells = mine; others = λ j l ne. (other-count j ne, other-cells j l ne) };
         }
+
+-- Tables of rows
+
+module _ (Right : ℕ → ℕ → List ℕ → Type 0) where
+  pub nothing-kept : Kept Right (replicate 1056 0)
+  unfolding rowCount
+  nothing-kept =
+      record {
+        size = length-replicate {A = ℕ} 1056 0;
+        rows = λ i l ne. absurd (ne (getD-replicate {A = ℕ} 1056 (i * 33) 0 0 (omega arith)));
+      }
+
+  module _ {i : ℕ} {memo : List ℕ} {asked : Bool} (k : Kept Right memo) (l : i < 32) where
+    pub kept-found : {own own' : List ℕ} {r : ℕ} → Recalled memo i asked own r own' → (r ≡ 0 → ⊥) → Right i r own'
+    kept-found {own} {own'} {r} f ne =
+        let here = f .found ne in
+        let count : r ≡ rowCount memo i = f .answer ∙ ap (λ (a : Bool). cond a (rowCount memo i) 0) (here .0) in
+        rw (count, here .1) (k .rows i l (λ z. ne (count ∙ z)))
+
+    pub kept-noted : {own memo' : List ℕ} {count : ℕ} → Remembered own count i asked memo memo' → length memo' ≡ 1056
+        → (asked ≡ true → Right i count own) → Kept Right memo'
+    kept-noted {own} {memo'} {count} m s right = ⊎-elim added (λ (e : asked ≡ false). rw (m .kept e) k) (decide asked)
+      where
+        added : asked ≡ true → Kept Right memo'
+        added e =
+            let w = m .noted e in
+            record {
+              size = s;
+              rows = λ j h ne.
+                  ⊎-elim
+                  (λ (q : eqb j i ≡ true). rw (eqb-true j i q, w .counts, w .cells) (right e))
+                  (λ (q : eqb j i ≡ false).
+                  let o = w .others j h (eqb-false j i q) in
+                  rw (o .0, o .1) (k .rows j h (λ z. ne (o .0 ∙ z))))
+                  (decide (eqb j i));
+            }

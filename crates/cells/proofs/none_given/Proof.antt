@@ -3,12 +3,13 @@
 use Prim.Native.Nat.{_-_}
 use native.Mathlib.Omega.{arith}
 use borrow.Author.Needs.{needs}
-use Rattle.cells.proofs.Rows.{Absents, absent-none, absent-more, ungiven-false, ungiven-true}
+use Rattle.cells.specs.Rows.{NoneGiven}
+use Rattle.cells.proofs.Rows.{absent-none, absent-more, ungiven-false, ungiven-true}
 use Rattle.cells.proofs.none_given.Statement.{statement}
 use Rattle.cells.proofs.none_given.Tie as tie
 
 abbrev Inv-loop : tie.InvT-loop
-Inv-loop given count v₀ v = Absents given v
+Inv-loop given count v₀ v = NoneGiven given v
 
 abbrev μ-loop : tie.MeasureT-loop
 μ-loop given count v₀ v = count - v
@@ -26,7 +27,7 @@ enum-told-2 : tie.Need-enum-told-2 Inv-loop μ-loop
 enum-told-2 c = search needs
 
 returns : tie.Need-returns Inv-loop μ-loop
-returns c = ungiven-false
+returns c = ungiven-false (c .before .before .before .loop-test .taken) (c .before .before .given-at .ensures) (c .enum-told2 .given .1)
 
 add-v : tie.Need-add-v Inv-loop μ-loop
 add-v c = search needs

@@ -1,14 +1,14 @@
 -- `cells::recall` meets its contract.
 -- Assumes nothing.
 use mathlib.Core.Path.{refl}
-use borrow.Author.Tests.{not-false}
-use Rattle.cells.proofs.Rows.{not-recalled, recalled}
+use borrow.Author.Tests.{not-false, not-true}
+use Rattle.cells.proofs.Rows.{not-asked, not-known, recalled}
 use borrow.Author.Needs.{needs}
 use Rattle.cells.proofs.recall.Statement.{statement}
 use Rattle.cells.proofs.recall.Tie as tie
 
 returns : tie.Need-returns
-returns c = not-recalled (c .before .before .before .pre) refl
+returns c = not-asked (c .before .before .before .pre) (not-true _ (c .if1 .taken))
 
 mul-known : tie.Need-mul-known
 mul-known c = search needs
@@ -20,7 +20,7 @@ shared-slice-read-known : tie.Need-shared-slice-read-known
 shared-slice-read-known c = search needs
 
 returns-2 : tie.Need-returns-2
-returns-2 c = not-recalled (c .before .before .before .before .before .pre) refl
+returns-2 c = not-known (c .before .before .before .before .before .pre) (not-false _ (c .before .before .if1 .left)) (c .if2 .taken)
 
 mul-copy-cells : tie.Need-mul-copy-cells
 mul-copy-cells c = search needs
