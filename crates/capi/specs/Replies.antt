@@ -7,13 +7,13 @@ use Rattle.evaluation.specs.Evaluate.{Reply, evaluate, memoryAfter}
 use Rattle.machine.specs.Service.{run}
 use Rattle.capi.specs.Packed.{packedAnswer}
 
--- those of a reply, which depends on the length of the memory
-pub record PackedReply (reply : ℕ → Reply) (before : List ℕ) (r : ℕ) (after : List ℕ) : Type 0 where
-  pub answer : r ≡ packedAnswer (reply (length before) .answer)
-  pub memory : after ≡ memoryAfter (reply (length before)) before
+-- those of a reply, its answer as one number
+pub record PackedReply (reply : Reply) (before : List ℕ) (r : ℕ) (after : List ℕ) : Type 0 where
+  pub answer : r ≡ packedAnswer (reply .answer)
+  pub memory : after ≡ memoryAfter reply before
 
 abbrev pub PackedEvaluation : List ℕ → ℕ → List ℕ → List ℕ → ℕ → List ℕ → Type 0
-PackedEvaluation bytes i list = PackedReply (evaluate bytes i list)
+PackedEvaluation bytes i list before = PackedReply (evaluate bytes i list (length before)) before
 
 abbrev pub PackedRun : List ℕ → ℕ → List ℕ → List ℕ → ℕ → List ℕ → Type 0
-PackedRun code i list = PackedReply (run code i list)
+PackedRun code i list before = PackedReply (run code i list (length before)) before

@@ -5,4 +5,5 @@ pub mod Soundness
 pub mod Trees
 pub mod Readiness
 pub mod Types
+pub mod Replies
 pub mod Answers

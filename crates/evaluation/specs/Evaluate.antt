@@ -1,5 +1,6 @@
 -- The service: what evaluating answers, and what every byte of the result memory holds afterwards.
 use Prim.Native.Nat.{ℕ}
+use mathlib.Core.Path.{_≡_}
 use mathlib.Core.Bool.{cond}
 use mathlib.Core.List.{List, [], _++_, reverse}
 use lib.ListN.{length, drop}
@@ -78,3 +79,8 @@ evaluate book i bytes room = onJudged (judge book) (asked (scopesOf book) i byte
 -- "Lent memory changes only where code or values are written, from its first byte, and nothing after them"
 unfoldable pub memoryAfter : Reply → List ℕ → List ℕ
 memoryAfter r memory = r .written ++ drop (length (r .written)) memory
+
+-- the answer, and the result memory before and after, are those of a reply
+pub record Replies (reply : Reply) (before : List ℕ) (r : Answer) (after : List ℕ) : Type 0 where
+  pub answer : r ≡ reply .answer
+  pub memory : after ≡ memoryAfter reply before

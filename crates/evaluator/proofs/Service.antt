@@ -5,7 +5,7 @@
 --     values-so, ends-so                  the answer of a run
 -- Assumes nothing.
 use Prim.Native.Nat.{ℕ, zero, suc, _+_, _*_, _<_, _≤_}
-use mathlib.Core.Path.{_≡_, sym, ap, subst, _∙_}
+use mathlib.Core.Path.{_≡_, refl, sym, ap, subst, _∙_}
 use mathlib.Core.Bool.{true, false≢true}
 use mathlib.Core.List.{List, [], _∷_, reverse}
 use native.Mathlib.Omega.{arith}
@@ -36,15 +36,15 @@ use Rattle.lists.specs.Results.{resultLength, results}
 use Rattle.lists.specs.Writing.{valuesFrom, valuesOf, valueType, isOf, resultLengthAt, resultMemory}
 use Rattle.lists.specs.Writing as writing
 use Rattle.trees.specs.Links.{Sound, Blanks, AllLinked}
-use Rattle.evaluation.specs.Run.{Entered, values, ended, enter}
+use Rattle.evaluation.specs.Run.{values, ended, enter}
 use Rattle.evaluation.specs.Types.{Fitting, ValuesFit}
-use Rattle.evaluation.specs.Evaluate.{Reply, replyOf, evaluate, asked, memoryAfter, refuse, onJudged}
-use Rattle.evaluation.specs.declared.Refusal.{Refusal}
+use Rattle.evaluation.specs.Evaluate.{replyOf, evaluate, asked, memoryAfter, refuse, onJudged}
 use Rattle.evaluation.specs.declared.Refusal.the-variants.{Book, NoSuchScope, BadInput, BufferTooSmall}
 use Rattle.evaluation.specs.declared.Answer.{Answer}
 use Rattle.book.proofs.Same.{same-self}
 use Rattle.evaluation.specs.declared.Answer.the-variants.{Values, Ended, Refused}
 use Rattle.evaluation.proofs.Entering.{accepted-complete}
+use Rattle.evaluation.proofs.Replies.{same-reply, refuses}
 use Rattle.evaluation.proofs.Types.{inputs-fitting, values-typed, values-length}
 use Rattle.evaluator.specs.Steps.{givensFrom, enteredAt, ranView, Came}
 use Rattle.evaluator.specs.Known.{Known, Entry}
@@ -53,21 +53,10 @@ use Rattle.evaluator.specs.declared.Ran.{Ran}
 use Rattle.evaluator.specs.declared.Ran.the-variants as ran
 use Rattle.evaluator.proofs.Cells.{givens-list}
 
--- a reply, by what it is equal to
-replies : {bytes : List ℕ} {i : ℕ} {list memory : List ℕ} (p : Reply) → evaluate bytes i list (length memory) ≡ p
-    → Evaluated bytes i list memory (p .answer) (memoryAfter p memory)
-replies {bytes} {i} {list} {memory} p e =
-    record { answer = sym (ap (λ (q : Reply). q .answer) e); memory = sym (ap (λ (q : Reply). memoryAfter q memory) e) }
-
-refuses : {bytes : List ℕ} {i : ℕ} {list memory : List ℕ} (r : Refusal) → evaluate bytes i list (length memory) ≡ refuse r
-    → Evaluated bytes i list memory (Refused r) memory
-unfolding memoryAfter
-refuses r e = replies (refuse r) e
-
-pub refused-book : {bytes : List ℕ} {i : ℕ} {list memory : List ℕ} {f : Fault} → judge bytes ≡ judged.Refused f
+pub refused-book : (bytes : List ℕ) (i : ℕ) (list : List ℕ) {memory : List ℕ} {f : Fault} → judge bytes ≡ judged.Refused f
     → Evaluated bytes i list memory (Refused (Book f)) memory
 unfolding evaluate
-refused-book {bytes} {i} {list} {memory} {f} e = refuses (Book f) (ap (λ (j : Judged). onJudged j (asked (scopesOf bytes) i list (length memory))) e)
+refused-book bytes i list {memory} {f} e = refuses (Book f) (ap (λ (j : Judged). onJudged j (asked (scopesOf bytes) i list (length memory))) e)
 
 module _ (bytes : List ℕ) (n i : ℕ) (ok : judge bytes ≡ judged.Accepted n) where
   is-asked : (list : List ℕ) (room : ℕ) → evaluate bytes i list room ≡ asked (scopesOf bytes) i list room
@@ -77,17 +66,17 @@ module _ (bytes : List ℕ) (n i : ℕ) (ok : judge bytes ≡ judged.Accepted n)
   count : n ≡ length (scopesOf bytes)
   count = accepted-count bytes n ok
 
-  pub refused-scope : {list memory : List ℕ} → n ≤ i → Evaluated bytes i list memory (Refused NoSuchScope) memory
+  pub refused-scope : (list : List ℕ) {memory : List ℕ} → n ≤ i → Evaluated bytes i list memory (Refused NoSuchScope) memory
   unfolding asked
-  refused-scope {list} {memory} l = refuses NoSuchScope (is-asked list (length memory) ∙ none)
+  refused-scope list {memory} l = refuses NoSuchScope (is-asked list (length memory) ∙ none)
     where
       none : asked (scopesOf bytes) i list (length memory) ≡ refuse NoSuchScope
       none = rw (le-ltb i (length (scopesOf bytes)) (omega (arith, count)))
 
   module _ (here : i < n) where
-    pub refused-input : {list memory : List ℕ} → inputs (scopeAt (scopesOf bytes) i .variables) list ≡ bad → Evaluated bytes i list memory (Refused BadInput) memory
+    pub refused-input : (list : List ℕ) {memory : List ℕ} → inputs (scopeAt (scopesOf bytes) i .variables) list ≡ bad → Evaluated bytes i list memory (Refused BadInput) memory
     unfolding asked
-    refused-input {list} {memory} e = refuses BadInput (is-asked list (length memory) ∙ none)
+    refused-input list {memory} e = refuses BadInput (is-asked list (length memory) ∙ none)
       where
         none : asked (scopesOf bytes) i list (length memory) ≡ refuse BadInput
         none = rw (lt-ltb i (length (scopesOf bytes)) (omega (arith, count)), e)
@@ -114,10 +103,7 @@ module _ (bytes : List ℕ) (n i : ℕ) (ok : judge bytes ≡ judged.Accepted n)
       evaluated {memory} {after} {r} l q =
           let e : evaluate bytes i list (length memory) ≡ replyOf (enter (scopesOf bytes) (reverse (blocks (scopesOf bytes))) i (givensFrom given 0 (length (scopeAt (scopesOf bytes) i .variables)))) =
           is-asked list (length memory) ∙ there ∙ ap (λ (gs : List Given). replyOf (enter (scopesOf bytes) (reverse (blocks (scopesOf bytes))) i gs)) (sym same-givens) in
-          record {
-            answer = q .answer ∙ sym (ap (λ (p : Reply). p .answer) e);
-            memory = q .memory ∙ sym (ap (λ (p : Reply). memoryAfter p memory) e);
-          }
+          same-reply e q
         where
           there : asked (scopesOf bytes) i list (length memory) ≡ replyOf (enter (scopesOf bytes) (reverse (blocks (scopesOf bytes))) i (taken .givens))
           there = rw (lt-ltb i (length (scopesOf bytes)) (omega (arith, count)), taken .list, le-leb (resultLength (scopeAt (scopesOf bytes) i .variables)) (length memory) l)
@@ -184,7 +170,7 @@ module _ {bytes places counts orders : List ℕ} {n i : ℕ} {given memory : Lis
     unfolding memoryAfter
     ends-so {c} {m} e =
         let same : enteredAt bytes i given ≡ ended c m = sym (came .same) ∙ ap (λ (z : Ran). ranView z own (length (scopeAt (scopesOf bytes) i .variables))) e in
-        record { answer = ap (λ (z : Entered). replyOf z .answer) (sym same); memory = ap (λ (z : Entered). memoryAfter (replyOf z) memory) (sym same) }
+        same-reply (ap replyOf same) (record { answer = refl; memory = refl })
 
     module _ {m : ℕ} (e : r ≡ ran.Values m) where
       same : enteredAt bytes i given ≡ values (valuesOf own (length (scopeAt (scopesOf bytes) i .variables))) m
@@ -212,7 +198,4 @@ module _ {bytes places counts orders : List ℕ} {n i : ℕ} {given memory : Lis
           → Replied bytes i given memory (Values m size) after
       unfolding resultLengthAt resultMemory memoryAfter
       values-so {size} {after} s q =
-          record {
-            answer = ap (Values m) (s ∙ size-known) ∙ ap (λ (z : Entered). replyOf z .answer) (sym same);
-            memory = q ∙ ap (λ (z : Entered). memoryAfter (replyOf z) memory) (sym same);
-          }
+          same-reply (ap replyOf same) (record { answer = ap (Values m) (s ∙ size-known); memory = q })

@@ -11,7 +11,7 @@ use Rattle.book.specs.Tables.{Laid}
 use Rattle.book.specs.declared.Judged.the-variants.{Accepted}
 use Rattle.lists.specs.Writing.{resultLengthAt}
 use Rattle.evaluation.specs.Types.{Fitting}
-use Rattle.evaluation.specs.Evaluate.{replyOf, evaluate, memoryAfter}
+use Rattle.evaluation.specs.Evaluate.{replyOf, evaluate, Replies}
 use Rattle.evaluation.specs.declared.Answer.{Answer}
 use Rattle.evaluator.specs.Steps.{givensFrom, enteredAt}
 
@@ -30,11 +30,9 @@ pub record Asked (bytes places counts orders : List ℕ) (n i : ℕ) (given memo
   pub room : resultLengthAt (scopesOf bytes) i ≤ length memory
 
 -- the answer and the memory are those of a run with what the cells give
-pub record Replied (bytes : List ℕ) (i : ℕ) (given before : List ℕ) (r : Answer) (after : List ℕ) : Type 0 where
-  pub answer : r ≡ replyOf (enteredAt bytes i given) .answer
-  pub memory : after ≡ memoryAfter (replyOf (enteredAt bytes i given)) before
+abbrev pub Replied : List ℕ → ℕ → List ℕ → List ℕ → Answer → List ℕ → Type 0
+Replied bytes i given = Replies (replyOf (enteredAt bytes i given))
 
 -- the answer and the memory are those of evaluating
-pub record Evaluated (bytes : List ℕ) (i : ℕ) (list before : List ℕ) (r : Answer) (after : List ℕ) : Type 0 where
-  pub answer : r ≡ evaluate bytes i list (length before) .answer
-  pub memory : after ≡ memoryAfter (evaluate bytes i list (length before)) before
+abbrev pub Evaluated : List ℕ → ℕ → List ℕ → List ℕ → Answer → List ℕ → Type 0
+Evaluated bytes i list before = Replies (evaluate bytes i list (length before)) before

@@ -25,12 +25,12 @@ use Rattle.lists.specs.Writing.{valuesOf, written}
 use Rattle.lists.proofs.Types.{typed-count}
 use Rattle.evaluation.specs.Run.{values}
 use Rattle.evaluation.specs.Types.{Fitting}
-use Rattle.evaluation.specs.Evaluate.{Reply, memoryAfter, refuse}
-use Rattle.evaluation.specs.declared.Refusal.{Refusal}
+use Rattle.evaluation.specs.Evaluate.{memoryAfter}
 use Rattle.evaluation.specs.declared.Refusal.the-variants as refusal
 use Rattle.evaluation.specs.declared.Answer.{Answer}
 use Rattle.evaluation.specs.declared.Answer.the-variants.{Values, Ended, Refused}
 use Rattle.evaluation.proofs.Types.{inputs-fitting}
+use Rattle.evaluation.proofs.Replies.{same-reply, refuses}
 use Rattle.machine.specs.Blocks.{blocksOf, variablesOf}
 use Rattle.machine.specs.Machine as machine
 use Rattle.machine.specs.Run.{runIn}
@@ -47,21 +47,12 @@ use Rattle.blocks.proofs.Scopes.{has-none, is-block, has-one, scope-variables, 
 use Rattle.runner.specs.Service.{Runs, Ready, typesIn, Asked, Replied}
 use Rattle.runner.proofs.Types.{types-are}
 
--- a reply, by what it is equal to
-replies : {code : List ℕ} {i : ℕ} {list memory : List ℕ} (p : Reply) → run code i list (length memory) ≡ p → Runs code i list memory (p .answer) (memoryAfter p memory)
-replies {code} {i} {list} {memory} p e =
-    record { answer = sym (ap (λ (q : Reply). q .answer) e); memory = sym (ap (λ (q : Reply). memoryAfter q memory) e) }
-
-refuses : {code : List ℕ} {i : ℕ} {list memory : List ℕ} (r : Refusal) → run code i list (length memory) ≡ refuse r → Runs code i list memory (Refused r) memory
-unfolding memoryAfter
-refuses r e = replies (refuse r) e
-
 -- Judging
 
-pub refused-code : {code : List ℕ} (spans heads places : List ℕ) {i : ℕ} {list memory : List ℕ} (v : Verdict) → v ≡ verdict.Refused → Judged code spans heads places v
+pub refused-code : (code spans heads places : List ℕ) (i : ℕ) (list : List ℕ) {memory : List ℕ} (v : Verdict) → v ≡ verdict.Refused → Judged code spans heads places v
     → Runs code i list memory (Refused refusal.BadCode) memory
 unfolding run
-refused-code spans heads places v e j = refuses refusal.BadCode (rw (rw e at j))
+refused-code code spans heads places i list v e j = refuses refusal.BadCode (rw (rw e at j))
 
 pub ready : {code spans heads places : List ℕ} {n : ℕ} (v : Verdict) → v ≡ verdict.Accepted n → Judged code spans heads places v → Room spans heads places
     → Ready code spans heads places
@@ -76,9 +67,9 @@ module _ {code spans heads places : List ℕ} (o : Ready code spans heads places
   unfolding run
   is-asked list room = rw (o .accepts)
 
-  pub refused-scope : {list memory : List ℕ} → getD places i 0 ≡ 0 → Runs code i list memory (Refused refusal.NoSuchScope) memory
+  pub refused-scope : (list : List ℕ) {memory : List ℕ} → getD places i 0 ≡ 0 → Runs code i list memory (Refused refusal.NoSuchScope) memory
   unfolding asked
-  refused-scope {list} {memory} z = refuses refusal.NoSuchScope (is-asked list (length memory) ∙ rw (has-none (o .accepts) (o .tabled) i z))
+  refused-scope list {memory} z = refuses refusal.NoSuchScope (is-asked list (length memory) ∙ rw (has-none (o .accepts) (o .tabled) i z))
 
   module _ (place : ℕ) (e : place ≡ getD places i 0) (there : place ≡ 0 → ⊥) where
     small : i < 32
@@ -123,8 +114,8 @@ module _ {code spans heads places : List ℕ} (o : Ready code spans heads places
       pub are-typed : typed types ≡ variables
       are-typed = ap typed t ∙ types-are o p block-there
 
-      pub refused-input : {list memory : List ℕ} → inputs (typed types) list ≡ bad → Runs code i list memory (Refused refusal.BadInput) memory
-      refused-input {list} {memory} b = refuses refusal.BadInput (is-there list (length memory) ∙ rw (rw are-typed at b))
+      pub refused-input : (list : List ℕ) {memory : List ℕ} → inputs (typed types) list ≡ bad → Runs code i list memory (Refused refusal.BadInput) memory
+      refused-input list {memory} b = refuses refusal.BadInput (is-there list (length memory) ∙ rw (rw are-typed at b))
 
       module _ {list given : List ℕ} (taken : Taken (typed types) list given) where
         is-good : inputs variables list ≡ good (taken .givens)
@@ -154,10 +145,7 @@ module _ {code spans heads places : List ℕ} (o : Ready code spans heads places
         answers {memory} {after} {r} l q =
             let k : run code i list (length memory) ≡ reply (runAt code p (givensAt given 0 (variablesAt code p))) =
             is-there list (length memory) ∙ good-list ∙ ap (λ (gs : List Given). reply (runAt code p gs)) (sym same-givens) in
-            record {
-              answer = q .answer ∙ sym (ap (λ (z : Reply). z .answer) k);
-              memory = q .memory ∙ sym (ap (λ (z : Reply). memoryAfter z memory) k);
-            }
+            same-reply k q
           where
             good-list : onInputs (inputs variables list) (length memory) (blocksOf code) i ≡ reply (runAt code p (taken .givens))
             good-list = rw (is-good, the-variables, le-leb (resultLength variables) (length memory) (rw are-typed at l), the-run (taken .givens))
@@ -182,7 +170,7 @@ module _ {code spans heads places : List ℕ} {p : ℕ} {types given memory : Li
 
     replied : {m : machine.Ran} {answer : Answer} {after : List ℕ} → runAt code p gs ≡ m → answer ≡ reply m .answer → after ≡ memoryAfter (reply m) memory
         → Replied code p given memory answer after
-    replied {m} e x y = record { answer = rw e x; memory = rw e y }
+    replied e x y = same-reply (ap reply e) (record { answer = x; memory = y })
 
     pub ends-so : {c : Cause} {m : ℕ} → r ≡ ran.Ended c m → Replied code p given memory (Ended c m) memory
     unfolding memoryAfter

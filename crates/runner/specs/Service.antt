@@ -7,7 +7,7 @@ use lib.ListN.{length, getD, take, drop}
 use Rattle.lists.specs.Reading.{typed}
 use Rattle.lists.specs.Results.{resultLength}
 use Rattle.evaluation.specs.Types.{Fitting}
-use Rattle.evaluation.specs.Evaluate.{memoryAfter}
+use Rattle.evaluation.specs.Evaluate.{Replies}
 use Rattle.evaluation.specs.declared.Answer.{Answer}
 use Rattle.machine.specs.Acceptance.{accepted}
 use Rattle.machine.specs.Service.{reply, run}
@@ -16,9 +16,8 @@ use Rattle.instructions.specs.Views.{givensAt}
 use Rattle.blocks.specs.Entries.{runAt, variablesAt}
 
 -- the answer and the memory are those of running
-pub record Runs (code : List ℕ) (i : ℕ) (list before : List ℕ) (r : Answer) (after : List ℕ) : Type 0 where
-  pub answer : r ≡ run code i list (length before) .answer
-  pub memory : after ≡ memoryAfter (run code i list (length before)) before
+abbrev pub Runs : List ℕ → ℕ → List ℕ → List ℕ → Answer → List ℕ → Type 0
+Runs code i list before = Replies (run code i list (length before)) before
 
 -- accepted code with its tables
 pub record Ready (code spans heads places : List ℕ) : Type 0 where
@@ -40,6 +39,5 @@ pub record Asked (code spans heads places : List ℕ) (p : ℕ) (types given mem
   pub room : resultLength (blockAt code p .variables) ≤ length memory
 
 -- the answer and the memory are those of entering block p with what the cells give
-pub record Replied (code : List ℕ) (p : ℕ) (given before : List ℕ) (r : Answer) (after : List ℕ) : Type 0 where
-  pub answer : r ≡ reply (runAt code p (givensAt given 0 (variablesAt code p))) .answer
-  pub memory : after ≡ memoryAfter (reply (runAt code p (givensAt given 0 (variablesAt code p)))) before
+abbrev pub Replied : List ℕ → ℕ → List ℕ → List ℕ → Answer → List ℕ → Type 0
+Replied code p given = Replies (reply (runAt code p (givensAt given 0 (variablesAt code p))))

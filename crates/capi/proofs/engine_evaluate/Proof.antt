@@ -1,7 +1,6 @@
 -- `capi::engine_evaluate` meets its contract.
 -- Assumes nothing.
 use borrow.Author.Needs.{needs}
-use Rattle.evaluation.specs.Evaluate.{evaluate}
 use Rattle.capi.proofs.Replies.{packed}
 use Rattle.capi.proofs.engine_evaluate.Statement.{statement}
 use Rattle.capi.proofs.engine_evaluate.Tie as tie
@@ -16,9 +15,7 @@ same-length : tie.Need-same-length
 same-length c = search needs
 
 returns : tie.Need-returns
-returns c =
-    packed (evaluate _ _ _) _ _ _ _ (c .before .before .before .evaluate .ensures .answer) (c .before .before .before .evaluate .ensures .memory)
-    (c .pack .ensures)
+returns c = packed (c .before .before .before .evaluate .ensures) (c .pack .ensures)
 
 pub engine-evaluate-spec : {M : Type 1} → statement M
 engine-evaluate-spec = tie.close (tie.spec evaluate-requires pack-requires same-length returns)

@@ -1,7 +1,6 @@
 -- `capi::engine_run` meets its contract.
 -- Assumes nothing.
 use borrow.Author.Needs.{needs}
-use Rattle.machine.specs.Service.{run}
 use Rattle.capi.proofs.Replies.{packed}
 use Rattle.capi.proofs.engine_run.Statement.{statement}
 use Rattle.capi.proofs.engine_run.Tie as tie
@@ -16,9 +15,7 @@ same-length : tie.Need-same-length
 same-length c = search needs
 
 returns : tie.Need-returns
-returns c =
-    packed (run _ _ _) _ _ _ _ (c .before .before .before .run .ensures .answer) (c .before .before .before .run .ensures .memory)
-    (c .pack .ensures)
+returns c = packed (c .before .before .before .run .ensures) (c .pack .ensures)
 
 pub engine-run-spec : {M : Type 1} → statement M
 engine-run-spec = tie.close (tie.spec run-requires pack-requires same-length returns)

@@ -49,7 +49,7 @@ returns : tie.Need-returns
 returns c = c .before .before .evaluate-accepted .ensures
 
 returns-2 : tie.Need-returns-2
-returns-2 c = refused-book (sym (c .before .before .before .before .before .before .before .before .judge-into .ensures .answer) ∙ c .before .judged2 .given .1)
+returns-2 c = refused-book _ _ _ (sym (c .before .before .before .before .before .before .before .before .judge-into .ensures .answer) ∙ c .before .judged2 .given .1)
 
 pub evaluate-spec : {M : Type 1} → statement M
 evaluate-spec =

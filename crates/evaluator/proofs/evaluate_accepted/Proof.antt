@@ -10,7 +10,7 @@ use Rattle.evaluator.proofs.evaluate_accepted.Statement.{statement}
 use Rattle.evaluator.proofs.evaluate_accepted.Tie as tie
 
 returns : tie.Need-returns
-returns c = refused-scope (now (c .before .before .before .before .before .before .before .args .book)) (c .before .before .before .before .before .before .before .args .n) (c .before .before .before .before .before .before .before .args .i) (c .before .before .before .before .before .before .before .pre .accepted) (c .if1 .taken)
+returns c = refused-scope (now (c .before .before .before .before .before .before .before .args .book)) (c .before .before .before .before .before .before .before .args .n) (c .before .before .before .before .before .before .before .args .i) (c .before .before .before .before .before .before .before .pre .accepted) _ (c .if1 .taken)
 
 slice-aggregate-read-inputs : tie.Need-slice-aggregate-read-inputs
 slice-aggregate-read-inputs c = search needs
@@ -19,7 +19,7 @@ read-inputs-requires : tie.Need-read-inputs-requires
 read-inputs-requires c κs = (c .before .before .before .before .before .before .before .before .pre .laid, (accepted-within _ _ (c .before .before .before .before .before .before .before .before .pre .accepted) (c .before .before .before .before .before .before .before .before .args .i) .variables, refl))
 
 returns-2 : tie.Need-returns-2
-returns-2 c = refused-input (now (c .before .before .before .before .before .before .before .before .before .before .before .args .book)) (c .before .before .before .before .before .before .before .before .before .before .before .args .n) (c .before .before .before .before .before .before .before .before .before .before .before .args .i) (c .before .before .before .before .before .before .before .before .before .before .before .pre .accepted) (c .before .before .before .before .if1 .left) (c .before .before .read-inputs .ensures .refused (not-true _ (c .if2 .taken)))
+returns-2 c = refused-input (now (c .before .before .before .before .before .before .before .before .before .before .before .args .book)) (c .before .before .before .before .before .before .before .before .before .before .before .args .n) (c .before .before .before .before .before .before .before .before .before .before .before .args .i) (c .before .before .before .before .before .before .before .before .before .before .before .pre .accepted) (c .before .before .before .before .if1 .left) _ (c .before .before .read-inputs .ensures .refused (not-true _ (c .if2 .taken)))
 
 result-length-requires : tie.Need-result-length-requires
 result-length-requires c κs = (c .before .before .before .before .before .before .before .before .before .before .before .pre .laid, accepted-within _ _ (c .before .before .before .before .before .before .before .before .before .before .before .pre .accepted) (c .before .before .before .before .before .before .before .before .before .before .before .args .i) .variables)

@@ -42,7 +42,7 @@ returns : tie.Need-returns
 returns c = search needs
 
 returns-2 : tie.Need-returns-2
-returns-2 c = refused-code _ _ _ _ (c .enum-told2 .given .1) (c .before .before .before .before .before .verify .ensures)
+returns-2 c = refused-code _ _ _ _ _ _ _ (c .enum-told2 .given .1) (c .before .before .before .before .before .verify .ensures)
 
 pub run-spec : {M : Type 1} → statement M
 run-spec =

@@ -15,7 +15,7 @@ cast-place : tie.Need-cast-place
 cast-place c = search needs
 
 returns : tie.Need-returns
-returns c = refused-scope (c .before .before .before .before .before .before .before .before .pre) (c .before .before .before .before .before .before .before .before .args .scope) (sym (c .before .byte-at .ensures) ∙ c .if1 .taken)
+returns c = refused-scope (c .before .before .before .before .before .before .before .before .pre) (c .before .before .before .before .before .before .before .before .args .scope) _ (sym (c .before .byte-at .ensures) ∙ c .if1 .taken)
 
 sub-p : tie.Need-sub-p
 sub-p c = search needs
@@ -30,7 +30,7 @@ read-by-requires : tie.Need-read-by-requires
 read-by-requires c κs = (types-few (c .before .before .before .before .before .before .before .before .before .before .pre) _ (block-there (c .before .before .before .before .before .before .before .before .before .before .pre) (c .before .before .before .before .before .before .before .before .before .before .args .scope) _ (c .before .before .before .byte-at .ensures) (c .before .before .if1 .left)) (c .before .types-of .ensures), refl)
 
 returns-2 : tie.Need-returns-2
-returns-2 c = refused-input (c .before .before .before .before .before .before .before .before .before .before .before .before .before .pre) (c .before .before .before .before .before .before .before .before .before .before .before .before .before .args .scope) _ (c .before .before .before .before .before .before .byte-at .ensures) (c .before .before .before .before .before .if1 .left) _ (c .before .before .before .before .types-of .ensures) (c .before .before .read-by .ensures .refused (not-true _ (c .if2 .taken)))
+returns-2 c = refused-input (c .before .before .before .before .before .before .before .before .before .before .before .before .before .pre) (c .before .before .before .before .before .before .before .before .before .before .before .before .before .args .scope) _ (c .before .before .before .before .before .before .byte-at .ensures) (c .before .before .before .before .before .if1 .left) _ (c .before .before .before .before .types-of .ensures) _ (c .before .before .read-by .ensures .refused (not-true _ (c .if2 .taken)))
 
 length-by-requires : tie.Need-length-by-requires
 length-by-requires c κs = types-few (c .before .before .before .before .before .before .before .before .before .before .before .before .before .pre) _ (block-there (c .before .before .before .before .before .before .before .before .before .before .before .before .before .pre) (c .before .before .before .before .before .before .before .before .before .before .before .before .before .args .scope) _ (c .before .before .before .before .before .before .byte-at .ensures) (c .before .before .before .before .before .if1 .left)) (c .before .before .before .before .types-of .ensures)
