@@ -1,14 +1,17 @@
 -- Entering a scope: the laws of `Running`, over the numbers that the code reads from its tables.
---     callee                              a scope that is called has its block before the caller's
+--     earlier, callee                     a scope that is called has its block before the caller's, and can be entered
 --     turn-variable, end-variable, end-hand, turn-call, end-call    a turn of the loop
 -- Assumes nothing.
-use Prim.Native.Nat.{ℕ, suc, _+_, _-_, _*_, _<_, _≤_}
-use mathlib.Core.Path.{_≡_, sym, ap, subst, _∙_}
-use mathlib.Core.Bool.{Bool, true, false, false≢true}
-use mathlib.Core.List.{List, _++_}
+use Prim.Native.Nat.{ℕ, zero, suc, _+_, _-_, _*_, _<_, _≤_}
+use mathlib.Core.Path.{_≡_, refl, sym, ap, subst, _∙_}
+use mathlib.Core.Bool.{Bool, true, false, false≢true, cond}
+use mathlib.Core.List.{List, [], _∷_, _++_}
+use mathlib.Core.Logic.{⊎-elim}
 use native.Mathlib.Omega.{arith}
-use lib.ListN.{length, getD, take, drop, replicate, length-take}
-use lib.Seq.{getD-take, getD-drop}
+use lib.ListN.{length, getD, take, drop, replicate}
+use lib.Seq.{take-all, getD-take, getD-drop}
+use lib.Dec.{eqb}
+use borrow.Author.Tests.{eqb-true}
 use Rattle.calculus.specs.declared.Value.{Value}
 use Rattle.calculus.specs.declared.Cause.{Cause}
 use Rattle.calculus.specs.declared.Outcome.{Outcome}
@@ -21,12 +24,13 @@ use Rattle.book.specs.Scopes.{blocks}
 use Rattle.book.specs.Steps.{stepCount, stepOrder}
 use Rattle.book.specs.Tables.{subScopeAt}
 use Rattle.acceptance.specs.Accepted.{AcceptedBook}
-use Rattle.order.proofs.Among.{among-at, among-place}
+use Rattle.order.proofs.Among.{among-none}
+use Rattle.order.proofs.Booleans.{decide}
 use Rattle.acceptance.proofs.Orders.{accepted-book, blocks-after}
 use Rattle.trees.specs.Chains.{Ready}
 use Rattle.evaluation.specs.Run.{ended}
 use Rattle.evaluation.proofs.Entering.{accepted-complete, accepted-formed}
-use Rattle.evaluator.specs.Steps.{stepOutcome, Stored, HandedAll, enteredAt, Came}
+use Rattle.evaluator.specs.Steps.{stepOutcome, Stored, Assigned, HandedAll, enteredAt, Came}
 use Rattle.evaluator.specs.Known.{Known, Noting, Entry}
 use Rattle.evaluator.specs.declared.Ran.{Ran}
 use Rattle.evaluator.specs.declared.Ran.the-variants.{Values, Ended}
@@ -40,18 +44,44 @@ pub ended-came : {bytes : List ℕ} {i : ℕ} {given own : List ℕ} {c : Cause}
     → Came bytes i given (Ended c m) own
 ended-came size e = record { size = size; same = sym e; present = λ m q x l. absurd (false≢true (ap hasValues q)) }
 
--- what is among the first stays among more
-among-more : (xs : List ℕ) (a b w : ℕ) → a ≤ b → among (take a xs) w ≡ true → among (take b xs) w ≡ true
-among-more xs a b w l h =
-    let p = among-place (take a xs) w h in
-    let s = length-take a xs in
-    let t = length-take b xs in
-    let low : p .0 < a = omega (arith, p .1, s) in
-    let there : p .0 < length (take b xs) = omega (arith, p .1, s, t) in
-    let same : getD (take b xs) (p .0) 0 ≡ w = getD-take b xs (p .0) 0 (omega arith) ∙ sym (getD-take a xs (p .0) 0 low) ∙ p .2 in
-    ap (among (take b xs)) (sym same) ∙ among-at (take b xs) (p .0) there
+-- a value is in its variable's cell; an end changes no cell
+pub assigns : {bytes given own called : List ℕ} {i x : ℕ} {o : Outcome} {v : Value} {after : List ℕ} → o ≡ stepOutcome bytes given own called i x → o ≡ Gives v
+    → Stored own x v after → Assigned bytes given own called i x (Gives v) after
+assigns e g put = record { outcome = sym g ∙ e; stored = put }
 
-module _ {bytes places counts links orders : List ℕ} {i left : ℕ} {own₀ memo₀ : List ℕ} (e : Entry bytes places counts links orders i left own₀ memo₀) where
+pub assigns-none : {bytes given own called : List ℕ} {i x : ℕ} {o : Outcome} {c : Cause} → o ≡ stepOutcome bytes given own called i x → o ≡ Ends c
+    → Assigned bytes given own called i x o own
+assigns-none e g = record { outcome = e; stored = rw g refl }
+
+-- the place of a number in a list
+unfoldable pub placeOf : List ℕ → ℕ → ℕ
+placeOf [] w = 0
+placeOf (x ∷ xs) w = cond (eqb w x) 0 (suc (placeOf xs w))
+
+place-first : (xs : List ℕ) (p w : ℕ) → among (take p xs) w ≡ true → placeOf xs w < p
+unfolding placeOf among
+place-first xs zero w h = among-none w h
+place-first [] (suc p) w h = among-none w h
+place-first (x ∷ xs) (suc p) w h =
+    ⊎-elim
+    (λ (q : eqb w x ≡ true). rw q (omega arith))
+    (λ (q : eqb w x ≡ false). let l = place-first xs p w (rw q at h) in rw q (omega (arith, l)))
+    (decide (eqb w x))
+
+place-at : (xs : List ℕ) (w : ℕ) → among xs w ≡ true → getD xs (placeOf xs w) 0 ≡ w
+unfolding placeOf among
+place-at [] w h = among-none w h
+place-at (x ∷ xs) w h =
+    ⊎-elim
+    (λ (q : eqb w x ≡ true). rw q (sym (eqb-true w x q)))
+    (λ (q : eqb w x ≡ false). rw q (place-at xs w (rw q at h)))
+    (decide (eqb w x))
+
+-- how many blocks of a book stand before that of scope i
+abbrev pub rank : List ℕ → ℕ → ℕ
+rank bytes i = placeOf (blocks (scopesOf bytes)) i
+
+module _ {bytes places counts links orders : List ℕ} {i : ℕ} {own₀ memo₀ : List ℕ} (e : Entry bytes places counts links orders i own₀ memo₀) where
   abbrev book : List Scope
   book = scopesOf bytes
 
@@ -73,34 +103,29 @@ module _ {bytes places counts links orders : List ℕ} {i left : ℕ} {own₀ me
       ∙ sym (getD-take (stepCount s) (drop (i * 40) orders) n 0 l)
       ∙ ap (λ (xs : List ℕ). getD xs n 0) (e .world .stepOrders i (e .scope))
 
-  place : (p : ℕ) × (p < left) × (p < length book) × (getD (blocks book) p 0 ≡ i)
-  place =
-      let p = among-place (take left (blocks book)) i (e .early) in
-      let t = length-take left (blocks book) in
-      let c = accepted-complete bytes (length book) (e .world .accepted) in
-      let low : p .0 < left = omega (arith, p .1, t) in
-      (p .0, low, omega (arith, p .1, t, c .count), sym (getD-take left (blocks book) (p .0) 0 low) ∙ p .2)
-
-  pub left-some : 1 ≤ left
-  left-some = let p = place in omega (arith, p .1)
-
-  pub callee : (k j : ℕ) (part memo : List ℕ) → k < length (s .subScopes) → j ≡ subScopeAt book i k → length part ≡ 32 → Known bytes memo
-      → Entry bytes places counts links orders j (left - 1) part memo
+  pub earlier : (k j : ℕ) → k < length (s .subScopes) → j ≡ subScopeAt book i k → rank bytes j < rank bytes i
   unfolding subScopeAt
-  callee k j part memo l is room known =
-      let p = place in
+  earlier k j l is =
       let c = accepted-complete bytes (length book) (e .world .accepted) in
       let f = accepted-formed bytes (length book) (e .world .accepted) in
-      let long : length (scopeAt book (getD (blocks book) (p .0) 0) .subScopes) ≡ length (s .subScopes) = ap (λ (b : ℕ). length (scopeAt book b .subScopes)) (p .3) in
-      let first : among (take (p .0) (blocks book)) (getD (s .subScopes) k 0) ≡ true =
-      ap (λ (b : ℕ). among (take (p .0) (blocks book)) (getD (scopeAt book b .subScopes) k 0)) (sym (p .3))
-      ∙ blocks-after book c f (p .0) (p .2) k (omega (arith, long)) in
-      let early' : among (take (left - 1) (blocks book)) (getD (s .subScopes) k 0) ≡ true =
-      among-more (blocks book) (p .0) (left - 1) (getD (s .subScopes) k 0) (omega (arith, p .1)) first in
+      let all : take (length book) (blocks book) ≡ blocks book = take-all (length book) (blocks book) (omega (arith, c .count)) in
+      let there : among (blocks book) i ≡ true = c .every i (e .scope) in
+      let low : rank bytes i < length book = place-first (blocks book) (length book) i (ap (λ (xs : List ℕ). among xs i) all ∙ there) in
+      let here : getD (blocks book) (rank bytes i) 0 ≡ i = place-at (blocks book) i there in
+      let long : length (scopeAt book (getD (blocks book) (rank bytes i) 0) .subScopes) ≡ length (s .subScopes) = ap (λ (b : ℕ). length (scopeAt book b .subScopes)) here in
+      let first : among (take (rank bytes i) (blocks book)) (getD (s .subScopes) k 0) ≡ true =
+      ap (λ (b : ℕ). among (take (rank bytes i) (blocks book)) (getD (scopeAt book b .subScopes) k 0)) (sym here)
+      ∙ blocks-after book c f (rank bytes i) low k (omega (arith, long)) in
+      subst (λ (z : ℕ). rank bytes z < rank bytes i) (sym is) (place-first (blocks book) (rank bytes i) (getD (s .subScopes) k 0) first)
+
+  pub callee : (k j : ℕ) (part memo : List ℕ) → k < length (s .subScopes) → j ≡ subScopeAt book i k → length part ≡ 32 → Known bytes memo
+      → Entry bytes places counts links orders j part memo
+  unfolding subScopeAt
+  callee k j part memo l is room known =
+      let f = accepted-formed bytes (length book) (e .world .accepted) in
       record {
         world = e .world;
         scope = subst (λ (z : ℕ). z < length book) (sym is) (f i (e .scope) .subScopesNamed k l);
-        early = ap (among (take (left - 1) (blocks book))) is ∙ early';
         room = room;
         known = known;
       }
@@ -136,18 +161,22 @@ module _ {bytes places counts links orders : List ℕ} {i left : ℕ} {own₀ me
       pub put-room : x < length own
       put-room = omega (arith, l, va, r .ownRoom, accepted .within i .variables)
 
-      pub turn-variable : {o : Outcome} {v : Value} {own' : List ℕ} → o ≡ stepOutcome bytes given own called i x → o ≡ Gives v → Stored own x v own'
-          → Running bytes i given own' called handed count (n + 1)
-      turn-variable {o} {v} {own'} q g put =
-          let z : n + 1 ≡ suc n = omega arith in
-          rw z
-          (variable-turn bytes i given (e .world .accepted) (e .scope) r inside low o v own'
-          (q ∙ ap (stepOutcome bytes given own called i) is) g (subst (λ (y : ℕ). Stored own y v own') is put))
+      module _ {o : Outcome} {own' : List ℕ} (h : Assigned bytes given own called i x o own') where
+        outcome : o ≡ stepOutcome bytes given own called i (getD (stepOrder s) n 0)
+        outcome = h .outcome ∙ ap (stepOutcome bytes given own called i) is
 
-      pub end-variable : {o : Outcome} {c : Cause} → o ≡ stepOutcome bytes given own called i x → o ≡ Ends c → Came bytes i given (Ended c count) own
-      end-variable {o} {c} q g =
-          ended-came (r .ownRoom)
-          (variable-ends bytes i given (e .world .accepted) (e .scope) r inside low o c (q ∙ ap (stepOutcome bytes given own called i) is) g)
+        pub turn-variable : {v : Value} → o ≡ Gives v → Running bytes i given own' called handed count (n + 1)
+        turn-variable {v} g =
+            let z : n + 1 ≡ suc n = omega arith in
+            rw z
+            (variable-turn bytes i given (e .world .accepted) (e .scope) r inside low o v own' outcome g
+            (subst (λ (y : ℕ). Stored own y v own') is (rw g at (h .stored))))
+
+        pub kept-room : {c : Cause} → o ≡ Ends c → length own' ≡ 32
+        kept-room g = ap length (rw g at (h .stored)) ∙ r .ownRoom
+
+        pub end-variable : {c : Cause} → o ≡ Ends c → Came bytes i given (Ended c count) own'
+        end-variable {c} g = ended-came (kept-room g) (variable-ends bytes i given (e .world .accepted) (e .scope) r inside low o c outcome g)
 
     module _ (l : a ≤ x) where
       call : length (s .variables) + (x - a) ≡ getD (stepOrder s) n 0

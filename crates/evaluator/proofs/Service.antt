@@ -10,12 +10,10 @@ use mathlib.Core.Bool.{true, false≢true}
 use mathlib.Core.List.{List, [], _∷_, reverse}
 use native.Mathlib.Omega.{arith}
 use lib.ListN.{length, getD, replicate, length-replicate, getD-replicate}
-use lib.Seq.{take-all}
 use borrow.Author.Tests.{lt-ltb, le-ltb, le-leb, lt-leb}
 use Rattle.calculus.specs.declared.Cause.{Cause}
 use Rattle.calculus.specs.declared.Given.{Given}
 use Rattle.calculus.specs.declared.Given.the-variants.{Absent, Present}
-use Rattle.order.specs.Order.{among}
 use Rattle.cells.specs.Cells.{givenAt, held}
 use Rattle.book.specs.Syntax.{sameType}
 use Rattle.book.specs.Decode.{scopesOf}
@@ -43,7 +41,6 @@ use Rattle.evaluation.specs.declared.Refusal.the-variants.{Book, NoSuchScope, B
 use Rattle.evaluation.specs.declared.Answer.{Answer}
 use Rattle.book.proofs.Same.{same-self}
 use Rattle.evaluation.specs.declared.Answer.the-variants.{Values, Ended, Refused}
-use Rattle.evaluation.proofs.Entering.{accepted-complete}
 use Rattle.evaluation.proofs.Replies.{same-reply, refuses}
 use Rattle.evaluation.proofs.Types.{inputs-fitting, values-typed, values-length}
 use Rattle.evaluator.specs.Steps.{givensFrom, enteredAt, ranView, Came}
@@ -149,9 +146,8 @@ module _ {bytes places counts orders : List ℕ} {n i : ℕ} {given memory : Lis
   pub all-links : n * 834 ≤ 26688
   all-links = let few = accepted-scopes bytes n (a .tabled .accepted) in omega (arith, few)
 
-  pub entry : {links own memo : List ℕ} → AllLinked bytes n links → length own ≡ 32 → Known bytes memo → Entry bytes places counts links orders i n own memo
-  entry {links} {own} {memo} linked size known =
-      let c = accepted-complete bytes n (a .tabled .accepted) in
+  pub entry : {links own memo : List ℕ} → AllLinked bytes n links → length own ≡ 32 → Known bytes memo → Entry bytes places counts links orders i own memo
+  entry linked size known =
       record {
         world = record {
           accepted = a .tabled .accepted ∙ ap judged.Accepted total;
@@ -160,7 +156,6 @@ module _ {bytes places counts orders : List ℕ} {n i : ℕ} {given memory : Lis
           stepOrders = a .tabled .stepOrders;
         };
         scope = omega (arith, a .scope, total);
-        early = ap (λ (xs : List ℕ). among xs i) (take-all n (blocks (scopesOf bytes)) (omega (arith, c .count, total))) ∙ c .every i (omega (arith, a .scope, total));
         room = size;
         known = known;
       }

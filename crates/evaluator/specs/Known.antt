@@ -6,10 +6,8 @@ use mathlib.Core.Bool.{Bool, true}
 use mathlib.Core.List.{List, []}
 use lib.ListN.{length, getD, take, drop}
 use Rattle.calculus.specs.declared.Given.the-variants.{Absent}
-use Rattle.order.specs.Order.{among}
 use Rattle.cells.specs.Cells.{givenAt}
 use Rattle.book.specs.Decode.{scopesOf}
-use Rattle.book.specs.Scopes.{blocks}
 use Rattle.book.specs.Tables.{Laid}
 use Rattle.evaluator.specs.Steps.{World, Came}
 use Rattle.evaluator.specs.declared.Ran.the-variants.{Values}
@@ -51,10 +49,9 @@ pub record Recalled (bytes : List ℕ) (i : ℕ) (given : List ℕ) (r : ℕ) (o
   pub size : length own ≡ 32
   pub found : (r ≡ 0 → ⊥) → Came bytes i given (Values r) own
 
--- scope i can be entered: its block is one of the first
-pub record Entry (bytes places counts links orders : List ℕ) (i left : ℕ) (own memo : List ℕ) : Type 0 where
+-- scope i can be entered
+pub record Entry (bytes places counts links orders : List ℕ) (i : ℕ) (own memo : List ℕ) : Type 0 where
   pub world : World bytes places counts links orders
   pub scope : i < length (scopesOf bytes)
-  pub early : among (take left (blocks (scopesOf bytes))) i ≡ true
   pub room : length own ≡ 32
   pub known : Known bytes memo

@@ -11,7 +11,6 @@ use Rattle.calculus.specs.declared.Outcome.{Outcome}
 use Rattle.calculus.specs.declared.Outcome.the-variants.{Gives, Ends}
 use Rattle.calculus.specs.declared.Given.{Given}
 use Rattle.calculus.specs.declared.Given.the-variants.{Absent, Present}
-use Rattle.order.specs.Order.{among}
 use Rattle.cells.specs.Cells.{givenAt}
 use Rattle.book.specs.Syntax.{Scope}
 use Rattle.book.specs.Decode.{scopesOf}
@@ -40,6 +39,21 @@ pub record Stored (before : List ℕ) (at : ℕ) (v : Value) (after : List ℕ) 
   pub here : givenAt after at ≡ Present v
   pub there : (x : ℕ) → (x ≡ at → ⊥) → givenAt after x ≡ givenAt before x
 
+-- a tree of scope i can be evaluated, and variable v has a cell
+pub record Filling (bytes places counts links : List ℕ) (i : ℕ) (cells : List ℕ) (v : ℕ) : Type 0 where
+  pub ready : Ready bytes places counts links i
+  pub room : v < length cells
+
+-- a value is in a cell; where there is none, the cells are as they were
+abbrev pub StoredBy : Outcome → List ℕ → ℕ → List ℕ → Type 0
+StoredBy (Gives v) before at after = Stored before at v after
+StoredBy (Ends c) before at after = after ≡ before
+
+-- the answer is what own variable x comes to, and a value is in the variable's cell
+pub record Assigned (bytes given own called : List ℕ) (i x : ℕ) (r : Outcome) (after : List ℕ) : Type 0 where
+  pub outcome : r ≡ stepOutcome bytes given own called i x
+  pub stored : StoredBy r own x after
+
 -- what handing over one variable comes to
 pub data Handed : Type 0 where
   hands : Given → Handed
@@ -55,10 +69,6 @@ override env s k v = cond (hasClause s (calledTarget k v)) (handOf (eval env (tr
 
 unfoldable pub overrideAt : List ℕ → List ℕ → List ℕ → ℕ → ℕ → ℕ → Handed
 overrideAt bytes own called i k v = override (envOf own called) (scopeAt (scopesOf bytes) i) k v
-
-pub record Handing (bytes places counts links : List ℕ) (i : ℕ) (handed : List ℕ) (v : ℕ) : Type 0 where
-  pub ready : Ready bytes places counts links i
-  pub room : v < length handed
 
 -- the answer, and the cells
 abbrev pub handView : Outcome → Given → Handed

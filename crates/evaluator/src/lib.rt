@@ -26,7 +26,7 @@ ghost use lib.ListN.{length};
 ghost use Rattle.trees.specs.Links.{Blanks};
 ghost use Rattle.trees.specs.Chains.{Ready};
 ghost use Rattle.evaluator.specs.Service.{Tabled, Asked, Replied, Evaluated};
-ghost use Rattle.evaluator.specs.Steps.{stepOutcome, Stored, Handing, HandedOne, HandsAll, HandedAll, Came};
+ghost use Rattle.evaluator.specs.Steps.{stepOutcome, Stored, Filling, Assigned, HandedOne, HandsAll, HandedAll, Came};
 ghost use Rattle.evaluator.specs.Known.{Copying, Copied, Ungiven, Known, Noting, Recalled, Entry};
 ghost use Rattle.evaluator.specs.declared.Ran.the-variants.{Values};
 
@@ -75,6 +75,32 @@ fn step_value(
     }
 }
 
+// Sets own variable x of scope i to the value of its step. The cause where it has none.
+fn set_variable(
+    book: &[u8],
+    places: &[u16],
+    counts: &[u8],
+    links: &[u8],
+    given: &[u64],
+    own: &mut [u64],
+    called: &[u64],
+    i: usize,
+    x: u8,
+) -> Outcome
+    requires { ⌜ Filling (now book) (now places) (now counts) (now links) i (now own) x ⌝ }
+    ensures { λ r.
+        ⌜ Assigned (now (book .entry)) (now (given .entry)) (now (own .entry)) (now (called .entry)) i x r (now (own .exit)) ⌝ }
+{
+    let o = step_value(book, places, counts, links, given, own, called, i, x);
+    match o {
+        Outcome::Gives(v) => {
+            put_cell(own, x as usize, v);
+            o
+        }
+        Outcome::Ends(_) => o,
+    }
+}
+
 // Hands over variable v of sub-scope k of scope i: the value of its override tree, nothing where it has no clauses. The cause where the
 // tree has no value.
 fn hand_one(
@@ -89,7 +115,7 @@ fn hand_one(
     v: u8,
     handed: &mut [u64],
 ) -> Outcome
-    requires { ⌜ Handing (now book) (now places) (now counts) (now links) i (now handed) v ⌝ }
+    requires { ⌜ Filling (now book) (now places) (now counts) (now links) i (now handed) v ⌝ }
     ensures { λ r.
         ⌜ HandedOne (now (book .entry)) (now (own .entry)) (now (called .entry)) i k v (now (handed .entry)) r (now (handed .exit)) ⌝ }
 {
@@ -222,8 +248,7 @@ fn remember(
     memo[i * KNOWN] = count as u64;
 }
 
-// Enters scope i, whose block is one of the first `left`: runs its steps in their order, and leaves the values of its variables in `own`.
-// What is known is not run again.
+// Enters scope i: runs its steps in their order, and leaves the values of its variables in `own`. What is known is not run again.
 fn enter(
     book: &[u8],
     places: &[u16],
@@ -231,12 +256,11 @@ fn enter(
     links: &[u8],
     orders: &[u8],
     i: usize,
-    left: usize,
     given: &[u64],
     own: &mut [u64],
     memo: &mut [u64],
 ) -> Ran
-    requires { ⌜ Entry (now book) (now places) (now counts) (now links) (now orders) i left (now own) (now memo) ⌝ }
+    requires { ⌜ Entry (now book) (now places) (now counts) (now links) (now orders) i (now own) (now memo) ⌝ }
     ensures { λ r. ⌜ Came (now (book .entry)) i (now (given .entry)) r (now (own .exit)) ⌝ }
     ensures { λ _. ⌜ Known (now (book .entry)) (now (memo .exit)) ⌝ }
 {
@@ -253,12 +277,10 @@ fn enter(
     let mut n: usize = 0;
     while n < steps {
         let x = byte_at(orders, i * STEPS + n);
+        n += 1;
         if (x as usize) < variables {
-            match step_value(book, places, counts, row, given, own, &called, i, x) {
-                Outcome::Gives(v) => {
-                    put_cell(own, x as usize, v);
-                    n += 1;
-                }
+            match set_variable(book, places, counts, row, given, own, &called, i, x) {
+                Outcome::Gives(_) => {}
                 Outcome::Ends(c) => return Ran::Ended(c, count),
             }
         } else {
@@ -268,25 +290,10 @@ fn enter(
                 Outcome::Ends(c) => return Ran::Ended(c, count),
             }
             let j = sub_scope_at(book, places, counts, i, k);
-            let less = left - 1;
             let from = k * VARIABLES;
             let part = &mut called[from..from + VARIABLES];
-            match enter(
-                book,
-                places,
-                counts,
-                links,
-                orders,
-                j,
-                less,
-                &handed,
-                part,
-                memo,
-            ) {
-                Ran::Values(m) => {
-                    count += m;
-                    n += 1;
-                }
+            match enter(book, places, counts, links, orders, j, &handed, part, memo) {
+                Ran::Values(m) => count += m,
                 Ran::Ended(c, m) => return Ran::Ended(c, count + m),
             }
         }
@@ -321,7 +328,6 @@ fn run_in(
         links,
         orders,
         i,
-        n,
         given,
         &mut own,
         &mut memo,

@@ -3,11 +3,12 @@
 -- Assumes nothing.
 use mathlib.Core.Path.{sym, _∙_}
 use native.Mathlib.Omega.{arith}
+use denote.Ref.{now}
 use borrow.Author.Needs.{needs}
 use Rattle.evaluator.specs.Known.{Known}
 use Rattle.evaluator.proofs.Running.{Running}
 use Rattle.record.proofs.Parts.{part-room}
-use Rattle.evaluator.proofs.Entering.{scope-few, row-ready, left-some, callee, noting, begins, ends, step-few, put-room, turn-variable, end-variable}
+use Rattle.evaluator.proofs.Entering.{rank, scope-few, row-ready, earlier, callee, noting, begins, ends, step-few, put-room, kept-room, turn-variable, end-variable}
 use Rattle.evaluator.proofs.Entering.{number-below, number-few, called-room, end-hand, few-ended, few-values, end-call, turn-call}
 use Prim.Native.Nat.{ℕ, _<_, _+_, _-_, _*_}
 use borrow.Fn.Kinds.{In}
@@ -19,17 +20,16 @@ use Rattle.book.proofs.sub_scope_at.Reads as sub-scope-at-reads
 use Rattle.book.proofs.sub_scope_count.Reads as sub-scope-count-reads
 use Rattle.book.proofs.variable_count.Reads as variable-count-reads
 use Rattle.evaluator.proofs.hand_over.Reads as hand-over-reads
-use Rattle.evaluator.proofs.put_cell.Reads as put-cell-reads
 use Rattle.evaluator.proofs.recall.Reads as recall-reads
 use Rattle.evaluator.proofs.remember.Reads as remember-reads
-use Rattle.evaluator.proofs.step_value.Reads as step-value-reads
+use Rattle.evaluator.proofs.set_variable.Reads as set-variable-reads
 use Rattle.record.proofs.byte_at.Reads as byte-at-reads
 use Rattle.record.proofs.part_of.Reads as part-of-reads
 use Rattle.evaluator.proofs.+enter.{statement}
 use Rattle.evaluator.proofs.+enter.Tie.{close}
 
 abbrev μ-enter : Measures 8 enter-kinds.ps ℕ
-μ-enter κs a = a .1 .1 .1 .1 .1 .1 .0
+μ-enter κs a = rank (now (a .0)) (a .1 .1 .1 .1 .1 .0)
 
 abbrev enter-at : ℕ → In 8 enter-kinds.ps
 enter-at t = and 8 enter-kinds.ps (is 8 enter-kinds.ps μ-enter t) enter.Pre
@@ -38,16 +38,16 @@ abbrev enter-below : ℕ → In 8 enter-kinds.ps
 enter-below t = and 8 enter-kinds.ps (falls 8 enter-kinds.ps _<_ μ-enter t) enter.Pre
 
 abbrev enter-Inv-loop : enter-lts.InvT-loop
-enter-Inv-loop book places counts links orders i left given own₀ memo₀ known row variables steps called₀ handed₀ count₀ n₀ own memo called handed count n =
+enter-Inv-loop book places counts links orders i given own₀ memo₀ known row variables steps called₀ handed₀ count₀ n₀ own memo called handed count n =
     Running book i given own called handed count n × Known book memo
 
 abbrev enter-μ-loop : enter-lts.MeasureT-loop
-enter-μ-loop book places counts links orders i left given own₀ memo₀ known row variables steps called₀ handed₀ count₀ n₀ own memo called handed count n =
+enter-μ-loop book places counts links orders i given own₀ memo₀ known row variables steps called₀ handed₀ count₀ n₀ own memo called handed count n =
     steps - n
 
 abbrev R : ℕ → enter-lts.Claims
 R t =
-    (recall-reads.Asked, recall-reads.Learnt, part-of-reads.Asked, part-of-reads.Learnt, variable-count-reads.Asked, variable-count-reads.Learnt, sub-scope-count-reads.Asked, sub-scope-count-reads.Learnt, byte-at-reads.Asked, byte-at-reads.Learnt, step-value-reads.Asked, step-value-reads.Learnt, put-cell-reads.Asked, put-cell-reads.Learnt, hand-over-reads.Asked, hand-over-reads.Learnt, sub-scope-at-reads.Asked, sub-scope-at-reads.Learnt, enter-below t, enter.Post, remember-reads.Asked, remember-reads.Learnt)
+    (recall-reads.Asked, recall-reads.Learnt, part-of-reads.Asked, part-of-reads.Learnt, variable-count-reads.Asked, variable-count-reads.Learnt, sub-scope-count-reads.Asked, sub-scope-count-reads.Learnt, byte-at-reads.Asked, byte-at-reads.Learnt, set-variable-reads.Asked, set-variable-reads.Learnt, hand-over-reads.Asked, hand-over-reads.Learnt, sub-scope-at-reads.Asked, sub-scope-at-reads.Learnt, enter-below t, enter.Post, remember-reads.Asked, remember-reads.Learnt)
 
 enter-recall-requires : (t : ℕ) → enter-lts.Need-recall-requires (R t) (enter-at t) enter.Post enter-Inv-loop enter-μ-loop
 enter-recall-requires t c κs = noting (c .before .before .before .before .before .before .before .before .before .before .pre .1) (c .before .before .before .before .before .before .before .before .before .before .pre .1 .room) (c .before .before .before .before .before .before .before .before .before .before .pre .1 .known)
@@ -88,44 +88,38 @@ enter-add-byte-at t c = omega (arith, scope-few (c .before .before .before .befo
 enter-byte-at-requires : (t : ℕ) → enter-lts.Need-byte-at-requires (R t) (enter-at t) enter.Post enter-Inv-loop enter-μ-loop
 enter-byte-at-requires t c κs = search needs
 
+enter-add-n : (t : ℕ) → enter-lts.Need-add-n (R t) (enter-at t) enter.Post enter-Inv-loop enter-μ-loop
+enter-add-n t c = omega (arith, step-few (c .before .before .before .before .before .before .before .before .before .before .before .before .before .before .before .before .before .before .before .before .pre .1) (c .before .before .loop .inv .0) (c .before .before .before .before .variable-count .ensures) (c .before .before .before .sub-scope-count .ensures) (c .before .loop-test .taken) (c .byte-at .ensures))
+
 enter-cast-if2 : (t : ℕ) → enter-lts.Need-cast-if2 (R t) (enter-at t) enter.Post enter-Inv-loop enter-μ-loop
 enter-cast-if2 t c = search needs
 
-enter-slice-aggregate-step-value : (t : ℕ) → enter-lts.Need-slice-aggregate-step-value (R t) (enter-at t) enter.Post enter-Inv-loop enter-μ-loop
-enter-slice-aggregate-step-value t c = search needs
+enter-slice-aggregate-set-variable : (t : ℕ) → enter-lts.Need-slice-aggregate-set-variable (R t) (enter-at t) enter.Post enter-Inv-loop enter-μ-loop
+enter-slice-aggregate-set-variable t c = search needs
 
-enter-step-value-requires : (t : ℕ) → enter-lts.Need-step-value-requires (R t) (enter-at t) enter.Post enter-Inv-loop enter-μ-loop
-enter-step-value-requires t c κs = rw (c .before .before .before .before .before .before .before .before .part-of .ensures) (row-ready (c .before .before .before .before .before .before .before .before .before .before .before .before .before .before .before .before .before .before .before .before .before .before .before .pre .1))
+enter-set-variable-requires : (t : ℕ) → enter-lts.Need-set-variable-requires (R t) (enter-at t) enter.Post enter-Inv-loop enter-μ-loop
+enter-set-variable-requires t c κs = record { ready = rw (c .before .before .before .before .before .before .before .before .part-of .ensures) (row-ready (c .before .before .before .before .before .before .before .before .before .before .before .before .before .before .before .before .before .before .before .before .before .before .before .pre .1)); room = put-room (c .before .before .before .before .before .before .before .before .before .before .before .before .before .before .before .before .before .before .before .before .before .before .before .pre .1) (c .before .before .before .before .before .loop .inv .0) (c .before .before .before .before .before .before .before .variable-count .ensures) (c .before .before .before .before .before .before .sub-scope-count .ensures) (c .before .before .before .before .loop-test .taken) (c .before .before .before .byte-at .ensures) (c .before .before .if2 .taken) }
 
-enter-enum-known-v : (t : ℕ) → enter-lts.Need-enum-known-v (R t) (enter-at t) enter.Post enter-Inv-loop enter-μ-loop
-enter-enum-known-v t c = search needs
-
-enter-cast-put-cell : (t : ℕ) → enter-lts.Need-cast-put-cell (R t) (enter-at t) enter.Post enter-Inv-loop enter-μ-loop
-enter-cast-put-cell t c = search needs
-
-enter-put-cell-requires : (t : ℕ) → enter-lts.Need-put-cell-requires (R t) (enter-at t) enter.Post enter-Inv-loop enter-μ-loop
-enter-put-cell-requires t c κs = put-room (c .before .before .before .before .before .before .before .before .before .before .before .before .before .before .before .before .before .before .before .before .before .before .before .before .before .before .before .before .pre .1) (c .before .before .before .before .before .before .before .before .before .before .loop .inv .0) (c .before .before .before .before .before .before .before .before .before .before .before .before .variable-count .ensures) (c .before .before .before .before .before .before .before .before .before .before .before .sub-scope-count .ensures) (c .before .before .before .before .before .before .before .before .before .loop-test .taken) (c .before .before .before .before .before .before .before .before .byte-at .ensures) (c .before .before .before .before .before .before .before .if2 .taken)
-
-enter-add-n : (t : ℕ) → enter-lts.Need-add-n (R t) (enter-at t) enter.Post enter-Inv-loop enter-μ-loop
-enter-add-n t c = omega (arith, step-few (c .before .before .before .before .before .before .before .before .before .before .before .before .before .before .before .before .before .before .before .before .before .before .before .before .before .before .before .before .before .before .before .pre .1) (c .before .before .before .before .before .before .before .before .before .before .before .before .before .loop .inv .0) (c .before .before .before .before .before .before .before .before .before .before .before .before .before .before .before .variable-count .ensures) (c .before .before .before .before .before .before .before .before .before .before .before .before .before .before .sub-scope-count .ensures) (c .before .before .before .before .before .before .before .before .before .before .before .before .loop-test .taken) (c .before .before .before .before .before .before .before .before .before .before .before .byte-at .ensures))
+enter-enum-told : (t : ℕ) → enter-lts.Need-enum-told (R t) (enter-at t) enter.Post enter-Inv-loop enter-μ-loop
+enter-enum-told t c = search needs
 
 enter-loop-less : (t : ℕ) → enter-lts.Need-loop-less (R t) (enter-at t) enter.Post enter-Inv-loop enter-μ-loop
-enter-loop-less t c = omega (arith, c .before .before .before .before .before .before .before .before .before .before .before .before .loop-test .taken)
+enter-loop-less t c = omega (arith, c .before .before .before .before .before .before .before .before .before .loop-test .taken)
 
 enter-loop-again : (t : ℕ) → enter-lts.Need-loop-again (R t) (enter-at t) enter.Post enter-Inv-loop enter-μ-loop
-enter-loop-again t c = (turn-variable (c .before .before .before .before .before .before .before .before .before .before .before .before .before .before .before .before .before .before .before .before .before .before .before .before .before .before .before .before .before .before .before .pre .1) (c .before .before .before .before .before .before .before .before .before .before .before .before .before .loop .inv .0) (c .before .before .before .before .before .before .before .before .before .before .before .before .before .before .before .variable-count .ensures) (c .before .before .before .before .before .before .before .before .before .before .before .before .before .before .sub-scope-count .ensures) (c .before .before .before .before .before .before .before .before .before .before .before .before .loop-test .taken) (c .before .before .before .before .before .before .before .before .before .before .before .byte-at .ensures) (c .before .before .before .before .before .before .before .before .before .before .if2 .taken) (c .before .before .before .before .before .before .before .step-value .ensures) (c .before .before .before .before .before .v .given .1) (c .before .before .put-cell .ensures), c .before .before .before .before .before .before .before .before .before .before .before .before .before .loop .inv .1)
+enter-loop-again t c = (turn-variable (c .before .before .before .before .before .before .before .before .before .before .before .before .before .before .before .before .before .before .before .before .before .before .before .before .before .before .before .before .pre .1) (c .before .before .before .before .before .before .before .before .before .before .loop .inv .0) (c .before .before .before .before .before .before .before .before .before .before .before .before .variable-count .ensures) (c .before .before .before .before .before .before .before .before .before .before .before .sub-scope-count .ensures) (c .before .before .before .before .before .before .before .before .before .loop-test .taken) (c .before .before .before .before .before .before .before .before .byte-at .ensures) (c .before .before .before .before .before .before .before .if2 .taken) (c .before .before .before .before .set-variable .ensures) (c .enum-told .given .1), c .before .before .before .before .before .before .before .before .before .before .loop .inv .1)
 
 enter-enum-known-c : (t : ℕ) → enter-lts.Need-enum-known-c (R t) (enter-at t) enter.Post enter-Inv-loop enter-μ-loop
 enter-enum-known-c t c = search needs
 
 enter-same-length-3 : (t : ℕ) → enter-lts.Need-same-length-3 (R t) (enter-at t) enter.Post enter-Inv-loop enter-μ-loop
-enter-same-length-3 t c = c .before .before .before .before .before .before .before .before .before .loop .inv .0 .ownRoom ∙ sym (c .before .before .before .before .before .before .before .before .before .before .before .before .before .before .before .before .before .before .before .before .before .before .before .before .before .before .before .pre .1 .room)
+enter-same-length-3 t c = kept-room (c .before .before .before .before .before .before .before .before .before .before .before .before .before .before .before .before .before .before .before .before .before .before .before .before .before .before .before .before .before .pre .1) (c .before .before .before .before .before .before .before .before .before .before .before .loop .inv .0) (c .before .before .before .before .before .before .before .before .before .before .before .before .before .variable-count .ensures) (c .before .before .before .before .before .before .before .before .before .before .before .before .sub-scope-count .ensures) (c .before .before .before .before .before .before .before .before .before .before .loop-test .taken) (c .before .before .before .before .before .before .before .before .before .byte-at .ensures) (c .before .before .before .before .before .before .before .before .if2 .taken) (c .before .before .before .before .before .set-variable .ensures) (c .before .c .given .1) ∙ sym (c .before .before .before .before .before .before .before .before .before .before .before .before .before .before .before .before .before .before .before .before .before .before .before .before .before .before .before .before .before .pre .1 .room)
 
 enter-same-length-4 : (t : ℕ) → enter-lts.Need-same-length-4 (R t) (enter-at t) enter.Post enter-Inv-loop enter-μ-loop
-enter-same-length-4 t c = c .before .before .before .before .before .before .before .before .before .loop .inv .1 .size ∙ sym (c .before .before .before .before .before .before .before .before .before .before .before .before .before .before .before .before .before .before .before .before .before .before .before .before .before .before .before .pre .1 .known .size)
+enter-same-length-4 t c = c .before .before .before .before .before .before .before .before .before .before .before .loop .inv .1 .size ∙ sym (c .before .before .before .before .before .before .before .before .before .before .before .before .before .before .before .before .before .before .before .before .before .before .before .before .before .before .before .before .before .pre .1 .known .size)
 
 enter-returns-2 : (t : ℕ) → enter-lts.Need-returns-2 (R t) (enter-at t) enter.Post enter-Inv-loop enter-μ-loop
-enter-returns-2 t c = (end-variable (c .before .before .before .before .before .before .before .before .before .before .before .before .before .before .before .before .before .before .before .before .before .before .before .before .before .before .before .pre .1) (c .before .before .before .before .before .before .before .before .before .loop .inv .0) (c .before .before .before .before .before .before .before .before .before .before .before .variable-count .ensures) (c .before .before .before .before .before .before .before .before .before .before .sub-scope-count .ensures) (c .before .before .before .before .before .before .before .before .loop-test .taken) (c .before .before .before .before .before .before .before .byte-at .ensures) (c .before .before .before .before .before .before .if2 .taken) (c .before .before .before .step-value .ensures) (c .before .c .given .1), c .before .before .before .before .before .before .before .before .before .loop .inv .1)
+enter-returns-2 t c = (end-variable (c .before .before .before .before .before .before .before .before .before .before .before .before .before .before .before .before .before .before .before .before .before .before .before .before .before .before .before .before .before .pre .1) (c .before .before .before .before .before .before .before .before .before .before .before .loop .inv .0) (c .before .before .before .before .before .before .before .before .before .before .before .before .before .variable-count .ensures) (c .before .before .before .before .before .before .before .before .before .before .before .before .sub-scope-count .ensures) (c .before .before .before .before .before .before .before .before .before .before .loop-test .taken) (c .before .before .before .before .before .before .before .before .before .byte-at .ensures) (c .before .before .before .before .before .before .before .before .if2 .taken) (c .before .before .before .before .before .set-variable .ensures) (c .before .c .given .1), c .before .before .before .before .before .before .before .before .before .before .before .loop .inv .1)
 
 enter-cast-k : (t : ℕ) → enter-lts.Need-cast-k (R t) (enter-at t) enter.Post enter-Inv-loop enter-μ-loop
 enter-cast-k t c = search needs
@@ -142,8 +136,8 @@ enter-slice-aggregate-hand-over-2 t c = search needs
 enter-hand-over-requires : (t : ℕ) → enter-lts.Need-hand-over-requires (R t) (enter-at t) enter.Post enter-Inv-loop enter-μ-loop
 enter-hand-over-requires t c κs = record { ready = rw (c .before .before .before .before .before .before .before .before .before .part-of .ensures) (row-ready (c .before .before .before .before .before .before .before .before .before .before .before .before .before .before .before .before .before .before .before .before .before .before .before .before .pre .1)); number = number-few (c .before .before .before .before .before .before .before .before .before .before .before .before .before .before .before .before .before .before .before .before .before .before .before .before .pre .1) (c .before .before .before .before .before .before .loop .inv .0) (c .before .before .before .before .before .before .before .before .variable-count .ensures) (c .before .before .before .before .before .before .before .sub-scope-count .ensures) (c .before .before .before .before .before .loop-test .taken) (c .before .before .before .before .byte-at .ensures) (c .before .before .before .if2 .left); room = c .before .before .before .before .before .before .loop .inv .0 .handedRoom }
 
-enter-enum-told : (t : ℕ) → enter-lts.Need-enum-told (R t) (enter-at t) enter.Post enter-Inv-loop enter-μ-loop
-enter-enum-told t c = search needs
+enter-enum-told-2 : (t : ℕ) → enter-lts.Need-enum-told-2 (R t) (enter-at t) enter.Post enter-Inv-loop enter-μ-loop
+enter-enum-told-2 t c = search needs
 
 enter-enum-known-c-2 : (t : ℕ) → enter-lts.Need-enum-known-c-2 (R t) (enter-at t) enter.Post enter-Inv-loop enter-μ-loop
 enter-enum-known-c-2 t c = search needs
@@ -159,9 +153,6 @@ enter-returns-3 t c = (end-hand (c .before .before .before .before .before .befo
 
 enter-sub-scope-at-requires : (t : ℕ) → enter-lts.Need-sub-scope-at-requires (R t) (enter-at t) enter.Post enter-Inv-loop enter-μ-loop
 enter-sub-scope-at-requires t c κs = (c .before .before .before .before .before .before .before .before .before .before .before .before .before .before .before .before .before .before .before .before .before .before .before .before .before .before .before .before .pre .1) .world .sound .laid
-
-enter-sub-less : (t : ℕ) → enter-lts.Need-sub-less (R t) (enter-at t) enter.Post enter-Inv-loop enter-μ-loop
-enter-sub-less t c = left-some (c .before .before .before .before .before .before .before .before .before .before .before .before .before .before .before .before .before .before .before .before .before .before .before .before .before .before .before .before .before .pre .1)
 
 enter-mul-from : (t : ℕ) → enter-lts.Need-mul-from (R t) (enter-at t) enter.Post enter-Inv-loop enter-μ-loop
 enter-mul-from t c = omega (arith, number-few (c .before .before .before .before .before .before .before .before .before .before .before .before .before .before .before .before .before .before .before .before .before .before .before .before .before .before .before .before .before .pre .1) (c .before .before .before .before .before .before .before .before .before .before .before .loop .inv .0) (c .before .before .before .before .before .before .before .before .before .before .before .before .before .variable-count .ensures) (c .before .before .before .before .before .before .before .before .before .before .before .before .sub-scope-count .ensures) (c .before .before .before .before .before .before .before .before .before .before .loop-test .taken) (c .before .before .before .before .before .before .before .before .before .byte-at .ensures) (c .before .before .before .before .before .before .before .before .if2 .left))
@@ -185,28 +176,25 @@ enter-slice-aggregate-enter : (t : ℕ) → enter-lts.Need-slice-aggregate-enter
 enter-slice-aggregate-enter t c = search needs
 
 enter-enter-requires : (t : ℕ) → enter-lts.Need-enter-requires (R t) (enter-at t) enter.Post enter-Inv-loop enter-μ-loop
-enter-enter-requires t c κs = (omega (arith, left-some (c .before .before .before .before .before .before .before .before .before .before .before .before .before .before .before .before .before .before .before .before .before .before .before .before .before .before .before .before .before .before .before .before .pre .1), c .before .before .before .before .before .before .before .before .before .before .before .before .before .before .before .before .before .before .before .before .before .before .before .before .before .before .before .before .before .before .before .before .pre .0), callee (c .before .before .before .before .before .before .before .before .before .before .before .before .before .before .before .before .before .before .before .before .before .before .before .before .before .before .before .before .before .before .before .before .pre .1) _ _ _ _ (number-below (c .before .before .before .before .before .before .before .before .before .before .before .before .before .before .before .before .before .before .before .before .before .before .before .before .before .before .before .before .before .before .before .before .pre .1) (c .before .before .before .before .before .before .before .before .before .before .before .before .before .before .loop .inv .0) (c .before .before .before .before .before .before .before .before .before .before .before .before .before .before .before .before .variable-count .ensures) (c .before .before .before .before .before .before .before .before .before .before .before .before .before .before .before .sub-scope-count .ensures) (c .before .before .before .before .before .before .before .before .before .before .before .before .before .loop-test .taken) (c .before .before .before .before .before .before .before .before .before .before .before .before .byte-at .ensures) (c .before .before .before .before .before .before .before .before .before .before .before .if2 .left)) (c .before .before .before .sub-scope-at .ensures) (part-room _ _ ((c .before .before .before .before .before .before .before .before .before .before .before .before .byte-at .result - c .before .before .before .before .before .before .before .before .before .before .before .before .before .before .before .before .variable-count .result) * 32 + 32 - (c .before .before .before .before .before .before .before .before .before .before .before .before .byte-at .result - c .before .before .before .before .before .before .before .before .before .before .before .before .before .before .before .before .variable-count .result) * 32) (called-room (c .before .before .before .before .before .before .before .before .before .before .before .before .before .before .before .before .before .before .before .before .before .before .before .before .before .before .before .before .before .before .before .before .pre .1) (c .before .before .before .before .before .before .before .before .before .before .before .before .before .before .loop .inv .0) (c .before .before .before .before .before .before .before .before .before .before .before .before .before .before .before .before .variable-count .ensures) (c .before .before .before .before .before .before .before .before .before .before .before .before .before .before .before .sub-scope-count .ensures) (c .before .before .before .before .before .before .before .before .before .before .before .before .before .loop-test .taken) (c .before .before .before .before .before .before .before .before .before .before .before .before .byte-at .ensures) (c .before .before .before .before .before .before .before .before .before .before .before .if2 .left)) (omega arith)) (c .before .before .before .before .before .before .before .before .before .before .before .before .before .before .loop .inv .1))
+enter-enter-requires t c κs = (omega (arith, earlier (c .before .before .before .before .before .before .before .before .before .before .before .before .before .before .before .before .before .before .before .before .before .before .before .before .before .before .before .before .before .before .before .before .pre .1) _ _ (number-below (c .before .before .before .before .before .before .before .before .before .before .before .before .before .before .before .before .before .before .before .before .before .before .before .before .before .before .before .before .before .before .before .before .pre .1) (c .before .before .before .before .before .before .before .before .before .before .before .before .before .before .loop .inv .0) (c .before .before .before .before .before .before .before .before .before .before .before .before .before .before .before .before .variable-count .ensures) (c .before .before .before .before .before .before .before .before .before .before .before .before .before .before .before .sub-scope-count .ensures) (c .before .before .before .before .before .before .before .before .before .before .before .before .before .loop-test .taken) (c .before .before .before .before .before .before .before .before .before .before .before .before .byte-at .ensures) (c .before .before .before .before .before .before .before .before .before .before .before .if2 .left)) (c .before .before .before .sub-scope-at .ensures), c .before .before .before .before .before .before .before .before .before .before .before .before .before .before .before .before .before .before .before .before .before .before .before .before .before .before .before .before .before .before .before .before .pre .0), callee (c .before .before .before .before .before .before .before .before .before .before .before .before .before .before .before .before .before .before .before .before .before .before .before .before .before .before .before .before .before .before .before .before .pre .1) _ _ _ _ (number-below (c .before .before .before .before .before .before .before .before .before .before .before .before .before .before .before .before .before .before .before .before .before .before .before .before .before .before .before .before .before .before .before .before .pre .1) (c .before .before .before .before .before .before .before .before .before .before .before .before .before .before .loop .inv .0) (c .before .before .before .before .before .before .before .before .before .before .before .before .before .before .before .before .variable-count .ensures) (c .before .before .before .before .before .before .before .before .before .before .before .before .before .before .before .sub-scope-count .ensures) (c .before .before .before .before .before .before .before .before .before .before .before .before .before .loop-test .taken) (c .before .before .before .before .before .before .before .before .before .before .before .before .byte-at .ensures) (c .before .before .before .before .before .before .before .before .before .before .before .if2 .left)) (c .before .before .before .sub-scope-at .ensures) (part-room _ _ ((c .before .before .before .before .before .before .before .before .before .before .before .before .byte-at .result - c .before .before .before .before .before .before .before .before .before .before .before .before .before .before .before .before .variable-count .result) * 32 + 32 - (c .before .before .before .before .before .before .before .before .before .before .before .before .byte-at .result - c .before .before .before .before .before .before .before .before .before .before .before .before .before .before .before .before .variable-count .result) * 32) (called-room (c .before .before .before .before .before .before .before .before .before .before .before .before .before .before .before .before .before .before .before .before .before .before .before .before .before .before .before .before .before .before .before .before .pre .1) (c .before .before .before .before .before .before .before .before .before .before .before .before .before .before .loop .inv .0) (c .before .before .before .before .before .before .before .before .before .before .before .before .before .before .before .before .variable-count .ensures) (c .before .before .before .before .before .before .before .before .before .before .before .before .before .before .before .sub-scope-count .ensures) (c .before .before .before .before .before .before .before .before .before .before .before .before .before .loop-test .taken) (c .before .before .before .before .before .before .before .before .before .before .before .before .byte-at .ensures) (c .before .before .before .before .before .before .before .before .before .before .before .if2 .left)) (omega arith)) (c .before .before .before .before .before .before .before .before .before .before .before .before .before .before .loop .inv .1))
 
 enter-enum-known-m : (t : ℕ) → enter-lts.Need-enum-known-m (R t) (enter-at t) enter.Post enter-Inv-loop enter-μ-loop
 enter-enum-known-m t c = search needs
 
 enter-add-count : (t : ℕ) → enter-lts.Need-add-count (R t) (enter-at t) enter.Post enter-Inv-loop enter-μ-loop
-enter-add-count t c = omega (arith, few-values (c .before .before .before .before .before .before .before .before .before .before .before .before .before .before .before .before .before .before .before .before .before .before .before .before .before .before .before .before .before .before .before .before .before .before .before .before .before .before .before .pre .1) (c .before .before .before .before .before .before .before .before .before .before .before .before .before .before .before .before .before .before .before .before .before .loop .inv .0) (c .before .before .before .before .before .before .before .before .before .before .before .before .before .before .before .before .before .before .before .before .before .before .before .variable-count .ensures) (c .before .before .before .before .before .before .before .before .before .before .before .before .before .before .before .before .before .before .before .before .before .before .sub-scope-count .ensures) (c .before .before .before .before .before .before .before .before .before .before .before .before .before .before .before .before .before .before .before .before .loop-test .taken) (c .before .before .before .before .before .before .before .before .before .before .before .before .before .before .before .before .before .before .before .byte-at .ensures) (c .before .before .before .before .before .before .before .before .before .before .before .before .before .before .before .before .before .before .if2 .left) (c .before .before .before .before .before .before .before .before .before .before .before .before .before .before .hand-over .ensures) (c .before .before .before .before .before .before .before .before .before .before .before .enum-told .given .1) (c .before .before .before .before .before .before .before .before .before .before .sub-scope-at .ensures) (c .before .before .before .before .before .before .enter .ensures .0) (c .before .m .given .1))
-
-enter-add-n-2 : (t : ℕ) → enter-lts.Need-add-n-2 (R t) (enter-at t) enter.Post enter-Inv-loop enter-μ-loop
-enter-add-n-2 t c = omega (arith, step-few (c .before .before .before .before .before .before .before .before .before .before .before .before .before .before .before .before .before .before .before .before .before .before .before .before .before .before .before .before .before .before .before .before .before .before .before .before .before .before .before .pre .1) (c .before .before .before .before .before .before .before .before .before .before .before .before .before .before .before .before .before .before .before .before .before .loop .inv .0) (c .before .before .before .before .before .before .before .before .before .before .before .before .before .before .before .before .before .before .before .before .before .before .before .variable-count .ensures) (c .before .before .before .before .before .before .before .before .before .before .before .before .before .before .before .before .before .before .before .before .before .before .sub-scope-count .ensures) (c .before .before .before .before .before .before .before .before .before .before .before .before .before .before .before .before .before .before .before .before .loop-test .taken) (c .before .before .before .before .before .before .before .before .before .before .before .before .before .before .before .before .before .before .before .byte-at .ensures))
+enter-add-count t c = omega (arith, few-values (c .before .before .before .before .before .before .before .before .before .before .before .before .before .before .before .before .before .before .before .before .before .before .before .before .before .before .before .before .before .before .before .before .before .before .before .before .before .before .before .pre .1) (c .before .before .before .before .before .before .before .before .before .before .before .before .before .before .before .before .before .before .before .before .before .loop .inv .0) (c .before .before .before .before .before .before .before .before .before .before .before .before .before .before .before .before .before .before .before .before .before .before .before .variable-count .ensures) (c .before .before .before .before .before .before .before .before .before .before .before .before .before .before .before .before .before .before .before .before .before .before .sub-scope-count .ensures) (c .before .before .before .before .before .before .before .before .before .before .before .before .before .before .before .before .before .before .before .before .loop-test .taken) (c .before .before .before .before .before .before .before .before .before .before .before .before .before .before .before .before .before .before .before .byte-at .ensures) (c .before .before .before .before .before .before .before .before .before .before .before .before .before .before .before .before .before .before .if2 .left) (c .before .before .before .before .before .before .before .before .before .before .before .before .before .before .hand-over .ensures) (c .before .before .before .before .before .before .before .before .before .before .before .enum-told2 .given .1) (c .before .before .before .before .before .before .before .before .before .before .sub-scope-at .ensures) (c .before .before .before .before .before .before .enter .ensures .0) (c .before .m .given .1))
 
 enter-loop-less-2 : (t : ℕ) → enter-lts.Need-loop-less-2 (R t) (enter-at t) enter.Post enter-Inv-loop enter-μ-loop
 enter-loop-less-2 t c = omega (arith, c .before .before .before .before .before .before .before .before .before .before .before .before .before .before .before .before .before .before .before .before .loop-test .taken)
 
 enter-loop-again-2 : (t : ℕ) → enter-lts.Need-loop-again-2 (R t) (enter-at t) enter.Post enter-Inv-loop enter-μ-loop
-enter-loop-again-2 t c = (turn-call (c .before .before .before .before .before .before .before .before .before .before .before .before .before .before .before .before .before .before .before .before .before .before .before .before .before .before .before .before .before .before .before .before .before .before .before .before .before .before .before .pre .1) (c .before .before .before .before .before .before .before .before .before .before .before .before .before .before .before .before .before .before .before .before .before .loop .inv .0) (c .before .before .before .before .before .before .before .before .before .before .before .before .before .before .before .before .before .before .before .before .before .before .before .variable-count .ensures) (c .before .before .before .before .before .before .before .before .before .before .before .before .before .before .before .before .before .before .before .before .before .before .sub-scope-count .ensures) (c .before .before .before .before .before .before .before .before .before .before .before .before .before .before .before .before .before .before .before .before .loop-test .taken) (c .before .before .before .before .before .before .before .before .before .before .before .before .before .before .before .before .before .before .before .byte-at .ensures) (c .before .before .before .before .before .before .before .before .before .before .before .before .before .before .before .before .before .before .if2 .left) (c .before .before .before .before .before .before .before .before .before .before .before .before .before .before .hand-over .ensures) (c .before .before .before .before .before .before .before .before .before .before .before .enum-told .given .1) (c .before .before .before .before .before .before .before .before .before .before .sub-scope-at .ensures) (c .before .before .before .before .before .before .enter .ensures .0) ((c .before .before .before .before .before .before .before .before .before .before .before .before .before .before .before .before .before .before .before .byte-at .result - c .before .before .before .before .before .before .before .before .before .before .before .before .before .before .before .before .before .before .before .before .before .before .before .variable-count .result) * 32 + 32 - (c .before .before .before .before .before .before .before .before .before .before .before .before .before .before .before .before .before .before .before .byte-at .result - c .before .before .before .before .before .before .before .before .before .before .before .before .before .before .before .before .before .before .before .before .before .before .before .variable-count .result) * 32) (omega arith) (c .before .m .given .1), c .before .before .before .before .before .before .enter .ensures .1)
+enter-loop-again-2 t c = (turn-call (c .before .before .before .before .before .before .before .before .before .before .before .before .before .before .before .before .before .before .before .before .before .before .before .before .before .before .before .before .before .before .before .before .before .before .before .before .before .before .before .pre .1) (c .before .before .before .before .before .before .before .before .before .before .before .before .before .before .before .before .before .before .before .before .before .loop .inv .0) (c .before .before .before .before .before .before .before .before .before .before .before .before .before .before .before .before .before .before .before .before .before .before .before .variable-count .ensures) (c .before .before .before .before .before .before .before .before .before .before .before .before .before .before .before .before .before .before .before .before .before .before .sub-scope-count .ensures) (c .before .before .before .before .before .before .before .before .before .before .before .before .before .before .before .before .before .before .before .before .loop-test .taken) (c .before .before .before .before .before .before .before .before .before .before .before .before .before .before .before .before .before .before .before .byte-at .ensures) (c .before .before .before .before .before .before .before .before .before .before .before .before .before .before .before .before .before .before .if2 .left) (c .before .before .before .before .before .before .before .before .before .before .before .before .before .before .hand-over .ensures) (c .before .before .before .before .before .before .before .before .before .before .before .enum-told2 .given .1) (c .before .before .before .before .before .before .before .before .before .before .sub-scope-at .ensures) (c .before .before .before .before .before .before .enter .ensures .0) ((c .before .before .before .before .before .before .before .before .before .before .before .before .before .before .before .before .before .before .before .byte-at .result - c .before .before .before .before .before .before .before .before .before .before .before .before .before .before .before .before .before .before .before .before .before .before .before .variable-count .result) * 32 + 32 - (c .before .before .before .before .before .before .before .before .before .before .before .before .before .before .before .before .before .before .before .byte-at .result - c .before .before .before .before .before .before .before .before .before .before .before .before .before .before .before .before .before .before .before .before .before .before .before .variable-count .result) * 32) (omega arith) (c .before .m .given .1), c .before .before .before .before .before .before .enter .ensures .1)
 
 enter-enum-known-c-3 : (t : ℕ) → enter-lts.Need-enum-known-c-3 (R t) (enter-at t) enter.Post enter-Inv-loop enter-μ-loop
 enter-enum-known-c-3 t c = search needs
 
-enter-add-t69 : (t : ℕ) → enter-lts.Need-add-t69 (R t) (enter-at t) enter.Post enter-Inv-loop enter-μ-loop
-enter-add-t69 t c = omega (arith, few-ended (c .before .before .before .before .before .before .before .before .before .before .before .before .before .before .before .before .before .before .before .before .before .before .before .before .before .before .before .before .before .before .before .before .before .before .before .before .before .before .before .pre .1) (c .before .before .before .before .before .before .before .before .before .before .before .before .before .before .before .before .before .before .before .before .before .loop .inv .0) (c .before .before .before .before .before .before .before .before .before .before .before .before .before .before .before .before .before .before .before .before .before .before .before .variable-count .ensures) (c .before .before .before .before .before .before .before .before .before .before .before .before .before .before .before .before .before .before .before .before .before .before .sub-scope-count .ensures) (c .before .before .before .before .before .before .before .before .before .before .before .before .before .before .before .before .before .before .before .before .loop-test .taken) (c .before .before .before .before .before .before .before .before .before .before .before .before .before .before .before .before .before .before .before .byte-at .ensures) (c .before .before .before .before .before .before .before .before .before .before .before .before .before .before .before .before .before .before .if2 .left) (c .before .before .before .before .before .before .before .before .before .before .before .before .before .before .hand-over .ensures) (c .before .before .before .before .before .before .before .before .before .before .before .enum-told .given .1) (c .before .before .before .before .before .before .before .before .before .before .sub-scope-at .ensures) (c .before .before .before .before .before .before .enter .ensures .0) (c .before .c3 .given .1))
+enter-add-t62 : (t : ℕ) → enter-lts.Need-add-t62 (R t) (enter-at t) enter.Post enter-Inv-loop enter-μ-loop
+enter-add-t62 t c = omega (arith, few-ended (c .before .before .before .before .before .before .before .before .before .before .before .before .before .before .before .before .before .before .before .before .before .before .before .before .before .before .before .before .before .before .before .before .before .before .before .before .before .before .before .pre .1) (c .before .before .before .before .before .before .before .before .before .before .before .before .before .before .before .before .before .before .before .before .before .loop .inv .0) (c .before .before .before .before .before .before .before .before .before .before .before .before .before .before .before .before .before .before .before .before .before .before .before .variable-count .ensures) (c .before .before .before .before .before .before .before .before .before .before .before .before .before .before .before .before .before .before .before .before .before .before .sub-scope-count .ensures) (c .before .before .before .before .before .before .before .before .before .before .before .before .before .before .before .before .before .before .before .before .loop-test .taken) (c .before .before .before .before .before .before .before .before .before .before .before .before .before .before .before .before .before .before .before .byte-at .ensures) (c .before .before .before .before .before .before .before .before .before .before .before .before .before .before .before .before .before .before .if2 .left) (c .before .before .before .before .before .before .before .before .before .before .before .before .before .before .hand-over .ensures) (c .before .before .before .before .before .before .before .before .before .before .before .enum-told2 .given .1) (c .before .before .before .before .before .before .before .before .before .before .sub-scope-at .ensures) (c .before .before .before .before .before .before .enter .ensures .0) (c .before .c3 .given .1))
 
 enter-same-length-7 : (t : ℕ) → enter-lts.Need-same-length-7 (R t) (enter-at t) enter.Post enter-Inv-loop enter-μ-loop
 enter-same-length-7 t c = c .before .before .before .before .before .before .before .before .before .before .before .before .before .before .before .before .before .before .before .before .before .loop .inv .0 .ownRoom ∙ sym (c .before .before .before .before .before .before .before .before .before .before .before .before .before .before .before .before .before .before .before .before .before .before .before .before .before .before .before .before .before .before .before .before .before .before .before .before .before .before .before .pre .1 .room)
@@ -215,7 +203,7 @@ enter-same-length-8 : (t : ℕ) → enter-lts.Need-same-length-8 (R t) (enter-at
 enter-same-length-8 t c = c .before .before .before .before .before .before .enter .ensures .1 .size ∙ sym (c .before .before .before .before .before .before .before .before .before .before .before .before .before .before .before .before .before .before .before .before .before .before .before .before .before .before .before .before .before .before .before .before .before .before .before .before .before .before .before .pre .1 .known .size)
 
 enter-returns-4 : (t : ℕ) → enter-lts.Need-returns-4 (R t) (enter-at t) enter.Post enter-Inv-loop enter-μ-loop
-enter-returns-4 t c = (end-call (c .before .before .before .before .before .before .before .before .before .before .before .before .before .before .before .before .before .before .before .before .before .before .before .before .before .before .before .before .before .before .before .before .before .before .before .before .before .before .before .pre .1) (c .before .before .before .before .before .before .before .before .before .before .before .before .before .before .before .before .before .before .before .before .before .loop .inv .0) (c .before .before .before .before .before .before .before .before .before .before .before .before .before .before .before .before .before .before .before .before .before .before .before .variable-count .ensures) (c .before .before .before .before .before .before .before .before .before .before .before .before .before .before .before .before .before .before .before .before .before .before .sub-scope-count .ensures) (c .before .before .before .before .before .before .before .before .before .before .before .before .before .before .before .before .before .before .before .before .loop-test .taken) (c .before .before .before .before .before .before .before .before .before .before .before .before .before .before .before .before .before .before .before .byte-at .ensures) (c .before .before .before .before .before .before .before .before .before .before .before .before .before .before .before .before .before .before .if2 .left) (c .before .before .before .before .before .before .before .before .before .before .before .before .before .before .hand-over .ensures) (c .before .before .before .before .before .before .before .before .before .before .before .enum-told .given .1) (c .before .before .before .before .before .before .before .before .before .before .sub-scope-at .ensures) (c .before .before .before .before .before .before .enter .ensures .0) (c .before .c3 .given .1), c .before .before .before .before .before .before .enter .ensures .1)
+enter-returns-4 t c = (end-call (c .before .before .before .before .before .before .before .before .before .before .before .before .before .before .before .before .before .before .before .before .before .before .before .before .before .before .before .before .before .before .before .before .before .before .before .before .before .before .before .pre .1) (c .before .before .before .before .before .before .before .before .before .before .before .before .before .before .before .before .before .before .before .before .before .loop .inv .0) (c .before .before .before .before .before .before .before .before .before .before .before .before .before .before .before .before .before .before .before .before .before .before .before .variable-count .ensures) (c .before .before .before .before .before .before .before .before .before .before .before .before .before .before .before .before .before .before .before .before .before .before .sub-scope-count .ensures) (c .before .before .before .before .before .before .before .before .before .before .before .before .before .before .before .before .before .before .before .before .loop-test .taken) (c .before .before .before .before .before .before .before .before .before .before .before .before .before .before .before .before .before .before .before .byte-at .ensures) (c .before .before .before .before .before .before .before .before .before .before .before .before .before .before .before .before .before .before .if2 .left) (c .before .before .before .before .before .before .before .before .before .before .before .before .before .before .hand-over .ensures) (c .before .before .before .before .before .before .before .before .before .before .before .enum-told2 .given .1) (c .before .before .before .before .before .before .before .before .before .before .sub-scope-at .ensures) (c .before .before .before .before .before .before .enter .ensures .0) (c .before .c3 .given .1), c .before .before .before .before .before .before .enter .ensures .1)
 
 enter-remember-requires : (t : ℕ) → enter-lts.Need-remember-requires (R t) (enter-at t) enter.Post enter-Inv-loop enter-μ-loop
 enter-remember-requires t c κs = (noting (c .before .before .before .before .before .before .before .before .before .before .before .before .before .before .before .before .before .before .before .before .before .pre .1) (c .before .before .before .loop .inv .0 .ownRoom) (c .before .before .before .loop .inv .1), ends (c .before .before .before .before .before .before .before .before .before .before .before .before .before .before .before .before .before .before .before .before .before .pre .1) (c .before .before .before .loop .inv .0) (c .before .before .before .before .before .variable-count .ensures) (c .before .before .before .before .sub-scope-count .ensures) (c .before .before .loop-test .left))
@@ -244,13 +232,11 @@ pub +enter-spec : {M : Type 1} → statement M
     (enter-mul-byte-at t)
     (enter-add-byte-at t)
     (enter-byte-at-requires t)
-    (enter-cast-if2 t)
-    (enter-slice-aggregate-step-value t)
-    (enter-step-value-requires t)
-    (enter-enum-known-v t)
-    (enter-cast-put-cell t)
-    (enter-put-cell-requires t)
     (enter-add-n t)
+    (enter-cast-if2 t)
+    (enter-slice-aggregate-set-variable t)
+    (enter-set-variable-requires t)
+    (enter-enum-told t)
     (enter-loop-less t)
     (enter-loop-again t)
     (enter-enum-known-c t)
@@ -262,13 +248,12 @@ pub +enter-spec : {M : Type 1} → statement M
     (enter-slice-aggregate-hand-over t)
     (enter-slice-aggregate-hand-over-2 t)
     (enter-hand-over-requires t)
-    (enter-enum-told t)
+    (enter-enum-told-2 t)
     (enter-enum-known-c-2 t)
     (enter-same-length-5 t)
     (enter-same-length-6 t)
     (enter-returns-3 t)
     (enter-sub-scope-at-requires t)
-    (enter-sub-less t)
     (enter-mul-from t)
     (enter-add-part t)
     (enter-mul-called t)
@@ -279,11 +264,10 @@ pub +enter-spec : {M : Type 1} → statement M
     (enter-enter-requires t)
     (enter-enum-known-m t)
     (enter-add-count t)
-    (enter-add-n-2 t)
     (enter-loop-less-2 t)
     (enter-loop-again-2 t)
     (enter-enum-known-c-3 t)
-    (enter-add-t69 t)
+    (enter-add-t62 t)
     (enter-same-length-7 t)
     (enter-same-length-8 t)
     (enter-returns-4 t)
