@@ -23,7 +23,7 @@ ghost use Rattle.terms.specs.Outcomes.{nodeOutcome, conditionOutcome, co
 ghost use Rattle.terms.specs.Outcomes.{outcomeBelow, choiceBelow, defaultBelow, gatherBelow, restBelow, isNothing, Limited};
 
 // What a variable holds; one that is not set holds no.
-pub fn value_at(cells: &[u64], at: usize) -> Value
+fn value_at(cells: &[u64], at: usize) -> Value
     ensures { λ r. ⌜ r ≡ held (givenAt (now (cells .entry)) at) ⌝ }
 {
     let given = given_at(cells, at);
@@ -202,7 +202,7 @@ fn eval_rest(
 }
 
 // Node n of scope i.
-pub fn eval_node(
+fn eval_node(
     book: &[u8],
     places: &[u16],
     counts: &[u8],

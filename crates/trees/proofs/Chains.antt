@@ -116,12 +116,6 @@ term-from s d m (suc k) (c ∷ cs) l =
     let z : m + suc k ≡ suc m + k = omega arith in
     rw z (term-from s d (suc m) k cs (omega arith))
 
-pub term-past : (s : Scope) (d : Term) (m k : ℕ) (cs : List Clause) → length cs ≤ k → getD (clauseTerms s m cs) k d ≡ d
-unfolding clauseTerms
-term-past s d m k [] l = refl
-term-past s d m zero (c ∷ cs) l = absurd (omega arith)
-term-past s d m (suc k) (c ∷ cs) l = term-past s d (suc m) k cs (omega arith)
-
 pub term-at : (s : Scope) (n : ℕ) (d : Term) → n < length (s .clauses) → getD (clauseTerms s 0 (s .clauses)) n d ≡ clauseTerm s n
 unfolding clauseTerm
 term-at s n d l =

@@ -1,5 +1,4 @@
 -- Walking along a chain: what the clauses met so far came to, and what is left.
---     clause-chain    a clause's outcome, by what the chain of its exceptions comes to; clause-past
 --     Walking         what holds at a clause of the chain; begin, deeper, rises, again, and the ways out, ended, stop and none-there
 -- Assumes nothing.
 use Prim.Native.Nat.{ℕ, suc, _<_, _≤_, _+_, _-_}
@@ -13,12 +12,10 @@ use lib.Dec.{ltb}
 use borrow.Author.Tests.{eqb-true, ltb-true, ltb-false}
 use Rattle.order.proofs.Booleans.{decide}
 use Rattle.calculus.specs.Defaults.{gather, settle}
-use Rattle.calculus.specs.Terms.{Terms, error}
+use Rattle.calculus.specs.Terms.{Terms}
 use Rattle.calculus.specs.Evaluation.{eval, exceptions}
 use Rattle.calculus.specs.declared.Cause.{Cause}
-use Rattle.calculus.specs.declared.Cause.the-variants.{Empty}
 use Rattle.calculus.specs.declared.Outcome.{Outcome}
-use Rattle.calculus.specs.declared.Outcome.the-variants.{Ends}
 use Rattle.calculus.specs.declared.Joined.the-variants.{Nothing}
 use Rattle.calculus.specs.declared.Gathered.{Gathered}
 use Rattle.calculus.specs.declared.Gathered.the-variants.{SoFar, Ended}
@@ -30,9 +27,9 @@ use Rattle.book.specs.Tables.{clauseAt}
 use Rattle.book.specs.declared.Clause.{Clause}
 use Rattle.terms.specs.Outcomes.{envOf, conditionOutcome, consequenceOutcome}
 use Rattle.trees.specs.Links.{headOf, inChain, firstFrom}
-use Rattle.trees.specs.Chains.{chainOutcome, restOutcome, settledClause, clauseOutcome, Walk}
+use Rattle.trees.specs.Chains.{chainOutcome, restOutcome, settledClause, Walk}
 use Rattle.trees.proofs.Named.{Chained, sound-chained, chained-head}
-use Rattle.trees.proofs.Chains.{found, clauseTerm, chainFrom, term-at, term-past, from-start, from-past, from-here, from-first, exceptions-chain}
+use Rattle.trees.proofs.Chains.{found, clauseTerm, chainFrom, from-start, from-past, from-here, from-first, exceptions-chain}
 
 abbrev clausesOf : List ℕ → ℕ → List Clause
 clausesOf bytes i = scopeAt (scopesOf bytes) i .clauses
@@ -46,20 +43,6 @@ module _ (bytes own called : List ℕ) (i : ℕ) (few : Chained (clausesOf bytes
       ap
       (λ (ts : Terms). settle (exceptions (envOf own called) (SoFar Nothing) ts) (restOutcome bytes own called i c))
       (exceptions-chain (scopeAt (scopesOf bytes) i) few c l)
-
-  pub clause-chain : (c : ℕ) → c < length (clausesOf bytes i) → (x : Gathered) → x ≡ chainOutcome bytes own called i (289 + c)
-      → (o : Outcome) → o ≡ settledClause bytes own called i c x → o ≡ clauseOutcome bytes own called i c
-  unfolding clauseOutcome
-  clause-chain c l x ex o eo =
-      eo
-      ∙ ap (settledClause bytes own called i c) ex
-      ∙ sym
-      (ap (eval (envOf own called)) (term-at (scopeAt (scopesOf bytes) i) c (error Empty) l)
-      ∙ term-chain c l)
-
-pub clause-past : (bytes own called : List ℕ) (i c : ℕ) → length (clausesOf bytes i) ≤ c → clauseOutcome bytes own called i c ≡ Ends Empty
-unfolding clauseOutcome eval
-clause-past bytes own called i c l = ap (eval (envOf own called)) (term-past (scopeAt (scopesOf bytes) i) (error Empty) 0 c (clausesOf bytes i) l)
 
 pub record Walking (bytes own called : List ℕ) (i k : ℕ) (g : Gathered) (c : ℕ) : Type 0 where
   pub has : c < length (clausesOf bytes i) → inChain k (getD (clausesOf bytes i) c noClause) ≡ true

@@ -2,10 +2,9 @@
 use Prim.Native.Nat.{ℕ, _<_}
 use mathlib.Core.Bool.{Bool}
 use mathlib.Core.List.{List}
-use lib.ListN.{getD}
 use Rattle.calculus.specs.Outcomes.{choose}
 use Rattle.calculus.specs.Defaults.{settle}
-use Rattle.calculus.specs.Terms.{Terms, error}
+use Rattle.calculus.specs.Terms.{Terms}
 use Rattle.calculus.specs.Evaluation.{eval, exceptions}
 use Rattle.calculus.specs.declared.Cause.the-variants.{Empty}
 use Rattle.calculus.specs.declared.Outcome.{Outcome}
@@ -40,11 +39,6 @@ restOutcome bytes own called i c =
 -- clause c, its exceptions having come to g
 unfoldable pub settledClause : List ℕ → List ℕ → List ℕ → ℕ → ℕ → Gathered → Outcome
 settledClause bytes own called i c g = settle g (restOutcome bytes own called i c)
-
--- clause c of scope i; empty past the last
-unfoldable pub clauseOutcome : List ℕ → List ℕ → List ℕ → ℕ → ℕ → Outcome
-clauseOutcome bytes own called i c =
-    eval (envOf own called) (getD (clauseTerms (scopeAt (scopesOf bytes) i) 0 (scopeAt (scopesOf bytes) i .clauses)) c (error Empty))
 
 -- the default tree of a target of scope i: a variable of sub-scope k, or an own variable where k is 255
 unfoldable pub treeOutcome : List ℕ → List ℕ → List ℕ → ℕ → ℕ → ℕ → Outcome

@@ -16,12 +16,10 @@ use record::byte_at;
 use terms::eval_condition;
 use terms::eval_consequence;
 ghost use mathlib.Core.Path.{_≡_};
-ghost use Prim.Native.Nat.{_<_};
-ghost use lib.ListN.{length};
 ghost use Rattle.book.specs.Syntax.{isRule};
 ghost use Rattle.book.specs.Tables.{Laid};
 ghost use Rattle.trees.specs.Links.{slotOf, headOf, withClause, Room, Blank, Linked, Blanks, AllLinked};
-ghost use Rattle.trees.specs.Chains.{chainOutcome, restOutcome, settledClause, clauseOutcome, treeOutcome, clauseFor, Ready, Walk};
+ghost use Rattle.trees.specs.Chains.{chainOutcome, restOutcome, settledClause, treeOutcome, clauseFor, Ready, Walk};
 
 // A scope's links: 289 first bases, 128 first exceptions, 128 next siblings, 289 first rules.
 const EXCEPTIONS: usize = 289;
@@ -202,27 +200,6 @@ fn eval_chain(
         c = byte_at(links, SIBLINGS + c) as usize;
     }
     g
-}
-
-// Clause c of scope i; empty past the last.
-pub fn eval_clause(
-    book: &[u8],
-    places: &[u16],
-    counts: &[u8],
-    links: &[u8],
-    own: &[u64],
-    called: &[u64],
-    i: usize,
-    c: usize,
-) -> Outcome
-    requires { ⌜ Ready (now book) (now places) (now counts) (now links) i ⌝ }
-    ensures { λ r. ⌜ r ≡ clauseOutcome (now (book .entry)) (now (own .entry)) (now (called .entry)) i c ⌝ }
-{
-    if clause_count(book, places, counts, i) <= c {
-        return Outcome::Ends(Cause::Empty);
-    }
-    let x = eval_chain(book, places, counts, links, own, called, i, EXCEPTIONS + c);
-    settle_clause(book, places, counts, own, called, i, c, x)
 }
 
 // The default tree of a target of scope i: its bases; where none has a value, no if it has rules, empty if it has none.
