@@ -356,45 +356,15 @@ fn run(
     ensures { λ r. ⌜ Replied (now (book .entry)) i (now (given .entry)) (now (results .entry)) r (now (results .exit)) ⌝ }
 {
     if n <= 1 {
-        let mut links = [255u8; 834];
-        return run_in(
-            book,
-            places,
-            counts,
-            orders,
-            n,
-            i,
-            given,
-            &mut links,
-            results,
-        );
+        let mut row = [255u8; 834];
+        return run_in(book, places, counts, orders, n, i, given, &mut row, results);
     }
     if n <= 8 {
-        let mut links = [255u8; 6672];
-        return run_in(
-            book,
-            places,
-            counts,
-            orders,
-            n,
-            i,
-            given,
-            &mut links,
-            results,
-        );
+        let mut few = [255u8; 6672];
+        return run_in(book, places, counts, orders, n, i, given, &mut few, results);
     }
-    let mut links = [255u8; 26688];
-    run_in(
-        book,
-        places,
-        counts,
-        orders,
-        n,
-        i,
-        given,
-        &mut links,
-        results,
-    )
+    let mut all = [255u8; 26688];
+    run_in(book, places, counts, orders, n, i, given, &mut all, results)
 }
 
 // Evaluates scope i of an accepted book of n scopes.
