@@ -9,6 +9,9 @@ use calculus::Outcome;
 use calculus::Value;
 use cells::cell_of;
 use cells::given_at;
+use cells::none_given;
+use cells::recall;
+use cells::remember;
 use evaluation::Answer;
 use evaluation::Refusal;
 use judge::judge_into;
@@ -27,17 +30,15 @@ ghost use Rattle.trees.specs.Links.{Blanks};
 ghost use Rattle.trees.specs.Chains.{Ready};
 ghost use Rattle.evaluator.specs.Service.{Tabled, Asked, Replied, Evaluated};
 ghost use Rattle.evaluator.specs.Steps.{stepOutcome, Stored, Filling, Assigned, HandedOne, HandsAll, HandedAll, Came};
-ghost use Rattle.evaluator.specs.Known.{Copying, Copied, Ungiven, Known, Noting, Recalled, Entry};
+ghost use Rattle.evaluator.specs.Known.{Known, Noting, Recalled, Entry};
 ghost use Rattle.evaluator.specs.declared.Ran.the-variants.{Values};
 
-// The links of a scope, the order of its steps, the cells of a scope's variables, and those with the count of scopes entered.
+// The links of a scope, the order of its steps and the cells of its variables.
 const LINKS: usize = 834;
 
 const STEPS: usize = 40;
 
 const VARIABLES: usize = 32;
-
-const KNOWN: usize = 33;
 
 // How a run ended, with the count of scopes entered: in values, or by a cause.
 pub enum Ran {
@@ -174,36 +175,8 @@ fn hand_over(
     Outcome::Gives(Value::Truth(true))
 }
 
-// Copies the cells of a scope's variables.
-fn copy_cells(from: &[u64], start: usize, to: &mut [u64], at: usize)
-    requires { ⌜ Copying (now from) start (now to) at ⌝ }
-    ensures { λ _. ⌜ Copied (now (from .entry)) start 32 (now (to .entry)) at (now (to .exit)) ⌝ }
-{
-    let mut v: usize = 0;
-    while v < VARIABLES {
-        to[at + v] = from[start + v];
-        v += 1;
-    }
-}
-
-// Whether none of the first variables is given.
-fn none_given(given: &[u64], count: usize) -> bool
-    ensures { λ r. ⌜ Ungiven (now (given .entry)) count r ⌝ }
-{
-    let mut v: usize = 0;
-    while v < count {
-        let g = given_at(given, v);
-        match g {
-            Given::Absent => {}
-            Given::Present(_) => return false,
-        }
-        v += 1;
-    }
-    true
-}
-
 // Where nothing is given and what scope i then comes to is known: puts its values into `own`, and the count of scopes entered; else 0.
-fn recall(
+fn recall_scope(
     book: &[u8],
     places: &[u16],
     counts: &[u8],
@@ -215,19 +188,12 @@ fn recall(
     requires { ⌜ Noting (now book) (now places) (now counts) i (now own) (now memo) ⌝ }
     ensures { λ r. ⌜ Recalled (now (book .entry)) i (now (given .entry)) r (now (own .exit)) ⌝ }
 {
-    if !none_given(given, variable_count(book, places, counts, i)) {
-        return 0;
-    }
-    let known = memo[i * KNOWN] as usize;
-    if known == 0 {
-        return 0;
-    }
-    copy_cells(memo, i * KNOWN + 1, own, 0);
-    known
+    let bare = none_given(given, variable_count(book, places, counts, i));
+    recall(memo, i, bare, own)
 }
 
 // Keeps what scope i came to, where nothing was given.
-fn remember(
+fn remember_scope(
     book: &[u8],
     places: &[u16],
     counts: &[u8],
@@ -241,11 +207,8 @@ fn remember(
     requires { ⌜ Came (now book) i (now given) (Values count) (now own) ⌝ }
     ensures { λ _. ⌜ Known (now (book .entry)) (now (memo .exit)) ⌝ }
 {
-    if !none_given(given, variable_count(book, places, counts, i)) {
-        return;
-    }
-    copy_cells(own, 0, memo, i * KNOWN + 1);
-    memo[i * KNOWN] = count as u64;
+    let bare = none_given(given, variable_count(book, places, counts, i));
+    remember(own, count, i, bare, memo);
 }
 
 // Enters scope i: runs its steps in their order, and leaves the values of its variables in `own`. What is known is not run again.
@@ -264,7 +227,7 @@ fn enter(
     ensures { λ r. ⌜ Came (now (book .entry)) i (now (given .entry)) r (now (own .exit)) ⌝ }
     ensures { λ _. ⌜ Known (now (book .entry)) (now (memo .exit)) ⌝ }
 {
-    let known = recall(book, places, counts, i, given, memo, own);
+    let known = recall_scope(book, places, counts, i, given, memo, own);
     if 0 < known {
         return Ran::Values(known);
     }
@@ -298,7 +261,7 @@ fn enter(
             }
         }
     }
-    remember(book, places, counts, i, given, count, own, memo);
+    remember_scope(book, places, counts, i, given, count, own, memo);
     Ran::Values(count)
 }
 

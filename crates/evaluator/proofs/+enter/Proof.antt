@@ -20,8 +20,8 @@ use Rattle.book.proofs.sub_scope_at.Reads as sub-scope-at-reads
 use Rattle.book.proofs.sub_scope_count.Reads as sub-scope-count-reads
 use Rattle.book.proofs.variable_count.Reads as variable-count-reads
 use Rattle.evaluator.proofs.hand_over.Reads as hand-over-reads
-use Rattle.evaluator.proofs.recall.Reads as recall-reads
-use Rattle.evaluator.proofs.remember.Reads as remember-reads
+use Rattle.evaluator.proofs.recall_scope.Reads as recall-scope-reads
+use Rattle.evaluator.proofs.remember_scope.Reads as remember-scope-reads
 use Rattle.evaluator.proofs.set_variable.Reads as set-variable-reads
 use Rattle.record.proofs.byte_at.Reads as byte-at-reads
 use Rattle.record.proofs.part_of.Reads as part-of-reads
@@ -47,19 +47,19 @@ enter-μ-loop book places counts links orders i given own₀ memo₀ known row v
 
 abbrev R : ℕ → enter-lts.Claims
 R t =
-    (recall-reads.Asked, recall-reads.Learnt, part-of-reads.Asked, part-of-reads.Learnt, variable-count-reads.Asked, variable-count-reads.Learnt, sub-scope-count-reads.Asked, sub-scope-count-reads.Learnt, byte-at-reads.Asked, byte-at-reads.Learnt, set-variable-reads.Asked, set-variable-reads.Learnt, hand-over-reads.Asked, hand-over-reads.Learnt, sub-scope-at-reads.Asked, sub-scope-at-reads.Learnt, enter-below t, enter.Post, remember-reads.Asked, remember-reads.Learnt)
+    (recall-scope-reads.Asked, recall-scope-reads.Learnt, part-of-reads.Asked, part-of-reads.Learnt, variable-count-reads.Asked, variable-count-reads.Learnt, sub-scope-count-reads.Asked, sub-scope-count-reads.Learnt, byte-at-reads.Asked, byte-at-reads.Learnt, set-variable-reads.Asked, set-variable-reads.Learnt, hand-over-reads.Asked, hand-over-reads.Learnt, sub-scope-at-reads.Asked, sub-scope-at-reads.Learnt, enter-below t, enter.Post, remember-scope-reads.Asked, remember-scope-reads.Learnt)
 
-enter-recall-requires : (t : ℕ) → enter-lts.Need-recall-requires (R t) (enter-at t) enter.Post enter-Inv-loop enter-μ-loop
-enter-recall-requires t c κs = noting (c .before .before .before .before .before .before .before .before .before .before .pre .1) (c .before .before .before .before .before .before .before .before .before .before .pre .1 .room) (c .before .before .before .before .before .before .before .before .before .before .pre .1 .known)
+enter-recall-scope-requires : (t : ℕ) → enter-lts.Need-recall-scope-requires (R t) (enter-at t) enter.Post enter-Inv-loop enter-μ-loop
+enter-recall-scope-requires t c κs = noting (c .before .before .before .before .before .before .before .before .before .before .pre .1) (c .before .before .before .before .before .before .before .before .before .before .pre .1 .room) (c .before .before .before .before .before .before .before .before .before .before .pre .1 .known)
 
 enter-same-length : (t : ℕ) → enter-lts.Need-same-length (R t) (enter-at t) enter.Post enter-Inv-loop enter-μ-loop
-enter-same-length t c = c .before .before .before .recall .ensures .size ∙ sym (c .before .before .before .before .before .before .before .before .before .before .before .before .before .before .pre .1 .room)
+enter-same-length t c = c .before .before .before .recall-scope .ensures .size ∙ sym (c .before .before .before .before .before .before .before .before .before .before .before .before .before .before .pre .1 .room)
 
 enter-same-length-2 : (t : ℕ) → enter-lts.Need-same-length-2 (R t) (enter-at t) enter.Post enter-Inv-loop enter-μ-loop
 enter-same-length-2 t c = search needs
 
 enter-returns : (t : ℕ) → enter-lts.Need-returns (R t) (enter-at t) enter.Post enter-Inv-loop enter-μ-loop
-enter-returns t c = (c .before .before .before .recall .ensures .found (λ z. omega (arith, c .if1 .taken)), c .before .before .before .before .before .before .before .before .before .before .before .before .before .before .pre .1 .known)
+enter-returns t c = (c .before .before .before .recall-scope .ensures .found (λ z. omega (arith, c .if1 .taken)), c .before .before .before .before .before .before .before .before .before .before .before .before .before .before .pre .1 .known)
 
 enter-mul-part-of : (t : ℕ) → enter-lts.Need-mul-part-of (R t) (enter-at t) enter.Post enter-Inv-loop enter-μ-loop
 enter-mul-part-of t c = omega (arith, scope-few (c .before .before .before .before .before .before .before .before .before .before .before .before .before .before .pre .1))
@@ -77,7 +77,7 @@ enter-add-steps : (t : ℕ) → enter-lts.Need-add-steps (R t) (enter-at t) ente
 enter-add-steps t c = omega (arith, c .before .variable-count .ensures, c .sub-scope-count .ensures, (c .before .before .before .before .before .before .before .before .before .before .before .before .before .before .before .before .before .pre .1) .world .sound .variables (c .before .before .before .before .before .before .before .before .before .before .before .before .before .before .before .before .before .args .i), (c .before .before .before .before .before .before .before .before .before .before .before .before .before .before .before .before .before .pre .1) .world .sound .subScopes (c .before .before .before .before .before .before .before .before .before .before .before .before .before .before .before .before .before .args .i))
 
 enter-loop-holds : (t : ℕ) → enter-lts.Need-loop-holds (R t) (enter-at t) enter.Post enter-Inv-loop enter-μ-loop
-enter-loop-holds t c = (begins (c .before .before .before .before .before .before .before .before .before .before .before .before .before .before .before .before .before .pre .1) _ _ (c .before .before .before .before .before .before .recall .ensures .size), c .before .before .before .before .before .before .before .before .before .before .before .before .before .before .before .before .before .pre .1 .known)
+enter-loop-holds t c = (begins (c .before .before .before .before .before .before .before .before .before .before .before .before .before .before .before .before .before .pre .1) _ _ (c .before .before .before .before .before .before .recall-scope .ensures .size), c .before .before .before .before .before .before .before .before .before .before .before .before .before .before .before .before .before .pre .1 .known)
 
 enter-mul-byte-at : (t : ℕ) → enter-lts.Need-mul-byte-at (R t) (enter-at t) enter.Post enter-Inv-loop enter-μ-loop
 enter-mul-byte-at t c = omega (arith, scope-few (c .before .before .before .before .before .before .before .before .before .before .before .before .before .before .before .before .before .before .before .pre .1))
@@ -205,21 +205,21 @@ enter-same-length-8 t c = c .before .before .before .before .before .before .ent
 enter-returns-4 : (t : ℕ) → enter-lts.Need-returns-4 (R t) (enter-at t) enter.Post enter-Inv-loop enter-μ-loop
 enter-returns-4 t c = (end-call (c .before .before .before .before .before .before .before .before .before .before .before .before .before .before .before .before .before .before .before .before .before .before .before .before .before .before .before .before .before .before .before .before .before .before .before .before .before .before .before .pre .1) (c .before .before .before .before .before .before .before .before .before .before .before .before .before .before .before .before .before .before .before .before .before .loop .inv .0) (c .before .before .before .before .before .before .before .before .before .before .before .before .before .before .before .before .before .before .before .before .before .before .before .variable-count .ensures) (c .before .before .before .before .before .before .before .before .before .before .before .before .before .before .before .before .before .before .before .before .before .before .sub-scope-count .ensures) (c .before .before .before .before .before .before .before .before .before .before .before .before .before .before .before .before .before .before .before .before .loop-test .taken) (c .before .before .before .before .before .before .before .before .before .before .before .before .before .before .before .before .before .before .before .byte-at .ensures) (c .before .before .before .before .before .before .before .before .before .before .before .before .before .before .before .before .before .before .if2 .left) (c .before .before .before .before .before .before .before .before .before .before .before .before .before .before .hand-over .ensures) (c .before .before .before .before .before .before .before .before .before .before .before .enum-told2 .given .1) (c .before .before .before .before .before .before .before .before .before .before .sub-scope-at .ensures) (c .before .before .before .before .before .before .enter .ensures .0) (c .before .c3 .given .1), c .before .before .before .before .before .before .enter .ensures .1)
 
-enter-remember-requires : (t : ℕ) → enter-lts.Need-remember-requires (R t) (enter-at t) enter.Post enter-Inv-loop enter-μ-loop
-enter-remember-requires t c κs = (noting (c .before .before .before .before .before .before .before .before .before .before .before .before .before .before .before .before .before .before .before .before .before .pre .1) (c .before .before .before .loop .inv .0 .ownRoom) (c .before .before .before .loop .inv .1), ends (c .before .before .before .before .before .before .before .before .before .before .before .before .before .before .before .before .before .before .before .before .before .pre .1) (c .before .before .before .loop .inv .0) (c .before .before .before .before .before .variable-count .ensures) (c .before .before .before .before .sub-scope-count .ensures) (c .before .before .loop-test .left))
+enter-remember-scope-requires : (t : ℕ) → enter-lts.Need-remember-scope-requires (R t) (enter-at t) enter.Post enter-Inv-loop enter-μ-loop
+enter-remember-scope-requires t c κs = (noting (c .before .before .before .before .before .before .before .before .before .before .before .before .before .before .before .before .before .before .before .before .before .pre .1) (c .before .before .before .loop .inv .0 .ownRoom) (c .before .before .before .loop .inv .1), ends (c .before .before .before .before .before .before .before .before .before .before .before .before .before .before .before .before .before .before .before .before .before .pre .1) (c .before .before .before .loop .inv .0) (c .before .before .before .before .before .variable-count .ensures) (c .before .before .before .before .sub-scope-count .ensures) (c .before .before .loop-test .left))
 
 enter-same-length-9 : (t : ℕ) → enter-lts.Need-same-length-9 (R t) (enter-at t) enter.Post enter-Inv-loop enter-μ-loop
 enter-same-length-9 t c = c .before .before .before .before .before .before .loop .inv .0 .ownRoom ∙ sym (c .before .before .before .before .before .before .before .before .before .before .before .before .before .before .before .before .before .before .before .before .before .before .before .before .pre .1 .room)
 
 enter-same-length-10 : (t : ℕ) → enter-lts.Need-same-length-10 (R t) (enter-at t) enter.Post enter-Inv-loop enter-μ-loop
-enter-same-length-10 t c = c .before .before .remember .ensures .size ∙ sym (c .before .before .before .before .before .before .before .before .before .before .before .before .before .before .before .before .before .before .before .before .before .before .before .before .pre .1 .known .size)
+enter-same-length-10 t c = c .before .before .remember-scope .ensures .size ∙ sym (c .before .before .before .before .before .before .before .before .before .before .before .before .before .before .before .before .before .before .before .before .before .before .before .before .pre .1 .known .size)
 
 enter-returns-5 : (t : ℕ) → enter-lts.Need-returns-5 (R t) (enter-at t) enter.Post enter-Inv-loop enter-μ-loop
-enter-returns-5 t c = (ends (c .before .before .before .before .before .before .before .before .before .before .before .before .before .before .before .before .before .before .before .before .before .before .before .before .pre .1) (c .before .before .before .before .before .before .loop .inv .0) (c .before .before .before .before .before .before .before .before .variable-count .ensures) (c .before .before .before .before .before .before .before .sub-scope-count .ensures) (c .before .before .before .before .before .loop-test .left), c .before .before .remember .ensures)
+enter-returns-5 t c = (ends (c .before .before .before .before .before .before .before .before .before .before .before .before .before .before .before .before .before .before .before .before .before .before .before .before .pre .1) (c .before .before .before .before .before .before .loop .inv .0) (c .before .before .before .before .before .before .before .before .variable-count .ensures) (c .before .before .before .before .before .before .before .sub-scope-count .ensures) (c .before .before .before .before .before .loop-test .left), c .before .before .remember-scope .ensures)
 
 pub +enter-spec : {M : Type 1} → statement M
 +enter-spec = close μ-enter λ t. enter-lts.spec (R t) (enter-at t) enter.Post enter-Inv-loop enter-μ-loop
-    (enter-recall-requires t)
+    (enter-recall-scope-requires t)
     (enter-same-length t)
     (enter-same-length-2 t)
     (enter-returns t)
@@ -271,7 +271,7 @@ pub +enter-spec : {M : Type 1} → statement M
     (enter-same-length-7 t)
     (enter-same-length-8 t)
     (enter-returns-4 t)
-    (enter-remember-requires t)
+    (enter-remember-scope-requires t)
     (enter-same-length-9 t)
     (enter-same-length-10 t)
     (enter-returns-5 t)
