@@ -13,13 +13,12 @@ use lib.Seq.{take-all}
 use lib.Dec.{eqb, ltb}
 use borrow.Author.Tests.{eq-eqb, ne-eqb, lt-ltb, le-ltb, ltb-true, ltb-false}
 use Rattle.order.proofs.Booleans.{decide}
-use Rattle.record.specs.Kinds.{shapeIn}
-use Rattle.record.specs.declared.Medium.the-variants.{Code}
-use Rattle.record.specs.declared.Shape.{Shape}
 use Rattle.book.specs.Records.{follows, invalid}
 use Rattle.machine.specs.Acceptance.{counted, faulty}
+use Rattle.verifier.specs.Instructions.{rowOf}
 use Rattle.verifier.specs.Pass.{countOf, faultyAt, exceedsWith, Limited}
 use Rattle.verifier.specs.declared.Progress.{Progress}
+use Rattle.verifier.specs.declared.Row.{Row}
 
 shift : (a b : ℕ) → ltb (suc a) (b + 1) ≡ ltb a b
 shift a b =
@@ -46,8 +45,8 @@ module _ (s : ℕ) (u : Progress) where
       (λ (q : eqb s 1 ≡ false). rw (q, le-ltb 32 (u .variables) (l .variables), le-ltb 8 (u .subs) (l .subs)) refl)
       (decide (eqb s 1)))
 
--- the tests of a record of a shape, in their order
-tests : List ℕ → ℕ → Progress → Shape → Bool
+-- the tests of a record of a row, in their order
+tests : List ℕ → ℕ → Progress → Row → Bool
 tests code at u s =
     eqb (s .stage) 0
     || (ltb (length (drop (at + 1) code)) (s .length)
@@ -59,9 +58,9 @@ or-group : (a b d : Bool) → (a || (b || d)) ≡ ((a || b) || d)
 or-group true b d = refl
 or-group false b d = refl
 
-module _ (code : List ℕ) (at : ℕ) (u : Progress) (s : Shape) (es : s ≡ shapeIn Code (getD code at 0)) where
+module _ (code : List ℕ) (at : ℕ) (u : Progress) (s : Row) (es : s ≡ rowOf (getD code at 0)) where
   tests-are : tests code at u s ≡ faultyAt code at u
-  unfolding faultyAt faulty tests
+  unfolding faultyAt faulty tests rowOf
   tests-are = ap (tests code at u) es
 
   grouped : tests code at u s ≡ (eqb (s .stage) 0 ||

@@ -1,3 +1,4 @@
+mod Rows
 mod Faults
 mod Ring
 mod Reading

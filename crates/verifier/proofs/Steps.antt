@@ -17,10 +17,11 @@ use Rattle.order.proofs.Booleans.{decide, both}
 use Rattle.machine.specs.Blocks.{Block, Parsed, bodyLength, stageOf, variablesOf}
 use Rattle.machine.specs.Instructions.{instructionOf}
 use Rattle.machine.specs.Acceptance.{counted, sound, lands, fits, accepted}
-use Rattle.verifier.specs.Instructions.{namingOf, distancePlace, named, distanceOf, farthest}
+use Rattle.verifier.specs.Instructions.{rowOf, namingOf, distancePlace, named, distanceOf, farthest}
 use Rattle.verifier.specs.Tables.{blockAt}
 use Rattle.verifier.specs.Pass.{countOf, faultyAt, namesAt, instructionRead, mark, Passed, Marks, earlier, ahead, Busy, Reading, Instructed}
 use Rattle.verifier.specs.declared.Progress.{Progress}
+use Rattle.verifier.specs.declared.Row.{Row}
 use Rattle.verifier.proofs.Reading.{drop-here, ahead-at, length-below, front-four, NoHeads, no-heads}
 use Rattle.verifier.proofs.Blocks.{refused, sound-code, block-fits, Formed, formed}
 use Rattle.verifier.proofs.Fitting.{fits-parts, local}
@@ -154,7 +155,7 @@ module _ (code : List ℕ) (at : ℕ) (u : Progress) (spans heads places weights
       (busy .head .subsLeft ∙ ap (λ (p : Parsed). p .opened .subScopes) front ∙ no-more a .subScopes)
 
   -- what is refused
-  pub names-refused : namesAt (getD code at 0) (drop (at + 1) code) heads widths u ≡ false → accepted code ≡ false
+  pub names-refused : namesAt (namingOf (getD code at 0)) (drop (at + 1) code) heads widths u ≡ false → accepted code ≡ false
   unfolding namesAt names called k rest
   names-refused q =
       refused code
@@ -175,7 +176,7 @@ module _ (code : List ℕ) (at : ℕ) (u : Progress) (spans heads places weights
       refused code (λ a. back-inside k bs left whole e b at (u .reach) ring marks d h (omega arith) (omega arith) s (accepted-fit a .fit))
 
   -- what holds after it
-  module _ (named-ok : namesAt (getD code at 0) (drop (at + 1) code) heads widths u ≡ true)
+  module _ (named-ok : namesAt (namingOf (getD code at 0)) (drop (at + 1) code) heads widths u ≡ true)
       (d : ℕ) (ed : d ≡ distanceOf (distancePlace (getD code at 0)) (drop (at + 1) code)) (small : d < 65536)
       (clear : (p : ℕ) → at + 1 ≤ p → p < nextAt code at → mark ring p ≡ 0) where
     fit-lands : fits e b (instructionOf k (bs ++ left)) left ≡ lands left 0 d
@@ -260,33 +261,35 @@ module _ (code : List ℕ) (at : ℕ) (u : Progress) (spans heads places weights
 
 -- What the code reads
 
-module _ (kind : ℕ) (body : List ℕ) (at next : ℕ) (u : Progress) (heads widths ring : List ℕ) (r : Bool)
-    (er : r ≡ namesAt kind body heads widths u) where
-  names-at : (code : List ℕ) → kind ≡ getD code at 0 → body ≡ drop (at + 1) code → r ≡ namesAt (getD code at 0) (drop (at + 1) code) heads widths u
+module _ (row : Row) (body : List ℕ) (at next : ℕ) (u : Progress) (heads widths ring : List ℕ) (r : Bool)
+    (er : r ≡ namesAt (row .naming) body heads widths u) where
+  names-at : (code : List ℕ) → row ≡ rowOf (getD code at 0) → body ≡ drop (at + 1) code → r ≡ namesAt (namingOf (getD code at 0)) (drop (at + 1) code) heads widths u
+  unfolding rowOf
   names-at code ek eb = er ∙ rw (ek, eb)
 
-  pub refuse-names : r ≡ false → (ring' : List ℕ) → Instructed kind body at next u heads widths ring ring' Refused
+  pub refuse-names : r ≡ false → (ring' : List ℕ) → Instructed row body at next u heads widths ring ring' Refused
   refuse-names h ring' code spans places weights i rd =
       names-refused code at u spans heads places weights widths ring rd (i .here) (i .fine) (i .stage)
-      (sym (names-at code (i .kindIs) (i .bodyIs)) ∙ h)
+      (sym (names-at code (i .rowIs) (i .bodyIs)) ∙ h)
 
   pub refuse-marks : (p : Bool) → Passed ring (at + 1) next p → p ≡ false → (ring' : List ℕ)
-      → Instructed kind body at next u heads widths ring ring' Refused
+      → Instructed row body at next u heads widths ring ring' Refused
   refuse-marks p passed h ring' code spans places weights i rd =
       let t = passed .hit h in
       let l : t .0 < nextAt code at = let z = t .2 in let y = i .nextIs in omega arith in
       inside-refused code at u spans heads places weights widths ring rd (i .here) (i .fine) (i .stage) (t .0) (t .1) l (t .3)
 
-  pub take-instruction : r ≡ true → (p : Bool) → Passed ring (at + 1) next p → p ≡ true → (place d f : ℕ) → place ≡ distancePlace kind
-      → d ≡ distanceOf place body → d < 65536
+  pub take-instruction : r ≡ true → (p : Bool) → Passed ring (at + 1) next p → p ≡ true → (d f : ℕ)
+      → d ≡ distanceOf (row .place) body → d < 65536
       → f ≡ farthest (u .reach) (next - at) d
-      → Instructed kind body at next u heads widths ring (set (set ring (at % 65536) 0) ((next % 65536 + d) % 65536) 1)
+      → Instructed row body at next u heads widths ring (set (set ring (at % 65536) 0) ((next % 65536 + d) % 65536) 1)
       (Next next (instructionRead u f))
-  take-instruction ok p passed clear place d f ep ed small ef code spans places weights i rd =
+  unfolding rowOf
+  take-instruction ok p passed clear d f ed small ef code spans places weights i rd =
       let n = i .nextIs in
-      let e : d ≡ distanceOf (distancePlace (getD code at 0)) (drop (at + 1) code) = ed ∙ rw (ep, i .kindIs, i .bodyIs) in
+      let e : d ≡ distanceOf (distancePlace (getD code at 0)) (drop (at + 1) code) = ed ∙ rw (i .rowIs, i .bodyIs) in
       let t =
       instruction-turn code at u spans heads places weights widths ring rd (i .here) (i .fine) (i .stage)
-      (sym (names-at code (i .kindIs) (i .bodyIs)) ∙ ok) d e small
+      (sym (names-at code (i .rowIs) (i .bodyIs)) ∙ ok) d e small
       (λ q a b. passed .clear clear q a (omega arith)) in
       (omega arith, rw (ef, n) t)

@@ -11,30 +11,38 @@ use lib.Seq.{getD-drop, take-all}
 use lib.Dec.{eqb}
 use borrow.Author.Tests.{eqb-true, eqb-false}
 use Rattle.order.proofs.Booleans.{decide}
-use Rattle.record.specs.Kinds.{shapeIn}
-use Rattle.record.specs.declared.Shape.{Shape}
 use Rattle.machine.specs.Blocks.{stageOf}
-use Rattle.verifier.specs.Pass.{faultyAt, variableRead, Reading, AtInstruction, Beginning, SubRoom, SubRead, Stepped, Instructing}
+use Rattle.verifier.specs.Instructions.{rowOf}
+use Rattle.verifier.specs.Pass.{faultyAt, VariableRoom, VariableNoted, Reading, AtInstruction, AtHeading, Beginning, SubRoom, SubRead, Stepped, Instructing}
 use Rattle.verifier.specs.declared.Progress.{Progress}
+use Rattle.verifier.specs.declared.Row.{Row}
 use Rattle.scan.proofs.Shapes.{in-order}
 use Rattle.verifier.proofs.Reading.{stage-below}
-use Rattle.record.specs.declared.Medium.the-variants.{Code}
 use Rattle.verifier.proofs.Turns.{nextAt, is-clean, next-inside}
 use Rattle.verifier.proofs.Heads.{variable-room, variable-turn, sub-room, sub-refused, sub-turn}
 use Rattle.verifier.specs.declared.Step.{Step}
 use Rattle.verifier.specs.declared.Step.the-variants.{Next}
 
+pub makes-heading : (code : List ℕ) (at : ℕ) (u : Progress) (spans heads places weights widths ring : List ℕ)
+    → Reading code at u spans heads places weights widths ring → at < length code → (s : Row) → s ≡ rowOf (getD code at 0) → (s .stage ≡ 4 → ⊥)
+    → AtHeading code at u spans heads places weights widths ring
+unfolding rowOf
+makes-heading code at u spans heads places weights widths ring r here s es no-four =
+    record { reading = r; here = here; noInstruction = λ z. no-four (ap (λ (y : Row). y .stage) es ∙ z) }
+
 module _ (code : List ℕ) (at : ℕ) (u : Progress) (spans heads places weights widths ring : List ℕ)
     (r : Reading code at u spans heads places weights widths ring) (here : at < length code)
-    (x : Bool) (ex : x ≡ faultyAt code at u) (fine : x ≡ false) (s : Shape) (es : s ≡ shapeIn Code (getD code at 0)) where
+    (x : Bool) (ex : x ≡ faultyAt code at u) (fine : x ≡ false) (s : Row) (es : s ≡ rowOf (getD code at 0)) where
   ok : faultyAt code at u ≡ false
   ok = sym ex ∙ fine
 
   next-is : at + 1 + s .length ≡ nextAt code at
-  next-is = ap (λ (y : Shape). at + 1 + y .length) es
+  unfolding rowOf
+  next-is = ap (λ (y : Row). at + 1 + y .length) es
 
   stage-is : s .stage ≡ stageOf (getD code at 0)
-  stage-is = ap (λ (y : Shape). y .stage) es
+  unfolding rowOf
+  stage-is = ap (λ (y : Row). y .stage) es
 
   pub next-within : at + 1 + s .length ≤ length code
   next-within = rw next-is (next-inside code at u spans heads places weights widths ring r here ok)
@@ -46,11 +54,10 @@ module _ (code : List ℕ) (at : ℕ) (u : Progress) (spans heads places weights
     pub makes-beginning : s .stage ≡ 1 → Beginning code at (at + 1 + s .length) b u spans heads places weights widths ring
     makes-beginning e = record { reading = r; here = here; fine = ok; stage = sym stage-is ∙ e; nextIs = next-is; scopeIs = first-is }
 
-    pub variable-stepped : s .stage ≡ 2
-        → Stepped code at spans (set heads (u .blocks * 48 + 3 + u .variables) b) places weights widths ring
-        (Next (at + 1 + s .length) (variableRead u (at + 1 + s .length)))
-    variable-stepped e =
-        rw (next-is, first-is) (omega arith, variable-turn code at u spans heads places weights widths ring r here ok (sym stage-is ∙ e))
+    pub variable-stepped : s .stage ≡ 2 → (heads' : List ℕ) (y : Step) → VariableNoted b (at + 1 + s .length) u heads heads' y
+        → Stepped code at spans heads' places weights widths ring y
+    variable-stepped e heads' y h =
+        rw (h .0, h .1, next-is, first-is) (omega arith, variable-turn code at u spans heads places weights widths ring r here ok (sym stage-is ∙ e))
 
     pub makes-sub-room : s .stage ≡ 3 → SubRoom b u heads weights
     makes-sub-room e =
@@ -71,23 +78,24 @@ module _ (code : List ℕ) (at : ℕ) (u : Progress) (spans heads places weights
         (omega arith, sub-turn code at u spans heads places weights widths ring r here ok (sym stage-is ∙ e) (rw first-is at z)))
         (decide (eqb (getD places b 0) 0))
 
-  pub variable-fits : s .stage ≡ 2 → (u .variables < 32) × (u .blocks < 32) × (length heads ≡ 1536)
-  variable-fits e =
+  pub makes-variable-room : s .stage ≡ 2 → VariableRoom u heads
+  makes-variable-room e =
       let h = variable-room code at u spans heads places weights widths ring r here ok (sym stage-is ∙ e) in
-      (h .0, h .1, r .sized .room .headRoom)
+      record { headRoom = r .sized .room .headRoom; blocks = h .1; variables = h .0 }
 
-  -- an instruction is what is left
-  module _ (one : s .stage ≡ 1 → ⊥) (two : s .stage ≡ 2 → ⊥) (three : s .stage ≡ 3 → ⊥) where
+  -- a sub-scope is what is left
+  pub is-sub : (stageOf (getD code at 0) ≡ 4 → ⊥) → (s .stage ≡ 1 → ⊥) → (s .stage ≡ 2 → ⊥) → s .stage ≡ 3
+  is-sub four one two =
+      let k = is-clean code at u spans heads places weights widths ring r here ok .known in
+      left (s .stage) (λ z. k (sym stage-is ∙ z)) one two (λ z. four (sym stage-is ∙ z)) (rw stage-is (stage-below (getD code at 0)))
+    where
+      left : (n : ℕ) → (n ≡ 0 → ⊥) → (n ≡ 1 → ⊥) → (n ≡ 2 → ⊥) → (n ≡ 4 → ⊥) → n ≤ 4 → n ≡ 3
+      left n a b c d h = omega arith
+
+  -- an instruction
+  module _ (is-four : s .stage ≡ 4) where
     four : stageOf (getD code at 0) ≡ 4
-    four = only (s .stage) (stage-is) one two three
-      where
-        left : (n : ℕ) → (n ≡ 0 → ⊥) → (n ≡ 1 → ⊥) → (n ≡ 2 → ⊥) → (n ≡ 3 → ⊥) → n ≤ 4 → n ≡ 4
-        left n a b c d h = omega arith
-
-        only : (n : ℕ) → n ≡ stageOf (getD code at 0) → (n ≡ 1 → ⊥) → (n ≡ 2 → ⊥) → (n ≡ 3 → ⊥) → stageOf (getD code at 0) ≡ 4
-        only n e a b c =
-            let k = is-clean code at u spans heads places weights widths ring r here ok .known in
-            sym e ∙ left n (λ z. k (sym e ∙ z)) a b c (rw e (stage-below (getD code at 0)))
+    four = sym stage-is ∙ is-four
 
     pub makes-instructing : Instructing at (at + 1 + s .length) u ring
     makes-instructing =
@@ -95,12 +103,12 @@ module _ (code : List ℕ) (at : ℕ) (u : Progress) (spans heads places weights
         (rw four (omega arith)) in
         record { ringRoom = r .sized .ringRoom; ordered = omega arith; blocks = r .busy (o .0) .head .room }
 
-    pub at-instruction : AtInstruction code (getD code at 0) (take (length code - (at + 1)) (drop (at + 1) code)) at (at + 1 + s .length) u
+    pub at-instruction : AtInstruction code s (take (length code - (at + 1)) (drop (at + 1) code)) at (at + 1 + s .length) u
     at-instruction =
         record {
           here = here;
           fine = ok;
-          kindIs = refl;
+          rowIs = es;
           bodyIs = take-all (length code - (at + 1)) (drop (at + 1) code) (rw length-drop (omega arith));
           stage = four;
           nextIs = next-is;

@@ -1,9 +1,12 @@
--- What the pass looks at in an instruction: what its numbers name, and its distance.
+-- What the pass looks at in a record: its kind's row, and of an instruction what its numbers name, and its distance.
 use Prim.Native.Nat.{ℕ, _-_}
 use mathlib.Core.Bool.{Bool, true, cond, _&&_, _||_}
 use mathlib.Core.List.{List}
 use lib.Dec.{eqb, ltb}
 use Rattle.record.specs.Bytes.{bigEndian}
+use Rattle.record.specs.Kinds.{shapeIn}
+use Rattle.record.specs.declared.Medium.the-variants.{Code}
+use Rattle.verifier.specs.declared.Row.{Row}
 
 -- 1 own variable, 2 sub-scope and variable, 3 sub-scope, 0 nothing
 unfoldable pub namingOf : ℕ → ℕ
@@ -16,6 +19,9 @@ namingOf k =
 -- 1 in the first two bytes, 2 after the first byte, 0 nowhere
 unfoldable pub distancePlace : ℕ → ℕ
 distancePlace k = cond (eqb k 34 || (eqb k 35 || (eqb k 36 || eqb k 40))) 1 (cond (eqb k 44) 2 0)
+
+unfoldable pub rowOf : ℕ → Row
+rowOf k = record { length = shapeIn Code k .length; stage = shapeIn Code k .stage; naming = namingOf k; place = distancePlace k }
 
 -- the numbers a and b name something: v variables, s sub-scopes, of which sub-scope a has c variables
 unfoldable pub named : ℕ → ℕ → ℕ → ℕ → ℕ → ℕ → Bool

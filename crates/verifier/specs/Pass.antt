@@ -10,9 +10,10 @@ use Rattle.book.specs.Syntax.{typeOf}
 use Rattle.book.specs.declared.ValueType.the-variants.{YesNo}
 use Rattle.machine.specs.Blocks.{Block, Parsed, emptyBlock, bodyLength, stageOf, parse, hasBlock, variablesOf}
 use Rattle.machine.specs.Acceptance.{Count, start, counted, faulty, sound, lands, allFit, weightIn, allWellFormed, accepted}
-use Rattle.verifier.specs.Instructions.{namingOf, named}
+use Rattle.verifier.specs.Instructions.{rowOf, named}
 use Rattle.verifier.specs.Tables.{blockAt, Entered, Tabled, Room}
 use Rattle.verifier.specs.declared.Progress.{Progress}
+use Rattle.verifier.specs.declared.Row.{Row}
 use Rattle.verifier.specs.declared.Step.{Step}
 use Rattle.verifier.specs.declared.Step.the-variants.{Refused, Next}
 use Rattle.verifier.specs.declared.Closing.{Closing}
@@ -37,11 +38,11 @@ pub record Limited (u : Progress) : Type 0 where
   pub variables : u .variables ≤ 32
   pub subs : u .subs ≤ 8
 
--- the numbers of an instruction, by its kind and all bytes after it, name something in the present block, as the tables have it
+-- the numbers of an instruction, by what they name and all bytes after its kind, name something in the present block, as the tables have it
 unfoldable pub namesAt : ℕ → List ℕ → List ℕ → List ℕ → Progress → Bool
-namesAt kind body heads widths u =
+namesAt naming body heads widths u =
     let a = getD body 0 0 in
-    named (namingOf kind) a (getD body 1 0) (u .variables) (u .subs) (getD widths (getD heads (u .blocks * 48 + 35 + a) 0) 0)
+    named naming a (getD body 1 0) (u .variables) (u .subs) (getD widths (getD heads (u .blocks * 48 + 35 + a) 0) 0)
 
 -- What was read
 
@@ -210,11 +211,17 @@ abbrev pub Stepped : List ℕ → ℕ → List ℕ → List ℕ → List ℕ →
 Stepped code at spans heads places weights widths ring Refused = accepted code ≡ false
 Stepped code at spans heads places weights widths ring (Next next u) = (at < next) × Reading code next u spans heads places weights widths ring
 
--- the record at a position is an instruction without fault, of a kind and with all bytes after it
-pub record AtInstruction (code : List ℕ) (kind : ℕ) (body : List ℕ) (at next : ℕ) (u : Progress) : Type 0 where
+-- the record at a position is no instruction
+pub record AtHeading (code : List ℕ) (at : ℕ) (u : Progress) (spans heads places weights widths ring : List ℕ) : Type 0 where
+  pub reading : Reading code at u spans heads places weights widths ring
+  pub here : at < length code
+  pub noInstruction : stageOf (getD code at 0) ≡ 4 → ⊥
+
+-- the record at a position is an instruction without fault, of a row and with all bytes after its kind
+pub record AtInstruction (code : List ℕ) (row : Row) (body : List ℕ) (at next : ℕ) (u : Progress) : Type 0 where
   pub here : at < length code
   pub fine : faultyAt code at u ≡ false
-  pub kindIs : kind ≡ getD code at 0
+  pub rowIs : row ≡ rowOf (getD code at 0)
   pub bodyIs : body ≡ drop (at + 1) code
   pub stage : stageOf (getD code at 0) ≡ 4
   pub nextIs : next ≡ at + 1 + bodyLength (getD code at 0)
@@ -224,9 +231,9 @@ pub record Instructing (at next : ℕ) (u : Progress) (ring : List ℕ) : Type 0
   pub ordered : at < next
   pub blocks : u .blocks < 32
 
-abbrev pub Instructed : ℕ → List ℕ → ℕ → ℕ → Progress → List ℕ → List ℕ → List ℕ → List ℕ → Step → Type 0
-Instructed kind body at next u heads widths ring ring' r =
-    (code spans places weights : List ℕ) → AtInstruction code kind body at next u → Reading code at u spans heads places weights widths ring
+abbrev pub Instructed : Row → List ℕ → ℕ → ℕ → Progress → List ℕ → List ℕ → List ℕ → List ℕ → Step → Type 0
+Instructed row body at next u heads widths ring ring' r =
+    (code spans places weights : List ℕ) → AtInstruction code row body at next u → Reading code at u spans heads places weights widths ring
     → Stepped code at spans heads places weights widths ring' r
 
 -- the present block ends at a position
@@ -255,6 +262,16 @@ pub record Beginning (code : List ℕ) (at next scope : ℕ) (u : Progress) (spa
 -- a block of a scope after m closed ones: "a repeated scope or one above 31" is refused
 unfoldable pub opening : ℕ → ℕ → ℕ → List ℕ → Step
 opening scope next m places = cond (ltb 31 scope) Refused (cond (eqb (getD places scope 0) 0) (Next next (blockRead m scope next)) Refused)
+
+-- there is room for one more variable
+pub record VariableRoom (u : Progress) (heads : List ℕ) : Type 0 where
+  pub headRoom : length heads ≡ 1536
+  pub blocks : u .blocks < 32
+  pub variables : u .variables < 32
+
+-- one more variable, of a type byte
+abbrev pub VariableNoted : ℕ → ℕ → Progress → List ℕ → List ℕ → Step → Type 0
+VariableNoted byte next u heads heads' r = (r ≡ Next next (variableRead u next)) × (heads' ≡ set heads (u .blocks * 48 + 3 + u .variables) byte)
 
 -- there is room for one more sub-scope
 pub record SubRoom (scope : ℕ) (u : Progress) (heads weights : List ℕ) : Type 0 where

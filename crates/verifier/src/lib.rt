@@ -1,22 +1,17 @@
 // Judging code in one pass over its bytes: whether it is accepted, and the tables by which the blocks of accepted code are found.
 //   weights, widths   of each of 32 scopes: the weight of its block and the number of its variables, 0 where it has no block
 //   ring              the landings of distances that lie ahead: a mark for each position, by its remainder modulo 65,536
-use record::Medium;
-use record::Shape;
 use record::byte_at;
-use record::shape_in;
 use scan::is_invalid;
 use scan::may_follow;
 ghost use mathlib.Core.Path.{_≡_};
 ghost use Prim.Native.Nat.{_+_, _<_, _≤_, _*_};
 ghost use lib.ListN.{length, getD, replicate};
-ghost use Rattle.record.specs.Kinds.{shapeIn};
-ghost use Rattle.record.specs.declared.Medium.the-variants.{Code};
 ghost use Rattle.machine.specs.Acceptance.{accepted};
 ghost use Rattle.verifier.specs.Tables.{Room};
-ghost use Rattle.verifier.specs.Instructions.{namingOf, distancePlace, named, distanceOf, farthest};
+ghost use Rattle.verifier.specs.Instructions.{rowOf, named, distanceOf, farthest};
 ghost use Rattle.verifier.specs.Pass.{faultyAt, exceedsWith, Limited, namesAt, Passed, nothingRead, Reading};
-ghost use Rattle.verifier.specs.Pass.{Stepped, Instructing, Instructed, Leaving, Left, Beginning, opening, SubRoom, SubRead, Empty, Judged};
+ghost use Rattle.verifier.specs.Pass.{Stepped, Instructing, Instructed, Leaving, Left, Beginning, opening, VariableRoom, VariableNoted, AtHeading, SubRoom, SubRead, Empty, Judged};
 
 // Code is refused, or accepted with the number of its blocks.
 pub enum Verdict {
@@ -35,6 +30,16 @@ struct Progress {
     pub begin: usize,
     pub weight: usize,
     pub reach: usize,
+}
+
+// What the pass looks at in a kind: how many bytes follow it, its stage, what its first numbers name, and where its distance stands.
+//   naming   1 an own variable, 2 a sub-scope and its variable, 3 a sub-scope, 0 nothing
+//   place    1 in the first two bytes, 2 after the first byte, 0 nowhere
+struct Row {
+    pub length: usize,
+    pub stage: usize,
+    pub naming: usize,
+    pub place: usize,
 }
 
 // After a record: the code is refused, or the position of the next record and what was read.
@@ -92,13 +97,13 @@ fn too_many(stage: usize, u: Progress) -> bool
     false
 }
 
-// Whether the record at a position has one of the faults 1 to 5, by its kind and the kind's shape.
-fn is_faulty(code: &[u8], at: usize, kind: u8, shape: Shape, u: Progress) -> bool
-    requires { ⌜ (at < length (now code)) × Limited u × (kind ≡ getD (now code) at 0) × (shape ≡ shapeIn Code (getD (now code) at 0)) ⌝ }
+// Whether the record at a position has one of the faults 1 to 5, by its kind and the kind's row.
+fn is_faulty(code: &[u8], at: usize, kind: u8, row: Row, u: Progress) -> bool
+    requires { ⌜ (at < length (now code)) × Limited u × (kind ≡ getD (now code) at 0) × (row ≡ rowOf (getD (now code) at 0)) ⌝ }
     ensures { λ r. ⌜ r ≡ faultyAt (now (code .entry)) at u ⌝ }
 {
-    let stage = shape.stage;
-    let length = shape.length;
+    let stage = row.stage;
+    let length = row.length;
     if stage == 0 {
         return true;
     }
@@ -115,26 +120,95 @@ fn is_faulty(code: &[u8], at: usize, kind: u8, shape: Shape, u: Progress) -> boo
     is_invalid(kind, &code[start..])
 }
 
-// What the first numbers of an instruction name: 1 an own variable, 2 a sub-scope and its variable, 3 a sub-scope, 0 nothing.
-fn naming_of(kind: u8) -> usize
-    ensures { λ r. ⌜ r ≡ namingOf kind ⌝ }
+// The row of a kind. No arm has two kinds that follow each other, so the compiler makes a table of it.
+fn row_of(kind: u8) -> Row
+    ensures { λ r. ⌜ r ≡ rowOf kind ⌝ }
 {
     match kind {
-        6 | 41 | 44 => 1,
-        7 | 42 => 2,
-        43 => 3,
-        _ => 0,
-    }
-}
-
-// Where the distance of an instruction stands: 1 in its first two bytes, 2 after its first byte, 0 nowhere.
-fn distance_place(kind: u8) -> usize
-    ensures { λ r. ⌜ r ≡ distancePlace kind ⌝ }
-{
-    match kind {
-        34 | 35 | 36 | 40 => 1,
-        44 => 2,
-        _ => 0,
+        1 => Row {
+            length: 1,
+            stage: 1,
+            naming: 0,
+            place: 0,
+        },
+        2 => Row {
+            length: 1,
+            stage: 2,
+            naming: 0,
+            place: 0,
+        },
+        3 => Row {
+            length: 1,
+            stage: 3,
+            naming: 0,
+            place: 0,
+        },
+        4 => Row {
+            length: 1,
+            stage: 4,
+            naming: 0,
+            place: 0,
+        },
+        5 => Row {
+            length: 4,
+            stage: 4,
+            naming: 0,
+            place: 0,
+        },
+        6 | 41 => Row {
+            length: 1,
+            stage: 4,
+            naming: 1,
+            place: 0,
+        },
+        7 | 42 => Row {
+            length: 2,
+            stage: 4,
+            naming: 2,
+            place: 0,
+        },
+        10 | 12 | 14 | 16 | 32 | 37 | 39 => Row {
+            length: 0,
+            stage: 4,
+            naming: 0,
+            place: 0,
+        },
+        11 | 13 | 15 | 33 | 38 => Row {
+            length: 0,
+            stage: 4,
+            naming: 0,
+            place: 0,
+        },
+        34 | 36 | 40 => Row {
+            length: 2,
+            stage: 4,
+            naming: 0,
+            place: 1,
+        },
+        35 => Row {
+            length: 2,
+            stage: 4,
+            naming: 0,
+            place: 1,
+        },
+        43 => Row {
+            length: 1,
+            stage: 4,
+            naming: 3,
+            place: 0,
+        },
+        44 => Row {
+            length: 3,
+            stage: 4,
+            naming: 1,
+            place: 2,
+        },
+        _ => Row {
+            length: 0,
+            stage: 0,
+            naming: 0,
+            place: 0,
+        },
     }
 }
 
@@ -213,11 +287,10 @@ fn farther(reach: usize, passed: usize, d: usize) -> usize
 }
 
 // Whether the numbers of an instruction name something in its block; `widths` has the variables of each sub-scope's scope.
-fn names_hold(kind: u8, body: &[u8], u: Progress, heads: &[u8], widths: &[usize]) -> bool
+fn names_hold(naming: usize, body: &[u8], u: Progress, heads: &[u8], widths: &[usize]) -> bool
     requires { ⌜ u .blocks < 32 ⌝ }
-    ensures { λ r. ⌜ r ≡ namesAt kind (now (body .entry)) (now (heads .entry)) (now (widths .entry)) u ⌝ }
+    ensures { λ r. ⌜ r ≡ namesAt naming (now (body .entry)) (now (heads .entry)) (now (widths .entry)) u ⌝ }
 {
-    let naming = naming_of(kind);
     if naming == 0 {
         return true;
     }
@@ -227,9 +300,9 @@ fn names_hold(kind: u8, body: &[u8], u: Progress, heads: &[u8], widths: &[usize]
     names_something(naming, a, b, u.variables, u.subs, called)
 }
 
-// An instruction at a position, by its kind and all bytes after it, up to the next record. One without a distance lands at its own end.
+// An instruction at a position, by its row and all bytes after its kind, up to the next record. One without a distance lands at its own end.
 fn instruction(
-    kind: u8,
+    row: Row,
     body: &[u8],
     at: usize,
     next: usize,
@@ -240,15 +313,15 @@ fn instruction(
 ) -> Step
     requires { ⌜ Instructing at next u (now ring) ⌝ }
     ensures { λ r.
-        ⌜ Instructed kind (now (body .entry)) at next u (now (heads .entry)) (now (widths .entry)) (now (ring .entry)) (now (ring .exit)) r ⌝ }
+        ⌜ Instructed row (now (body .entry)) at next u (now (heads .entry)) (now (widths .entry)) (now (ring .entry)) (now (ring .exit)) r ⌝ }
 {
-    if !names_hold(kind, body, u, heads, widths) {
+    if !names_hold(row.naming, body, u, heads, widths) {
         return Step::Refused;
     }
     if !unmarked(ring, at + 1, next) {
         return Step::Refused;
     }
-    let d = distance_of(body, distance_place(kind));
+    let d = distance_of(body, row.place);
     ring[at % 65536] = 0;
     ring[(next % 65536 + d) % 65536] = 1;
     let mut v = u;
@@ -348,6 +421,20 @@ fn begin_block(
     }
 }
 
+// A record of kind 2.
+fn variable(byte: u8, next: usize, u: Progress, heads: &mut [u8]) -> Step
+    requires { ⌜ VariableRoom u (now heads) ⌝ }
+    ensures { λ r. ⌜ VariableNoted byte next u (now (heads .entry)) (now (heads .exit)) r ⌝ }
+{
+    let v = u.variables;
+    heads[u.blocks * 48 + 3 + v] = byte;
+    let mut w = u;
+    w.stage = 2;
+    w.variables = v + 1;
+    w.begin = next;
+    Step::Next(next, w)
+}
+
 // A record of kind 3, unless its scope has no block yet.
 fn sub_scope(
     scope: u8,
@@ -375,6 +462,51 @@ fn sub_scope(
     Step::Next(next, v)
 }
 
+// A record at a position that is no instruction: of kind 1, 2 or 3, or unknown.
+fn heading_at(
+    code: &[u8],
+    at: usize,
+    u: Progress,
+    spans: &mut [usize],
+    heads: &mut [u8],
+    places: &mut [u8],
+    weights: &mut [usize],
+    widths: &mut [usize],
+    ring: &mut [u8],
+) -> Step
+    requires { ⌜ AtHeading (now code) at u (now spans) (now heads) (now places) (now weights) (now widths) (now ring) ⌝ }
+    ensures { λ r.
+        ⌜ Stepped (now (code .entry)) at (now (spans .exit)) (now (heads .exit)) (now (places .exit))
+        (now (weights .exit)) (now (widths .exit)) (now (ring .exit)) r ⌝ }
+{
+    let kind = code[at];
+    let row = row_of(kind);
+    if is_faulty(code, at, kind, row, u) {
+        return Step::Refused;
+    }
+    let next = at + 1 + row.length;
+    let first = byte_at(code, at + 1);
+    if row.stage == 1 {
+        return begin_block(
+            code,
+            at,
+            next,
+            first,
+            u,
+            spans,
+            heads,
+            places,
+            weights,
+            widths,
+            ring,
+        );
+    }
+    if row.stage == 2 {
+        return variable(first, next, u, heads);
+    }
+    sub_scope(first, next, u, heads, places, weights)
+}
+
 // The record at a position, after what was read.
 fn step_at(
     code: &[u8],
@@ -393,44 +525,24 @@ fn step_at(
         (now (weights .exit)) (now (widths .exit)) (now (ring .exit)) r ⌝ }
 {
     let kind = code[at];
-    let shape = shape_in(Medium::Code, kind);
-    if is_faulty(code, at, kind, shape, u) {
+    let row = row_of(kind);
+    if row.stage != 4 {
+        return heading_at(code, at, u, spans, heads, places, weights, widths, ring);
+    }
+    if is_faulty(code, at, kind, row, u) {
         return Step::Refused;
     }
-    let stage = shape.stage;
-    let length = shape.length;
     let start = at + 1;
-    let next = start + length;
-    let first = byte_at(code, start);
-    if stage == 1 {
-        return begin_block(
-            code,
-            at,
-            next,
-            first,
-            u,
-            spans,
-            heads,
-            places,
-            weights,
-            widths,
-            ring,
-        );
-    }
-    if stage == 2 {
-        let m = u.blocks;
-        let v = u.variables;
-        heads[m * 48 + 3 + v] = first;
-        let mut w = u;
-        w.stage = 2;
-        w.variables = v + 1;
-        w.begin = next;
-        return Step::Next(next, w);
-    }
-    if stage == 3 {
-        return sub_scope(first, next, u, heads, places, weights);
-    }
-    instruction(kind, &code[start..], at, next, u, heads, widths, ring)
+    instruction(
+        row,
+        &code[start..],
+        at,
+        start + row.length,
+        u,
+        heads,
+        widths,
+        ring,
+    )
 }
 
 // Reads the records of code one after the other; the tables are still empty.

@@ -27,9 +27,6 @@ same-length c = search needs
 returns-2 : tie.Need-returns-2
 returns-2 c = refuse-marks _ _ _ _ _ _ _ _ _ (c .before .before .before .before .names-hold .ensures) _ (c .before .unmarked .ensures) (not-true _ (c .if2 .taken)) []
 
-distance-place-requires : tie.Need-distance-place-requires
-distance-place-requires c κs = search needs
-
 distance-of-requires : tie.Need-distance-of-requires
 distance-of-requires c κs = search needs
 
@@ -40,7 +37,7 @@ add-ring : tie.Need-add-ring
 add-ring c = search needs
 
 slice-write-ring-2 : tie.Need-slice-write-ring-2
-slice-write-ring-2 c = simp length-set (let h = c .before .before .before .before .before .before .before .before .before .before .before .pre .ringRoom in omega arith)
+slice-write-ring-2 c = simp length-set (let h = c .before .before .before .before .before .before .before .before .before .before .pre .ringRoom in omega arith)
 
 sub-farther : tie.Need-sub-farther
 sub-farther c = search needs
@@ -52,7 +49,7 @@ same-length-2 : tie.Need-same-length-2
 same-length-2 c = search needs
 
 returns-3 : tie.Need-returns-3
-returns-3 c = take-instruction _ _ _ _ _ _ _ _ _ (c .before .before .before .before .before .before .before .names-hold .ensures) (not-false _ (c .before .before .before .before .before .before .if1 .left)) _ (c .before .before .before .before .unmarked .ensures) (not-false _ (c .before .before .before .if2 .left)) _ _ _ (c .before .before .distance-place .ensures) (c .before .distance-of .ensures .0) (c .before .distance-of .ensures .1) (c .farther .ensures)
+returns-3 c = take-instruction _ _ _ _ _ _ _ _ _ (c .before .before .before .before .before .before .names-hold .ensures) (not-false _ (c .before .before .before .before .before .if1 .left)) _ (c .before .before .before .unmarked .ensures) (not-false _ (c .before .before .if2 .left)) _ _ (c .before .distance-of .ensures .0) (c .before .distance-of .ensures .1) (c .farther .ensures)
 
 pub instruction-spec : {M : Type 1} → statement M
 instruction-spec =
@@ -64,7 +61,6 @@ instruction-spec =
     unmarked-requires
     same-length
     returns-2
-    distance-place-requires
     distance-of-requires
     slice-write-ring
     add-ring

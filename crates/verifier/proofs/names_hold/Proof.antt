@@ -2,16 +2,13 @@
 -- Assumes nothing.
 use Rattle.verifier.specs.Pass.{namesAt}
 use Rattle.verifier.proofs.Fitting.{no-names}
-use mathlib.Core.Path.{_∙_, sym}
+use mathlib.Core.Path.{_∙_}
 use borrow.Author.Needs.{needs}
 use Rattle.verifier.proofs.names_hold.Statement.{statement}
 use Rattle.verifier.proofs.names_hold.Tie as tie
 
-naming-of-requires : tie.Need-naming-of-requires
-naming-of-requires c κs = search needs
-
 returns : tie.Need-returns
-returns c = no-names _ _ _ _ _ (sym (c .before .naming-of .ensures) ∙ c .if1 .taken)
+returns c = no-names _ _ _ _ _ (c .if1 .taken)
 
 byte-at-requires : tie.Need-byte-at-requires
 byte-at-requires c κs = search needs
@@ -48,13 +45,12 @@ names-something-requires c κs = search needs
 
 returns-2 : tie.Need-returns-2
 unfolding namesAt
-returns-2 c = c .names-something .ensures ∙ rw (c .before .before .before .before .before .before .before .before .before .before .naming-of .ensures, c .before .entry-at .ensures, c .before .before .wide3 .ensures, c .before .before .before .byte-at3 .ensures, c .before .before .before .before .before .wide2 .ensures, c .before .before .before .before .before .before .byte-at2 .ensures, c .before .before .before .before .before .before .before .wide .ensures, c .before .before .before .before .before .before .before .before .byte-at .ensures)
+returns-2 c = c .names-something .ensures ∙ rw (c .before .entry-at .ensures, c .before .before .wide3 .ensures, c .before .before .before .byte-at3 .ensures, c .before .before .before .before .before .wide2 .ensures, c .before .before .before .before .before .before .byte-at2 .ensures, c .before .before .before .before .before .before .before .wide .ensures, c .before .before .before .before .before .before .before .before .byte-at .ensures)
 
 pub names-hold-spec : {M : Type 1} → statement M
 names-hold-spec =
     tie.close
     (tie.spec
-    naming-of-requires
     returns
     byte-at-requires
     wide-requires
