@@ -337,10 +337,10 @@ module _ (code : List ℕ) (at : ℕ) (u : Progress) (spans heads places weights
                     };
                 weightRoom = length-set weights (u .scope) (u .weight) ∙ r .sized .weightRoom;
                 widthRoom = length-set widths (u .scope) (u .variables) ∙ r .sized .widthRoom;
-                ringRoom = length-set ring (at % 65536) 0 ∙ r .sized .ringRoom;
+                ringRoom = λ p h. rw (length-set ring (at % 65536) 0) (r .sized .ringRoom p h);
               };
           closed = closed-more;
-          idle = record { later = busy .head .later; quiet = end-quiet e b at (u .reach) ring marks still (r .sized .ringRoom) };
+          idle = record { later = busy .head .later; quiet = end-quiet e b at (u .reach) ring marks still (r .sized .ringRoom at (r .inside)) };
         })
 
 pub leave-idle : (code : List ℕ) (at : ℕ) (u : Progress) (spans heads places weights widths ring : List ℕ)
@@ -349,7 +349,7 @@ leave-idle code at u spans heads places weights widths ring l z =
     record { sized = l .reading .sized; closed = l .reading .closed; idle = l .reading .idle z }
 
 -- the room of the tables
-pub record LeaveRoom (u : Progress) (spans heads places weights widths ring : List ℕ) : Type 0 where
+pub record LeaveRoom (at : ℕ) (u : Progress) (spans heads places weights widths ring : List ℕ) : Type 0 where
   pub blocks : u .blocks < 32
   pub scope : u .scope < 32
   pub variables : u .variables ≤ 32
@@ -359,10 +359,10 @@ pub record LeaveRoom (u : Progress) (spans heads places weights widths ring : Li
   pub placeRoom : length places ≡ 32
   pub weightRoom : length weights ≡ 32
   pub widthRoom : length widths ≡ 32
-  pub ringRoom : length ring ≡ 65536
+  pub ringRoom : at % 65536 < length ring
 
 pub leave-bounds : (code : List ℕ) (at : ℕ) (u : Progress) (spans heads places weights widths ring : List ℕ)
-    → Leaving code at u spans heads places weights widths ring → (u .stage ≡ 0 → ⊥) → LeaveRoom u spans heads places weights widths ring
+    → Leaving code at u spans heads places weights widths ring → (u .stage ≡ 0 → ⊥) → LeaveRoom at u spans heads places weights widths ring
 leave-bounds code at u spans heads places weights widths ring l n =
     let h = leave-room code at u spans heads places weights widths ring l (omega arith) in
     let r = l .reading in
@@ -376,5 +376,5 @@ leave-bounds code at u spans heads places weights widths ring l n =
       placeRoom = r .sized .room .placeRoom;
       weightRoom = r .sized .weightRoom;
       widthRoom = r .sized .widthRoom;
-      ringRoom = r .sized .ringRoom;
+      ringRoom = r .sized .ringRoom at (r .inside);
     }

@@ -32,9 +32,9 @@ use native.Mathlib.Numerals.{add-one}
 use Rattle.book.proofs.Searches.{any-false}
 use Rattle.verifier.proofs.Entries.{closed-heads}
 
-sized-heads : (spans heads places weights widths ring : List ℕ) (i v : ℕ) → Sized spans heads places weights widths ring
-    → Sized spans (set heads i v) places weights widths ring
-sized-heads spans heads places weights widths ring i v s =
+sized-heads : (code spans heads places weights widths ring : List ℕ) (i v : ℕ) → Sized code spans heads places weights widths ring
+    → Sized code spans (set heads i v) places weights widths ring
+sized-heads code spans heads places weights widths ring i v s =
     record {
       room = record { spanRoom = s .room .spanRoom; headRoom = length-set heads i v ∙ s .room .headRoom; placeRoom = s .room .placeRoom };
       weightRoom = s .weightRoom;
@@ -97,7 +97,7 @@ module _ (code : List ℕ) (at : ℕ) (u : Progress) (spans heads places weights
     head-turn s vs ss w i x s1 s3 hv hs count above same head noted =
         let z = busy .still (early .1) .0 in
         record {
-          sized = sized-heads spans heads places weights widths ring i x (r .sized);
+          sized = sized-heads code spans heads places weights widths ring i x (r .sized);
           limited = record { stage = omega arith; variables = hv; subs = hs };
           inside = next-inside code at u spans heads places weights widths ring r here fine;
           sound = rw count at (sound-next code at u spans heads places weights widths ring r here fine);

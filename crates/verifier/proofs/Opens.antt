@@ -19,7 +19,7 @@ use Rattle.book.specs.Lists.{any}
 use Rattle.book.specs.Scopes.{sum}
 use Rattle.machine.specs.Blocks.{Block, Parsed, emptyBlock, stageOf, parse, hasBlock, variablesOf}
 use Rattle.machine.specs.Acceptance.{start, counted, sound, weightIn, wellFormed, allWellFormed, accepted}
-use Rattle.verifier.specs.Tables.{blockAt, Tabled, blockCount}
+use Rattle.verifier.specs.Tables.{blockAt, Tabled, blockCount, Room}
 use Rattle.verifier.specs.Pass.{countOf, faultyAt, blockRead, mark, Quiet, earlier, ahead, Reading, nothingRead, filled, Leaving, AllClosed, Beginning, opening, Empty, Stepped, Judged, Left}
 use Rattle.verifier.specs.declared.Progress.{Progress}
 use Rattle.verifier.proofs.Reading.{ahead-at, front-one, ahead-end, length-below}
@@ -180,26 +180,39 @@ left-closed code at m spans heads places weights widths ring x e l = rw e at l
 
 -- The start
 
+-- tables and a ring that are lent
+pub makes-empty : (code spans heads places : List ℕ) (n : ℕ) → Room spans heads places × (places ≡ replicate 32 0)
+    → ((d : ℕ) → d ≤ length code → d % 65536 < n) → Empty code spans heads places (replicate 32 0) (replicate 32 0) (replicate n 0)
+makes-empty code spans heads places n r room =
+    record {
+      spanRoom = r .0 .spanRoom;
+      headRoom = r .0 .headRoom;
+      noPlaces = r .1;
+      noWeights = refl;
+      noWidths = refl;
+      noMarks = zeros n;
+      ringRoom = λ d h. rw (length-replicate {A = ℕ} n 0) (room d h);
+    }
+
 none-filled : (n : ℕ) → filled (replicate n 0) ≡ 0
 unfolding filled
 none-filled zero = refl
 none-filled (suc n) = let h = none-filled n in omega arith
 
-pub start-reading : (code spans heads places weights widths ring : List ℕ) → Empty spans heads places weights widths ring
+pub start-reading : (code spans heads places weights widths ring : List ℕ) → Empty code spans heads places weights widths ring
     → Reading code 0 nothingRead spans heads places weights widths ring
 unfolding earlier allWellFormed hasBlock any weightIn variablesOf ahead mark
 start-reading code spans heads places weights widths ring e =
     let p : (i : ℕ) → getD places i 0 ≡ 0 = λ i. rw (e .noPlaces) (zeros 32 i) in
     let w : (i : ℕ) → getD weights i 0 ≡ 0 = λ i. rw (e .noWeights) (zeros 32 i) in
     let v : (i : ℕ) → getD widths i 0 ≡ 0 = λ i. rw (e .noWidths) (zeros 32 i) in
-    let g : (i : ℕ) → getD ring i 0 ≡ 0 = λ i. rw (e .noMarks) (zeros 65536 i) in
     record {
       sized =
           record {
             room = record { spanRoom = e .spanRoom; headRoom = e .headRoom; placeRoom = rw (e .noPlaces) (length-replicate {A = ℕ} 32 0) };
             weightRoom = rw (e .noWeights) (length-replicate {A = ℕ} 32 0);
             widthRoom = rw (e .noWidths) (length-replicate {A = ℕ} 32 0);
-            ringRoom = rw (e .noMarks) (length-replicate {A = ℕ} 65536 0);
+            ringRoom = e .ringRoom;
           };
       limited = record { stage = omega arith; variables = omega arith; subs = omega arith };
       inside = omega arith;
@@ -218,7 +231,7 @@ start-reading code spans heads places weights widths ring e =
             light = λ i. let z = w i in omega arith;
             wide = λ i. sym (v i);
           };
-      idle = λ _. record { later = refl; quiet = λ d q. let z = g (d % 65536) in let y = q .set in omega arith };
+      idle = λ _. record { later = refl; quiet = λ d q. let z = e .noMarks (d % 65536) in let y = q .set in omega arith };
       busy = λ h. absurd (omega arith);
     }
 
@@ -267,7 +280,7 @@ pub stepped-next : (code : List ℕ) (at : ℕ) (spans heads places weights widt
     → Stepped code at spans heads places weights widths ring x → (at < next) × Reading code next u spans heads places weights widths ring
 stepped-next code at spans heads places weights widths ring x next u e s = rw e at s
 
-pub empty-start : (code spans heads places weights widths ring : List ℕ) (u : Progress) → Empty spans heads places weights widths ring
+pub empty-start : (code spans heads places weights widths ring : List ℕ) (u : Progress) → Empty code spans heads places weights widths ring
     → u ≡ nothingRead
     → Reading code 0 u spans heads places weights widths ring
 empty-start code spans heads places weights widths ring u e eu = rw eu (start-reading code spans heads places weights widths ring e)

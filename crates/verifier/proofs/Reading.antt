@@ -3,16 +3,17 @@
 --     Clean, clean                      what a record without fault is
 --     stage-below, length-below         every kind's stage and body are small
 --     front-one .. front-four           a record in front of others, by its stage
+--     ahead-short                       the rest of the present block is no longer than the bytes left
 --     no-heads                          after an instruction no variable and no sub-scope of its block follows
 -- Assumes nothing.
-use Prim.Native.Nat.{ℕ, zero, suc, _+_, _<_, _≤_}
+use Prim.Native.Nat.{ℕ, zero, suc, _+_, _-_, _<_, _≤_}
 use mathlib.Core.Path.{_≡_, refl, sym, ap, _∙_}
 use mathlib.Core.Bool.{true, false, not, _&&_, _||_}
 use mathlib.Core.List.{List, [], _∷_, _++_}
 use mathlib.Core.Logic.{⊎-elim}
 use native.Mathlib.Omega.{arith}
 use native.Mathlib.Numerals.{add-one}
-use lib.ListN.{length, getD, take, drop, drop-of-length-le}
+use lib.ListN.{length, getD, take, drop, length-append, length-drop, drop-of-length-le}
 use lib.Seq.{drop-cons, drop-drop}
 use lib.Dec.{eqb, ltb}
 use borrow.Author.Tests.{eq-eqb, ltb-false, eqb-true, eqb-false, not-true, not-false}
@@ -155,6 +156,48 @@ module _ (k : ℕ) (rest : List ℕ) (p : Parsed) where
       }
   unfolding inFront
   front-four e = rw e
+
+-- the rest of a block
+front-short : (k : ℕ) (rest : List ℕ) (p : Parsed)
+    → length (inFront k rest p .opened .body) ≤ suc (length (take (bodyLength k) rest)) + length (p .opened .body)
+unfolding inFront
+front-short k rest p =
+    ⊎-elim
+    (λ (q1 : eqb (stageOf k) 1 ≡ true). rw q1 (omega arith))
+    (λ (q1 : eqb (stageOf k) 1 ≡ false).
+    ⊎-elim
+    (λ (q2 : eqb (stageOf k) 2 ≡ true). rw (q1, q2) (omega arith))
+    (λ (q2 : eqb (stageOf k) 2 ≡ false).
+    ⊎-elim
+    (λ (q3 : eqb (stageOf k) 3 ≡ true). rw (q1, q2, q3) (omega arith))
+    (λ (q3 : eqb (stageOf k) 3 ≡ false).
+    ⊎-elim
+    (λ (q4 : eqb (stageOf k) 4 ≡ true).
+    rw (q1, q2, q3, q4) (let l = length-append (take (bodyLength k) rest) (p .opened .body) in omega arith))
+    (λ (q4 : eqb (stageOf k) 4 ≡ false). rw (q1, q2, q3, q4) (omega arith))
+    (decide (eqb (stageOf k) 4)))
+    (decide (eqb (stageOf k) 3)))
+    (decide (eqb (stageOf k) 2)))
+    (decide (eqb (stageOf k) 1))
+
+parted : (n : ℕ) (xs : List ℕ) → length (take n xs) + length (drop n xs) ≡ length xs
+parted zero xs = omega arith
+parted (suc n) [] = omega arith
+parted (suc n) (x ∷ xs) = let h = parted n xs in omega arith
+
+open-short : (bytes : List ℕ) (n : ℕ) → length (parse bytes n .opened .body) ≤ length (drop n bytes)
+unfolding parse
+open-short [] n = omega arith
+open-short (b ∷ rest) (suc n) = open-short rest n
+open-short (k ∷ rest) zero =
+    let f = front-short k rest (parse rest (bodyLength k)) in
+    let h = open-short rest (bodyLength k) in
+    let s = parted (bodyLength k) rest in
+    omega arith
+
+pub ahead-short : (code : List ℕ) (at : ℕ) → length (ahead code at .opened .body) ≤ length code - at
+unfolding ahead
+ahead-short code at = let h = open-short (drop at code) 0 in let l = length-drop at code in omega arith
 
 pub record NoHeads (p : Parsed) : Type 0 where
   pub variables : p .opened .variables ≡ []

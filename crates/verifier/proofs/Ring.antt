@@ -1,5 +1,6 @@
 -- The marks of the landings that lie ahead.
 --     passed-none, passed-hit, passed-more    the search for a mark
+--     lands-short, landing-room               no landing lies past the bytes; its mark lies in the ring
 --     back-fits, back-inside                  what a block that fits says of its next instruction
 --     marks-next                              the landings after an instruction
 --     quiet-next, marks-quiet                 a ring without marks
@@ -22,7 +23,7 @@ use Rattle.machine.specs.Instructions.{instructionOf}
 use Rattle.machine.specs.Acceptance.{lands, fits, allFit}
 use Rattle.verifier.specs.Instructions.{farthest}
 use Rattle.machine.proofs.Landing.{lands-here}
-use Rattle.verifier.specs.Pass.{mark, Marked, Quiet, Passed, AllLand, Marks}
+use Rattle.verifier.specs.Pass.{mark, Marked, Quiet, Passed, AllLand, Marks, RingRoom}
 
 -- the search for a mark
 module _ (ring : List ℕ) (from : ℕ) where
@@ -55,6 +56,16 @@ lands-inside [] left (suc n) d l q = absurd (omega arith)
 lands-inside (x ∷ bs) left zero d l q = absurd (omega arith)
 lands-inside (x ∷ bs) left (suc n) zero l q = refl
 lands-inside (x ∷ bs) left (suc n) (suc d) l q = lands-inside bs left n d (omega arith) (omega arith)
+
+-- no distance lands past the bytes
+pub lands-short : (xs : List ℕ) (n d : ℕ) → lands xs n d ≡ true → d ≤ length xs
+unfolding lands
+lands-short [] n zero e = omega arith
+lands-short [] n (suc d) e = absurd (false≢true e)
+lands-short (x ∷ xs) zero zero e = omega arith
+lands-short (x ∷ xs) zero (suc d) e = let h = lands-short xs (bodyLength x) d e in omega arith
+lands-short (x ∷ xs) (suc n) zero e = absurd (false≢true e)
+lands-short (x ∷ xs) (suc n) (suc d) e = let h = lands-short xs n d e in omega arith
 
 pub lands-past : (d : ℕ) → 0 < d → lands [] 0 d ≡ false
 unfolding lands
@@ -97,9 +108,15 @@ module _ (k : ℕ) (bs left : List ℕ) (whole : length bs ≡ bodyLength k) whe
           (sym (lands-in (d - at) (omega arith) (omega arith))
           ∙ m .back e .0 d (record { from = omega arith; window = omega arith; set = s }))
 
+-- the mark of a landing
+pub landing-room : (ring : List ℕ) (n next d : ℕ) → RingRoom ring n → next + d ≤ n → (next % 65536 + d) % 65536 < length ring
+landing-room ring n next d room h =
+    let e : (next + d) % 65536 ≡ (next % 65536 + d) % 65536 = omega arith in
+    rw e at (room (next + d) h)
+
 -- The ring after an instruction: its own mark is cleared, and its landing is marked
 
-module _ (ring : List ℕ) (at next d : ℕ) (size : length ring ≡ 65536) (low : at < next) (high : next ≤ at + 65536) (small : d < 65536) where
+module _ (ring : List ℕ) (at next d : ℕ) (size : (at % 65536 < length ring) × ((next % 65536 + d) % 65536 < length ring)) (low : at < next) (high : next ≤ at + 65536) (small : d < 65536) where
   abbrev landing : ℕ
   landing = (next % 65536 + d) % 65536
 
@@ -113,7 +130,7 @@ module _ (ring : List ℕ) (at next d : ℕ) (size : length ring ≡ 65536) (low
   unfolding mark
   hit-landing =
       let e : (next + d) % 65536 ≡ landing = omega arith in
-      rw e (getD-set-same (set ring (at % 65536) 0) landing 1 0 (rw length-set (omega arith)))
+      rw e (getD-set-same (set ring (at % 65536) 0) landing 1 0 (rw length-set (size .1)))
 
   other : (p : ℕ) → (p % 65536 ≡ landing → ⊥) → (p % 65536 ≡ at % 65536 → ⊥) → mark after p ≡ mark ring p
   unfolding mark
@@ -125,7 +142,7 @@ module _ (ring : List ℕ) (at next d : ℕ) (size : length ring ≡ 65536) (low
   unfolding mark
   cleared p a b =
       getD-set-other (set ring (at % 65536) 0) landing (p % 65536) 1 0 a
-      ∙ rw b (getD-set-same ring (at % 65536) 0 0 (rw size (omega arith)))
+      ∙ rw b (getD-set-same ring (at % 65536) 0 0 (size .0))
 
   kept : (p : ℕ) → next ≤ p → Marked ring at p → Marked after next p
   kept p a m =
@@ -213,7 +230,7 @@ module _ (ring : List ℕ) (at next d : ℕ) (size : length ring ≡ 65536) (low
 
 -- the landings after an instruction whose numbers name something
 module _ (k : ℕ) (bs left : List ℕ) (whole : length bs ≡ bodyLength k) (earlier : List Block) (b : Block) (at next reach d : ℕ) (ring : List ℕ)
-    (size : length ring ≡ 65536) (passed : next ≡ at + 1 + length bs) (high : next ≤ at + 65536) (small : d < 65536)
+    (size : (at % 65536 < length ring) × ((next % 65536 + d) % 65536 < length ring)) (passed : next ≡ at + 1 + length bs) (high : next ≤ at + 65536) (small : d < 65536)
     (m : Marks earlier b (k ∷ bs ++ left) at reach ring)
     (clear : (p : ℕ) → at + 1 ≤ p → p < next → mark ring p ≡ 0)
     (fit : fits earlier b (instructionOf k (bs ++ left)) left ≡ lands left 0 d) where
@@ -315,14 +332,14 @@ module _ (earlier : List Block) (b : Block) (at reach : ℕ) (ring : List ℕ) (
   unfolding allFit
   end-fits e = m .onward (λ p o. let z : p - at ≡ 0 = let y = only e p o in omega arith in rw z (lands-here [])) refl
 
-  pub end-quiet : reach ≡ 0 → length ring ≡ 65536 → Quiet (set ring (at % 65536) 0) at
+  pub end-quiet : reach ≡ 0 → at % 65536 < length ring → Quiet (set ring (at % 65536) 0) at
   unfolding mark
   end-quiet e size p o =
       ⊎-elim
       (λ (q : eqb (p % 65536) (at % 65536) ≡ true).
       let s = o .set in
       let z : getD (set ring (at % 65536) 0) (p % 65536) 0 ≡ 0 =
-      rw (eqb-true (p % 65536) (at % 65536) q) (getD-set-same ring (at % 65536) 0 0 (rw size (omega arith))) in
+      rw (eqb-true (p % 65536) (at % 65536) q) (getD-set-same ring (at % 65536) 0 0 size) in
       omega arith)
       (λ (q : eqb (p % 65536) (at % 65536) ≡ false).
       let ne = eqb-false (p % 65536) (at % 65536) q in

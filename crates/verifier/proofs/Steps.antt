@@ -1,7 +1,8 @@
 -- An instruction: what is refused, and what holds after it.
---     names-refused, inside-refused                       a number that names nothing; a landing inside its body
+--     names-refused, inside-refused, far-refused          a number that names nothing; a landing inside its body; one past the code
 --     instruction-turn                                    what holds after it
---     refuse-names, refuse-marks, take-instruction        the same, as the code takes it
+--     refuse-names, refuse-marks, refuse-far,
+--     take-instruction                                    the same, as the code takes it
 -- Assumes nothing.
 use Prim.Native.Nat.{ℕ, suc, _+_, _-_, _*_, _%_, _<_, _≤_}
 use mathlib.Core.Path.{_≡_, sym, ap, _∙_}
@@ -9,7 +10,7 @@ use mathlib.Core.Bool.{Bool, true, false, _&&_, false≢true}
 use mathlib.Core.List.{List, _∷_, _++_, append-assoc}
 use mathlib.Core.Logic.{⊎-elim}
 use native.Mathlib.Omega.{arith}
-use lib.ListN.{length, getD, take, drop, set, length-set, List·getD-append}
+use lib.ListN.{length, getD, take, drop, set, length-set, length-drop, List·getD-append}
 use lib.Seq.{drop-drop, take-add, length-take-le, getD-take}
 use lib.Dec.{eqb, ltb}
 use borrow.Author.Tests.{lt-ltb, ltb-true}
@@ -19,13 +20,13 @@ use Rattle.machine.specs.Instructions.{instructionOf}
 use Rattle.machine.specs.Acceptance.{counted, sound, lands, fits, accepted}
 use Rattle.verifier.specs.Instructions.{rowOf, namingOf, distancePlace, named, distanceOf, farthest}
 use Rattle.verifier.specs.Tables.{blockAt}
-use Rattle.verifier.specs.Pass.{countOf, faultyAt, namesAt, instructionRead, mark, Passed, Marks, earlier, ahead, Busy, Reading, Instructed}
+use Rattle.verifier.specs.Pass.{countOf, faultyAt, namesAt, instructionRead, mark, Passed, Marks, earlier, ahead, Busy, Reading, AtInstruction, Instructing, Instructed}
 use Rattle.verifier.specs.declared.Progress.{Progress}
 use Rattle.verifier.specs.declared.Row.{Row}
-use Rattle.verifier.proofs.Reading.{drop-here, ahead-at, length-below, front-four, NoHeads, no-heads}
+use Rattle.verifier.proofs.Reading.{drop-here, ahead-at, ahead-short, length-below, front-four, NoHeads, no-heads}
 use Rattle.verifier.proofs.Blocks.{refused, sound-code, block-fits, Formed, formed}
 use Rattle.verifier.proofs.Fitting.{fits-parts, local}
-use Rattle.verifier.proofs.Ring.{back-fits, back-inside, marks-next}
+use Rattle.verifier.proofs.Ring.{lands-short, landing-room, back-fits, back-inside, marks-next}
 use Rattle.verifier.proofs.Turns.{drop-end, nextAt, is-clean, next-inside, sound-next, was-open}
 use Rattle.verifier.specs.declared.Step.the-variants.{Refused, Next}
 
@@ -154,15 +155,21 @@ module _ (code : List ℕ) (at : ℕ) (u : Progress) (spans heads places weights
       drop-end (blockAt code (u .blocks) .subScopes) (u .subs)
       (busy .head .subsLeft ∙ ap (λ (p : Parsed). p .opened .subScopes) front ∙ no-more a .subScopes)
 
+  parts-hold : accepted code ≡ true
+      → (names (length (b .variables)) (length (b .subScopes)) (length (variablesOf e (getD (b .subScopes) (getD rest 0 0) 0))) ≡ true)
+      × (lands left 0 (distanceOf (distancePlace k) rest) ≡ true)
+  parts-hold a =
+      both (names (length (b .variables)) (length (b .subScopes)) (length (variablesOf e (getD (b .subScopes) (getD rest 0 0) 0))))
+      (lands left 0 (distanceOf (distancePlace k) rest))
+      (sym fit-is ∙ back-fits k bs left whole e b at (u .reach) ring marks (accepted-fit a .fit))
+
   -- what is refused
   pub names-refused : namesAt (namingOf (getD code at 0)) (drop (at + 1) code) heads widths u ≡ false → accepted code ≡ false
   unfolding namesAt names called k rest
   names-refused q =
       refused code
       (λ a.
-      let f = both (names (length (b .variables)) (length (b .subScopes)) (length (variablesOf e (getD (b .subScopes) (getD rest 0 0) 0))))
-      (lands left 0 (distanceOf (distancePlace k) rest))
-      (sym fit-is ∙ back-fits k bs left whole e b at (u .reach) ring marks (accepted-fit a .fit)) in
+      let f = parts-hold a in
       let t = named-more (namingOf k) (getD rest 0 0) (getD rest 1 0) (length (b .variables)) (length (b .subScopes))
       (length (variablesOf e (getD (b .subScopes) (getD rest 0 0) 0))) (u .variables) (u .subs) (called (getD rest 0 0)) (all-variables a)
       (all-subs a) (λ h. sym (called-is (getD rest 0 0) (let s = all-subs a in omega arith))) (f .0) in
@@ -175,10 +182,19 @@ module _ (code : List ℕ) (at : ℕ) (u : Progress) (spans heads places weights
       let n = length-below (getD code at 0) in
       refused code (λ a. back-inside k bs left whole e b at (u .reach) ring marks d h (omega arith) (omega arith) s (accepted-fit a .fit))
 
+  pub far-refused : length code - nextAt code at < distanceOf (distancePlace (getD code at 0)) (drop (at + 1) code) → accepted code ≡ false
+  unfolding k rest left
+  far-refused h =
+      refused code
+      (λ a.
+      let s = lands-short left 0 (distanceOf (distancePlace k) rest) (parts-hold a .1) in
+      let o = ahead-short code (nextAt code at) in
+      omega arith)
+
   -- what holds after it
   module _ (named-ok : namesAt (namingOf (getD code at 0)) (drop (at + 1) code) heads widths u ≡ true)
       (d : ℕ) (ed : d ≡ distanceOf (distancePlace (getD code at 0)) (drop (at + 1) code)) (small : d < 65536)
-      (clear : (p : ℕ) → at + 1 ≤ p → p < nextAt code at → mark ring p ≡ 0) where
+      (near : nextAt code at + d ≤ length code) (clear : (p : ℕ) → at + 1 ≤ p → p < nextAt code at → mark ring p ≡ 0) where
     fit-lands : fits e b (instructionOf k (bs ++ left)) left ≡ lands left 0 d
     unfolding namesAt names called k rest b
     fit-lands =
@@ -193,7 +209,8 @@ module _ (code : List ℕ) (at : ℕ) (u : Progress) (spans heads places weights
     marks-on =
         let w = whole in
         let n = length-below (getD code at 0) in
-        marks-next k bs left whole e b at (nextAt code at) (u .reach) d ring (r .sized .ringRoom) (omega arith) (omega arith) small marks clear
+        marks-next k bs left whole e b at (nextAt code at) (u .reach) d ring
+        (r .sized .ringRoom at (omega arith), landing-room ring (length code) (nextAt code at) d (r .sized .ringRoom) near) (omega arith) (omega arith) small marks clear
         fit-lands
 
     body-on : take (nextAt code at - u .begin) (drop (u .begin) code) ++ left ≡ b .body
@@ -224,8 +241,10 @@ module _ (code : List ℕ) (at : ℕ) (u : Progress) (spans heads places weights
                 room = r .sized .room;
                 weightRoom = r .sized .weightRoom;
                 widthRoom = r .sized .widthRoom;
-                ringRoom = length-set (set ring (at % 65536) 0) ((nextAt code at % 65536 + d) % 65536) 1 ∙ length-set ring (at % 65536) 0
-                    ∙ r .sized .ringRoom;
+                ringRoom =
+                    λ p h.
+                    rw (length-set (set ring (at % 65536) 0) ((nextAt code at % 65536 + d) % 65536) 1, length-set ring (at % 65536) 0)
+                    (r .sized .ringRoom p h);
               };
           limited = record { stage = omega arith; variables = r .limited .variables; subs = r .limited .subs };
           inside = next-inside code at u spans heads places weights widths ring r here fine;
@@ -261,6 +280,17 @@ module _ (code : List ℕ) (at : ℕ) (u : Progress) (spans heads places weights
 
 -- What the code reads
 
+-- the marks of an instruction and of its landing lie in the ring
+module _ (row : Row) (body : List ℕ) (at next : ℕ) (u : Progress) (ring : List ℕ) (i : Instructing row body at next u ring) where
+  pub here-room : at % 65536 < length ring
+  here-room = i .ringRoom at (omega arith)
+
+  pub ahead-room : (d : ℕ) → d ≤ length body - row .length → (next % 65536 + d) % 65536 < length ring
+  ahead-room d near =
+      let n = i .nextIs in
+      let w = i .whole in
+      landing-room ring (at + 1 + length body) next d (i .ringRoom) (omega arith)
+
 module _ (row : Row) (body : List ℕ) (at next : ℕ) (u : Progress) (heads widths ring : List ℕ) (r : Bool)
     (er : r ≡ namesAt (row .naming) body heads widths u) where
   names-at : (code : List ℕ) → row ≡ rowOf (getD code at 0) → body ≡ drop (at + 1) code → r ≡ namesAt (namingOf (getD code at 0)) (drop (at + 1) code) heads widths u
@@ -279,17 +309,39 @@ module _ (row : Row) (body : List ℕ) (at next : ℕ) (u : Progress) (heads wid
       let l : t .0 < nextAt code at = let z = t .2 in let y = i .nextIs in omega arith in
       inside-refused code at u spans heads places weights widths ring rd (i .here) (i .fine) (i .stage) (t .0) (t .1) l (t .3)
 
+  module _ (code : List ℕ) (i : AtInstruction code row body at next u) where
+    body-length : length body ≡ length code - (at + 1)
+    body-length = rw (i .bodyIs) (length-drop (at + 1) code)
+
+    row-length : row .length ≡ bodyLength (getD code at 0)
+    unfolding rowOf
+    row-length = ap (λ (x : Row). x .length) (i .rowIs)
+
+    distance-is : (d : ℕ) → d ≡ distanceOf (row .place) body → d ≡ distanceOf (distancePlace (getD code at 0)) (drop (at + 1) code)
+    unfolding rowOf
+    distance-is d ed = ed ∙ rw (i .rowIs, i .bodyIs)
+
+  pub refuse-far : (d : ℕ) → d ≡ distanceOf (row .place) body → length body - row .length < d → (ring' : List ℕ)
+      → Instructed row body at next u heads widths ring ring' Refused
+  refuse-far d ed h ring' code spans places weights i rd =
+      let l = body-length code i in
+      let n = row-length code i in
+      let f : length code - nextAt code at < d = omega arith in
+      far-refused code at u spans heads places weights widths ring rd (i .here) (i .fine) (i .stage) (rw (distance-is code i d ed) at f)
+
   pub take-instruction : r ≡ true → (p : Bool) → Passed ring (at + 1) next p → p ≡ true → (d f : ℕ)
-      → d ≡ distanceOf (row .place) body → d < 65536
+      → d ≡ distanceOf (row .place) body → d < 65536 → d ≤ length body - row .length
       → f ≡ farthest (u .reach) (next - at) d
       → Instructed row body at next u heads widths ring (set (set ring (at % 65536) 0) ((next % 65536 + d) % 65536) 1)
       (Next next (instructionRead u f))
-  unfolding rowOf
-  take-instruction ok p passed clear d f ed small ef code spans places weights i rd =
+  take-instruction ok p passed clear d f ed small near ef code spans places weights i rd =
       let n = i .nextIs in
-      let e : d ≡ distanceOf (distancePlace (getD code at 0)) (drop (at + 1) code) = ed ∙ rw (i .rowIs, i .bodyIs) in
+      let l = body-length code i in
+      let m = row-length code i in
+      let w = next-inside code at u spans heads places weights widths ring rd (i .here) (i .fine) in
       let t =
       instruction-turn code at u spans heads places weights widths ring rd (i .here) (i .fine) (i .stage)
-      (sym (names-at code (i .rowIs) (i .bodyIs)) ∙ ok) d e small
+      (sym (names-at code (i .rowIs) (i .bodyIs)) ∙ ok) d (distance-is code i d ed) small
+      (omega arith)
       (λ q a b. passed .clear clear q a (omega arith)) in
       (omega arith, rw (ef, n) t)

@@ -7,7 +7,7 @@ use mathlib.Core.List.{List}
 use mathlib.Core.Logic.{⊎-elim}
 use native.Mathlib.Omega.{arith}
 use lib.ListN.{length, getD, take, drop, set, length-drop}
-use lib.Seq.{getD-drop, take-all}
+use lib.Seq.{getD-drop, take-all, length-take-le}
 use lib.Dec.{eqb}
 use borrow.Author.Tests.{eqb-true, eqb-false}
 use Rattle.order.proofs.Booleans.{decide}
@@ -97,11 +97,18 @@ module _ (code : List ℕ) (at : ℕ) (u : Progress) (spans heads places weights
     four : stageOf (getD code at 0) ≡ 4
     four = sym stage-is ∙ is-four
 
-    pub makes-instructing : Instructing at (at + 1 + s .length) u ring
+    pub makes-instructing : Instructing s (take (length code - (at + 1)) (drop (at + 1) code)) at (at + 1 + s .length) u ring
     makes-instructing =
+        let l = length-take-le (length code - (at + 1)) (drop (at + 1) code) (rw length-drop (omega arith)) in
+        let w = next-within in
         let o = in-order (u .stage) (stageOf (getD code at 0)) (is-clean code at u spans heads places weights widths ring r here ok .ordered)
         (rw four (omega arith)) in
-        record { ringRoom = r .sized .ringRoom; ordered = omega arith; blocks = r .busy (o .0) .head .room }
+        record {
+          ringRoom = λ d h. r .sized .ringRoom d (omega arith);
+          nextIs = refl;
+          whole = omega arith;
+          blocks = r .busy (o .0) .head .room;
+        }
 
     pub at-instruction : AtInstruction code s (take (length code - (at + 1)) (drop (at + 1) code)) at (at + 1 + s .length) u
     at-instruction =

@@ -189,15 +189,19 @@ pub record Idle (code : List ℕ) (at m : ℕ) (ring : List ℕ) : Type 0 where
   pub later : drop m (parse code 0 .blocks) ≡ ahead code at .blocks
   pub quiet : Quiet ring at
 
-pub record Sized (spans heads places weights widths ring : List ℕ) : Type 0 where
+-- the ring has a mark for each position up to n
+abbrev pub RingRoom : List ℕ → ℕ → Type 0
+RingRoom ring n = (d : ℕ) → d ≤ n → d % 65536 < length ring
+
+pub record Sized (code spans heads places weights widths ring : List ℕ) : Type 0 where
   pub room : Room spans heads places
   pub weightRoom : length weights ≡ 32
   pub widthRoom : length widths ≡ 32
-  pub ringRoom : length ring ≡ 65536
+  pub ringRoom : RingRoom ring (length code)
 
 -- what holds before the record at a position
 pub record Reading (code : List ℕ) (at : ℕ) (u : Progress) (spans heads places weights widths ring : List ℕ) : Type 0 where
-  pub sized : Sized spans heads places weights widths ring
+  pub sized : Sized code spans heads places weights widths ring
   pub limited : Limited u
   pub inside : at ≤ length code
   pub sound : sound (drop at code) 0 (countOf u) ≡ sound code 0 start
@@ -226,9 +230,10 @@ pub record AtInstruction (code : List ℕ) (row : Row) (body : List ℕ) (at nex
   pub stage : stageOf (getD code at 0) ≡ 4
   pub nextIs : next ≡ at + 1 + bodyLength (getD code at 0)
 
-pub record Instructing (at next : ℕ) (u : Progress) (ring : List ℕ) : Type 0 where
-  pub ringRoom : length ring ≡ 65536
-  pub ordered : at < next
+pub record Instructing (row : Row) (body : List ℕ) (at next : ℕ) (u : Progress) (ring : List ℕ) : Type 0 where
+  pub ringRoom : RingRoom ring (at + 1 + length body)
+  pub nextIs : next ≡ at + 1 + row .length
+  pub whole : row .length ≤ length body
   pub blocks : u .blocks < 32
 
 abbrev pub Instructed : Row → List ℕ → ℕ → ℕ → Progress → List ℕ → List ℕ → List ℕ → List ℕ → Step → Type 0
@@ -242,7 +247,7 @@ pub record Leaving (code : List ℕ) (at : ℕ) (u : Progress) (spans heads plac
   pub ended : ahead code at .opened ≡ emptyBlock
 
 pub record AllClosed (code : List ℕ) (at m : ℕ) (spans heads places weights widths ring : List ℕ) : Type 0 where
-  pub sized : Sized spans heads places weights widths ring
+  pub sized : Sized code spans heads places weights widths ring
   pub closed : AreClosed code m spans heads places weights widths
   pub idle : Idle code at m ring
 
@@ -287,13 +292,14 @@ pub record SubRead (scope next : ℕ) (u : Progress) (heads places weights heads
       (heads' ≡ set heads (u .blocks * 48 + 35 + u .subs) scope)
 
 -- tables that are still empty
-pub record Empty (spans heads places weights widths ring : List ℕ) : Type 0 where
+pub record Empty (code spans heads places weights widths ring : List ℕ) : Type 0 where
   pub spanRoom : length spans ≡ 64
   pub headRoom : length heads ≡ 1536
   pub noPlaces : places ≡ replicate 32 0
   pub noWeights : weights ≡ replicate 32 0
   pub noWidths : widths ≡ replicate 32 0
-  pub noMarks : ring ≡ replicate 65536 0
+  pub noMarks : (i : ℕ) → getD ring i 0 ≡ 0
+  pub ringRoom : RingRoom ring (length code)
 
 -- the answer says whether code is accepted, and of accepted code the tables hold the blocks
 abbrev pub Judged : List ℕ → List ℕ → List ℕ → List ℕ → Verdict → Type 0

@@ -1,6 +1,7 @@
 // Judging code in one pass over its bytes: whether it is accepted, and the tables by which the blocks of accepted code are found.
 //   weights, widths   of each of 32 scopes: the weight of its block and the number of its variables, 0 where it has no block
-//   ring              the landings of distances that lie ahead: a mark for each position, by its remainder modulo 65,536
+//   ring              the landings of distances that lie ahead: a mark for each position, by its remainder modulo 65,536; short code has no more
+//                     positions than a ring of 8,192 marks
 use record::byte_at;
 use scan::is_invalid;
 use scan::may_follow;
@@ -10,7 +11,7 @@ ghost use lib.ListN.{length, getD, replicate};
 ghost use Rattle.machine.specs.Acceptance.{accepted};
 ghost use Rattle.verifier.specs.Tables.{Room};
 ghost use Rattle.verifier.specs.Instructions.{rowOf, named, distanceOf, farthest};
-ghost use Rattle.verifier.specs.Pass.{faultyAt, exceedsWith, Limited, namesAt, Passed, nothingRead, Reading};
+ghost use Rattle.verifier.specs.Pass.{faultyAt, exceedsWith, Limited, namesAt, RingRoom, Passed, nothingRead, Reading};
 ghost use Rattle.verifier.specs.Pass.{Stepped, Instructing, Instructed, Leaving, Left, Beginning, opening, VariableRoom, VariableNoted, AtHeading, SubRoom, SubRead, Empty, Judged};
 
 // Code is refused, or accepted with the number of its blocks.
@@ -260,7 +261,7 @@ fn distance_of(body: &[u8], place: usize) -> usize
 
 // Whether no landing is marked from a position on up to an end.
 fn unmarked(ring: &[u8], from: usize, end: usize) -> bool
-    requires { ⌜ (length (now ring) ≡ 65536) × (from ≤ end) ⌝ }
+    requires { ⌜ RingRoom (now ring) end × (from ≤ end) ⌝ }
     ensures { λ r. ⌜ Passed (now (ring .entry)) from end r ⌝ }
 {
     let mut at = from;
@@ -311,7 +312,7 @@ fn instruction(
     widths: &[usize],
     ring: &mut [u8],
 ) -> Step
-    requires { ⌜ Instructing at next u (now ring) ⌝ }
+    requires { ⌜ Instructing row (now body) at next u (now ring) ⌝ }
     ensures { λ r.
         ⌜ Instructed row (now (body .entry)) at next u (now (heads .entry)) (now (widths .entry)) (now (ring .entry)) (now (ring .exit)) r ⌝ }
 {
@@ -322,6 +323,9 @@ fn instruction(
         return Step::Refused;
     }
     let d = distance_of(body, row.place);
+    if body.len() - row.length < d {
+        return Step::Refused;
+    }
     ring[at % 65536] = 0;
     ring[(next % 65536 + d) % 65536] = 1;
     let mut v = u;
@@ -555,7 +559,7 @@ fn judge_code(
     widths: &mut [usize],
     ring: &mut [u8],
 ) -> Verdict
-    requires { ⌜ Empty (now spans) (now heads) (now places) (now weights) (now widths) (now ring) ⌝ }
+    requires { ⌜ Empty (now code) (now spans) (now heads) (now places) (now weights) (now widths) (now ring) ⌝ }
     ensures { λ r. ⌜ Judged (now (code .entry)) (now (spans .exit)) (now (heads .exit)) (now (places .exit)) r ⌝ }
 {
     let mut u = nothing_read();
@@ -577,13 +581,25 @@ fn judge_code(
     }
 }
 
-// Judges code: whether it is accepted, and of accepted code the tables of its blocks.
+// Judges code: whether it is accepted, and of accepted code the tables of its blocks. A small ring has a mark for each position of short code.
 pub fn verify(code: &[u8], spans: &mut [usize], heads: &mut [u8], places: &mut [u8]) -> Verdict
     requires { ⌜ Room (now spans) (now heads) (now places) × (now places ≡ replicate 32 0) ⌝ }
     ensures { λ r. ⌜ Judged (now (code .entry)) (now (spans .exit)) (now (heads .exit)) (now (places .exit)) r ⌝ }
 {
     let mut weights = [0usize; 32];
     let mut widths = [0usize; 32];
+    if code.len() < 8192 {
+        let mut small = [0u8; 8192];
+        return judge_code(
+            code,
+            spans,
+            heads,
+            places,
+            &mut weights,
+            &mut widths,
+            &mut small,
+        );
+    }
     let mut ring = [0u8; 65536];
     judge_code(
         code,

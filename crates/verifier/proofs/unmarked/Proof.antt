@@ -18,7 +18,7 @@ loop-holds : tie.Need-loop-holds Inv-loop μ-loop
 loop-holds c = (omega arith, omega arith, λ d a b. absurd (omega arith))
 
 shared-slice-read-if1 : tie.Need-shared-slice-read-if1 Inv-loop μ-loop
-shared-slice-read-if1 c = omega arith
+shared-slice-read-if1 c = c .before .before .before .pre .0 (c .before .before .loop .at) (omega arith)
 
 returns : tie.Need-returns Inv-loop μ-loop
 returns c = passed-hit _ _ _ (c .before .before .before .loop .at) (c .before .before .before .loop .inv .0) (omega arith) (c .if1 .taken)
