@@ -15,7 +15,7 @@ use borrow.Author.Tests.{eq-eqb, ne-eqb, lt-ltb, le-ltb, ltb-true, ltb-false}
 use Rattle.order.proofs.Booleans.{decide}
 use Rattle.book.specs.Records.{follows, invalid}
 use Rattle.machine.specs.Acceptance.{counted, faulty}
-use Rattle.verifier.specs.Instructions.{rowOf}
+use Rattle.verifier.specs.Instructions.{numbersOf, rowOf}
 use Rattle.verifier.specs.Pass.{countOf, faultyAt, exceedsWith, Limited}
 use Rattle.verifier.specs.declared.Progress.{Progress}
 use Rattle.verifier.specs.declared.Row.{Row}
@@ -60,7 +60,7 @@ or-group false b d = refl
 
 module _ (code : List ℕ) (at : ℕ) (u : Progress) (s : Row) (es : s ≡ rowOf (getD code at 0)) where
   tests-are : tests code at u s ≡ faultyAt code at u
-  unfolding faultyAt faulty tests rowOf
+  unfolding faultyAt faulty tests rowOf numbersOf
   tests-are = ap (tests code at u) es
 
   grouped : tests code at u s ≡ (eqb (s .stage) 0 ||

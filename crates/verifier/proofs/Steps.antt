@@ -18,7 +18,7 @@ use Rattle.order.proofs.Booleans.{decide, both}
 use Rattle.machine.specs.Blocks.{Block, Parsed, bodyLength, stageOf, variablesOf}
 use Rattle.machine.specs.Instructions.{instructionOf}
 use Rattle.machine.specs.Acceptance.{counted, sound, lands, fits, accepted}
-use Rattle.verifier.specs.Instructions.{rowOf, namingOf, distancePlace, named, distanceOf, farthest}
+use Rattle.verifier.specs.Instructions.{numbersOf, rowOf, namingOf, distancePlace, named, distanceOf, farthest}
 use Rattle.verifier.specs.Tables.{blockAt}
 use Rattle.verifier.specs.Pass.{countOf, faultyAt, namesAt, instructionRead, mark, Passed, Marks, earlier, ahead, Busy, Reading, AtInstruction, Instructing, Instructed}
 use Rattle.verifier.specs.declared.Progress.{Progress}
@@ -294,7 +294,7 @@ module _ (row : Row) (body : List ℕ) (at next : ℕ) (u : Progress) (ring : Li
 module _ (row : Row) (body : List ℕ) (at next : ℕ) (u : Progress) (heads widths ring : List ℕ) (r : Bool)
     (er : r ≡ namesAt (row .naming) body heads widths u) where
   names-at : (code : List ℕ) → row ≡ rowOf (getD code at 0) → body ≡ drop (at + 1) code → r ≡ namesAt (namingOf (getD code at 0)) (drop (at + 1) code) heads widths u
-  unfolding rowOf
+  unfolding rowOf numbersOf
   names-at code ek eb = er ∙ rw (ek, eb)
 
   pub refuse-names : r ≡ false → (ring' : List ℕ) → Instructed row body at next u heads widths ring ring' Refused
@@ -314,11 +314,11 @@ module _ (row : Row) (body : List ℕ) (at next : ℕ) (u : Progress) (heads wid
     body-length = rw (i .bodyIs) (length-drop (at + 1) code)
 
     row-length : row .length ≡ bodyLength (getD code at 0)
-    unfolding rowOf
+    unfolding rowOf numbersOf
     row-length = ap (λ (x : Row). x .length) (i .rowIs)
 
     distance-is : (d : ℕ) → d ≡ distanceOf (row .place) body → d ≡ distanceOf (distancePlace (getD code at 0)) (drop (at + 1) code)
-    unfolding rowOf
+    unfolding rowOf numbersOf
     distance-is d ed = ed ∙ rw (i .rowIs, i .bodyIs)
 
   pub refuse-far : (d : ℕ) → d ≡ distanceOf (row .place) body → length body - row .length < d → (ring' : List ℕ)

@@ -12,7 +12,7 @@ use lib.Dec.{eqb}
 use borrow.Author.Tests.{eqb-true, eqb-false}
 use Rattle.order.proofs.Booleans.{decide}
 use Rattle.machine.specs.Blocks.{stageOf}
-use Rattle.verifier.specs.Instructions.{rowOf}
+use Rattle.verifier.specs.Instructions.{numbersOf, rowOf}
 use Rattle.verifier.specs.Pass.{faultyAt, VariableRoom, VariableNoted, Reading, AtInstruction, AtHeading, Beginning, SubRoom, SubRead, Stepped, Instructing}
 use Rattle.verifier.specs.declared.Progress.{Progress}
 use Rattle.verifier.specs.declared.Row.{Row}
@@ -26,7 +26,7 @@ use Rattle.verifier.specs.declared.Step.the-variants.{Next}
 pub makes-heading : (code : List ℕ) (at : ℕ) (u : Progress) (spans heads places weights widths ring : List ℕ)
     → Reading code at u spans heads places weights widths ring → at < length code → (s : Row) → s ≡ rowOf (getD code at 0) → (s .stage ≡ 4 → ⊥)
     → AtHeading code at u spans heads places weights widths ring
-unfolding rowOf
+unfolding rowOf numbersOf
 makes-heading code at u spans heads places weights widths ring r here s es no-four =
     record { reading = r; here = here; noInstruction = λ z. no-four (ap (λ (y : Row). y .stage) es ∙ z) }
 
@@ -37,11 +37,11 @@ module _ (code : List ℕ) (at : ℕ) (u : Progress) (spans heads places weights
   ok = sym ex ∙ fine
 
   next-is : at + 1 + s .length ≡ nextAt code at
-  unfolding rowOf
+  unfolding rowOf numbersOf
   next-is = ap (λ (y : Row). at + 1 + y .length) es
 
   stage-is : s .stage ≡ stageOf (getD code at 0)
-  unfolding rowOf
+  unfolding rowOf numbersOf
   stage-is = ap (λ (y : Row). y .stage) es
 
   pub next-within : at + 1 + s .length ≤ length code

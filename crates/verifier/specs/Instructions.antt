@@ -6,6 +6,7 @@ use lib.Dec.{eqb, ltb}
 use Rattle.record.specs.Bytes.{bigEndian}
 use Rattle.record.specs.Kinds.{shapeIn}
 use Rattle.record.specs.declared.Medium.the-variants.{Code}
+use Rattle.verifier.specs.declared.Numbers.{Numbers}
 use Rattle.verifier.specs.declared.Row.{Row}
 
 -- 1 own variable, 2 sub-scope and variable, 3 sub-scope, 0 nothing
@@ -20,8 +21,15 @@ namingOf k =
 unfoldable pub distancePlace : ℕ → ℕ
 distancePlace k = cond (eqb k 34 || (eqb k 35 || (eqb k 36 || eqb k 40))) 1 (cond (eqb k 44) 2 0)
 
+-- a kind's length and stage in code, what its first numbers name, and where its distance stands
+unfoldable pub numbersOf : ℕ → Numbers
+numbersOf k = record { 0 = shapeIn Code k .length; 1 = shapeIn Code k .stage; 2 = namingOf k; 3 = distancePlace k }
+
+abbrev pub asRow : Numbers → Row
+asRow n = record { length = n .0; stage = n .1; naming = n .2; place = n .3 }
+
 unfoldable pub rowOf : ℕ → Row
-rowOf k = record { length = shapeIn Code k .length; stage = shapeIn Code k .stage; naming = namingOf k; place = distancePlace k }
+rowOf k = asRow (numbersOf k)
 
 -- the numbers a and b name something: v variables, s sub-scopes, of which sub-scope a has c variables
 unfoldable pub named : ℕ → ℕ → ℕ → ℕ → ℕ → ℕ → Bool

@@ -10,7 +10,7 @@ ghost use Prim.Native.Nat.{_+_, _<_, _≤_, _*_};
 ghost use lib.ListN.{length, getD, replicate};
 ghost use Rattle.machine.specs.Acceptance.{accepted};
 ghost use Rattle.verifier.specs.Tables.{Room};
-ghost use Rattle.verifier.specs.Instructions.{rowOf, named, distanceOf, farthest};
+ghost use Rattle.verifier.specs.Instructions.{numbersOf, rowOf, named, distanceOf, farthest};
 ghost use Rattle.verifier.specs.Pass.{faultyAt, exceedsWith, Limited, namesAt, RingRoom, Passed, nothingRead, Reading};
 ghost use Rattle.verifier.specs.Pass.{Stepped, Instructing, Instructed, Leaving, Left, Beginning, opening, VariableRoom, VariableNoted, AtHeading, SubRoom, SubRead, Empty, Judged};
 
@@ -42,6 +42,9 @@ struct Row {
     pub naming: usize,
     pub place: usize,
 }
+
+// The numbers of a row, in their order.
+struct Numbers(pub usize, pub usize, pub usize, pub usize);
 
 // After a record: the code is refused, or the position of the next record and what was read.
 enum Step {
@@ -121,95 +124,38 @@ fn is_faulty(code: &[u8], at: usize, kind: u8, row: Row, u: Progress) -> bool
     is_invalid(kind, &code[start..])
 }
 
-// The row of a kind. No arm has two kinds that follow each other, so the compiler makes a table of it.
+// The numbers of a kind's row. No arm has two kinds that follow each other, so the compiler makes a table of it.
+fn numbers_of(kind: u8) -> Numbers
+    ensures { λ r. ⌜ r ≡ numbersOf kind ⌝ }
+{
+    match kind {
+        1 => Numbers(1, 1, 0, 0),
+        2 => Numbers(1, 2, 0, 0),
+        3 => Numbers(1, 3, 0, 0),
+        4 => Numbers(1, 4, 0, 0),
+        5 => Numbers(4, 4, 0, 0),
+        6 | 41 => Numbers(1, 4, 1, 0),
+        7 | 42 => Numbers(2, 4, 2, 0),
+        10 | 12 | 14 | 16 | 32 | 37 | 39 => Numbers(0, 4, 0, 0),
+        11 | 13 | 15 | 33 | 38 => Numbers(0, 4, 0, 0),
+        34 | 36 | 40 => Numbers(2, 4, 0, 1),
+        35 => Numbers(2, 4, 0, 1),
+        43 => Numbers(1, 4, 3, 0),
+        44 => Numbers(3, 4, 1, 2),
+        _ => Numbers(0, 0, 0, 0),
+    }
+}
+
+// The row of a kind.
 fn row_of(kind: u8) -> Row
     ensures { λ r. ⌜ r ≡ rowOf kind ⌝ }
 {
-    match kind {
-        1 => Row {
-            length: 1,
-            stage: 1,
-            naming: 0,
-            place: 0,
-        },
-        2 => Row {
-            length: 1,
-            stage: 2,
-            naming: 0,
-            place: 0,
-        },
-        3 => Row {
-            length: 1,
-            stage: 3,
-            naming: 0,
-            place: 0,
-        },
-        4 => Row {
-            length: 1,
-            stage: 4,
-            naming: 0,
-            place: 0,
-        },
-        5 => Row {
-            length: 4,
-            stage: 4,
-            naming: 0,
-            place: 0,
-        },
-        6 | 41 => Row {
-            length: 1,
-            stage: 4,
-            naming: 1,
-            place: 0,
-        },
-        7 | 42 => Row {
-            length: 2,
-            stage: 4,
-            naming: 2,
-            place: 0,
-        },
-        10 | 12 | 14 | 16 | 32 | 37 | 39 => Row {
-            length: 0,
-            stage: 4,
-            naming: 0,
-            place: 0,
-        },
-        11 | 13 | 15 | 33 | 38 => Row {
-            length: 0,
-            stage: 4,
-            naming: 0,
-            place: 0,
-        },
-        34 | 36 | 40 => Row {
-            length: 2,
-            stage: 4,
-            naming: 0,
-            place: 1,
-        },
-        35 => Row {
-            length: 2,
-            stage: 4,
-            naming: 0,
-            place: 1,
-        },
-        43 => Row {
-            length: 1,
-            stage: 4,
-            naming: 3,
-            place: 0,
-        },
-        44 => Row {
-            length: 3,
-            stage: 4,
-            naming: 1,
-            place: 2,
-        },
-        _ => Row {
-            length: 0,
-            stage: 0,
-            naming: 0,
-            place: 0,
-        },
+    let n = numbers_of(kind);
+    Row {
+        length: n.0,
+        stage: n.1,
+        naming: n.2,
+        place: n.3,
     }
 }
 
