@@ -1,5 +1,6 @@
 -- The end of a block: what is refused, and what holds after it.
---     at-scope, filled-set, filled-bound, filled-room      tables by scope
+--     at-scope, weight-at, width-at                        tables by scope
+--     filled-set, filled-bound, filled-room                how many scopes have a block
 --     reach-refused, weight-refused                        a landing past the end; overweight
 --     leave-closed, leave-idle                             one more block is closed, or none was open
 --     leave-bounds                                         the room of the tables
@@ -21,7 +22,7 @@ use Rattle.book.specs.Syntax.{typeOf}
 use Rattle.machine.specs.Blocks.{Block, hasBlock, variablesOf}
 use Rattle.machine.specs.Acceptance.{weightIn, wellFormed, accepted}
 use Rattle.verifier.specs.Tables.{blockAt, Entered}
-use Rattle.verifier.specs.Pass.{Marks, earlier, AreClosed, Busy, Reading, filled, Leaving, AllClosed}
+use Rattle.verifier.specs.Pass.{weightAt, widthAt, Marks, earlier, AreClosed, Busy, Reading, filled, Leaving, AllClosed}
 use Rattle.verifier.specs.declared.Progress.{Progress}
 use Rattle.verifier.proofs.Blocks.{refused, block-fits, Formed, formed, well-formed, earlier-suc, all-fit}
 use Rattle.verifier.proofs.Turns.{drop-end}
@@ -39,6 +40,31 @@ at-scope xs s v i h =
     (λ (q : eqb s i ≡ true). rw q (rw (← eqb-true s i q) (getD-set-same xs s v 0 h)))
     (λ (q : eqb s i ≡ false). rw q (getD-set-other xs s i v 0 (λ e. eqb-false s i q (sym e))))
     (decide (eqb s i))
+
+same-test : (a b x y : ℕ) → (a ≡ b → x ≡ y) → (x ≡ y → a ≡ b) → eqb x y ≡ eqb a b
+same-test a b x y there back =
+    ⊎-elim
+    (λ (q : eqb a b ≡ true). rw q (eq-eqb x y (there (eqb-true a b q))))
+    (λ (q : eqb a b ≡ false). rw q (ne-eqb x y (λ z. eqb-false a b q (back z))))
+    (decide (eqb a b))
+
+-- the two numbers of a scope
+module _ (xs : List ℕ) (s w v i : ℕ) (h : s * 2 + 1 < length xs) where
+  pub weight-at : weightAt (set (set xs (s * 2) w) (s * 2 + 1) v) i ≡ cond (eqb s i) w (weightAt xs i)
+  unfolding weightAt
+  weight-at =
+      getD-set-other (set xs (s * 2) w) (s * 2 + 1) (i * 2) v 0 (λ z. omega arith)
+      ∙ at-scope xs (s * 2) w (i * 2) (omega arith)
+      ∙ rw (same-test s i (s * 2) (i * 2) (λ z. omega arith) (λ z. omega arith))
+
+  pub width-at : widthAt (set (set xs (s * 2) w) (s * 2 + 1) v) i ≡ cond (eqb s i) v (widthAt xs i)
+  unfolding widthAt
+  width-at =
+      at-scope (set xs (s * 2) w) (s * 2 + 1) v (i * 2 + 1) (rw length-set h)
+      ∙ rw (
+        same-test s i (s * 2 + 1) (i * 2 + 1) (λ z. omega arith) (λ z. omega arith),
+        getD-set-other xs (s * 2) (i * 2 + 1) w 0 (λ z. omega arith),
+      )
 
 pub filled-set : (xs : List ℕ) (s v : ℕ) → s < length xs → getD xs s 0 ≡ 0 → 0 < v → filled (set xs s v) ≡ suc (filled xs)
 unfolding filled
@@ -63,9 +89,9 @@ filled-room xs s h e =
 
 -- The end of the present block
 
-module _ (code : List ℕ) (at : ℕ) (u : Progress) (spans heads places weights widths ring : List ℕ)
-    (l : Leaving code at u spans heads places weights widths ring) (opened : 1 ≤ u .stage) where
-  abbrev r : Reading code at u spans heads places weights widths ring
+module _ (code : List ℕ) (at : ℕ) (u : Progress) (spans heads places sizes ring : List ℕ)
+    (l : Leaving code at u spans heads places sizes ring) (opened : 1 ≤ u .stage) where
+  abbrev r : Reading code at u spans heads places sizes ring
   r = l .reading
 
   abbrev b : Block
@@ -268,35 +294,37 @@ module _ (code : List ℕ) (at : ℕ) (u : Progress) (spans heads places weights
         (λ (q : eqb (u .scope) i ≡ false). rw q (r .closed .known i))
         (decide (eqb (u .scope) i)))
 
-    weighed-here : (i : ℕ) → weightIn (b ∷ e) i ≡ getD (set weights (u .scope) (u .weight)) i 0
-    unfolding weightIn
-    weighed-here i =
-        rw (
-          at-scope weights (u .scope) (u .weight) i (scope-in weights (r .sized .weightRoom)),
-          ← busy .head .scope,
-          weight-sum,
-          r .closed .weighed i,
-        )
+    abbrev sizes' : List ℕ
+    sizes' = set (set sizes (u .scope * 2) (u .weight)) (u .scope * 2 + 1) (u .variables)
 
-    light-here : (i : ℕ) → getD (set weights (u .scope) (u .weight)) i 0 ≤ 4096
+    size-in : u .scope * 2 + 1 < length sizes
+    size-in = let z = busy .head .scopeSmall in let n = r .sized .sizeRoom in omega arith
+
+    weights-at : (i : ℕ) → weightAt sizes' i ≡ cond (eqb (u .scope) i) (u .weight) (weightAt sizes i)
+    weights-at i = weight-at sizes (u .scope) (u .weight) (u .variables) i size-in
+
+    weighed-here : (i : ℕ) → weightIn (b ∷ e) i ≡ weightAt sizes' i
+    unfolding weightIn
+    weighed-here i = rw (weights-at i, ← busy .head .scope, weight-sum, r .closed .weighed i)
+
+    light-here : (i : ℕ) → weightAt sizes' i ≤ 4096
     light-here i =
-        rw (at-scope weights (u .scope) (u .weight) i (scope-in weights (r .sized .weightRoom)))
+        rw (weights-at i)
         (⊎-elim
         (λ (q : eqb (u .scope) i ≡ true). rw q light)
         (λ (q : eqb (u .scope) i ≡ false). rw q (r .closed .light i))
         (decide (eqb (u .scope) i)))
 
-    wide-here : (i : ℕ) → length (variablesOf (b ∷ e) i) ≡ getD (set widths (u .scope) (u .variables)) i 0
+    wide-here : (i : ℕ) → length (variablesOf (b ∷ e) i) ≡ widthAt sizes' i
     unfolding variablesOf
     wide-here i =
-        rw (at-scope widths (u .scope) (u .variables) i (scope-in widths (r .sized .widthRoom)), ← busy .head .scope)
+        rw (width-at sizes (u .scope) (u .weight) (u .variables) i size-in, ← busy .head .scope)
         (⊎-elim
         (λ (q : eqb (u .scope) i ≡ true). rw q variables-are)
         (λ (q : eqb (u .scope) i ≡ false). rw q (r .closed .wide i))
         (decide (eqb (u .scope) i)))
 
-    closed-more : AreClosed code m' spans' heads' (set places (u .scope) m') (set weights (u .scope) (u .weight))
-        (set widths (u .scope) (u .variables))
+    closed-more : AreClosed code m' spans' heads' (set places (u .scope) m') sizes'
     closed-more =
         let s = earlier-suc code (u .blocks) (busy .head .present) in
         record {
@@ -318,7 +346,7 @@ module _ (code : List ℕ) (at : ℕ) (u : Progress) (spans heads places weights
 
     pub leave-closed : AllClosed code at (u .blocks + 1) (set (set spans (u .blocks * 2) (u .begin)) (u .blocks * 2 + 1) at)
         (set (set (set heads (u .blocks * 48) (u .scope)) (u .blocks * 48 + 1) (u .variables)) (u .blocks * 48 + 2) (u .subs))
-        (set places (u .scope) (u .blocks + 1)) (set weights (u .scope) (u .weight)) (set widths (u .scope) (u .variables)) (set ring (at % 65536) 0)
+        (set places (u .scope) (u .blocks + 1)) (set (set sizes (u .scope * 2) (u .weight)) (u .scope * 2 + 1) (u .variables)) (set ring (at % 65536) 0)
     leave-closed =
         rw (add-one (u .blocks))
         (record {
@@ -335,21 +363,21 @@ module _ (code : List ℕ) (at : ℕ) (u : Progress) (spans heads places weights
                           ∙ r .sized .room .headRoom;
                       placeRoom = length-set places (u .scope) m' ∙ r .sized .room .placeRoom;
                     };
-                weightRoom = length-set weights (u .scope) (u .weight) ∙ r .sized .weightRoom;
-                widthRoom = length-set widths (u .scope) (u .variables) ∙ r .sized .widthRoom;
+                sizeRoom = length-set (set sizes (u .scope * 2) (u .weight)) (u .scope * 2 + 1) (u .variables)
+                    ∙ length-set sizes (u .scope * 2) (u .weight) ∙ r .sized .sizeRoom;
                 ringRoom = λ p h. rw (length-set ring (at % 65536) 0) (r .sized .ringRoom p h);
               };
           closed = closed-more;
           idle = record { later = busy .head .later; quiet = end-quiet e b at (u .reach) ring marks still (r .sized .ringRoom at (r .inside)) };
         })
 
-pub leave-idle : (code : List ℕ) (at : ℕ) (u : Progress) (spans heads places weights widths ring : List ℕ)
-    → Leaving code at u spans heads places weights widths ring → u .stage ≡ 0 → AllClosed code at (u .blocks) spans heads places weights widths ring
-leave-idle code at u spans heads places weights widths ring l z =
+pub leave-idle : (code : List ℕ) (at : ℕ) (u : Progress) (spans heads places sizes ring : List ℕ)
+    → Leaving code at u spans heads places sizes ring → u .stage ≡ 0 → AllClosed code at (u .blocks) spans heads places sizes ring
+leave-idle code at u spans heads places sizes ring l z =
     record { sized = l .reading .sized; closed = l .reading .closed; idle = l .reading .idle z }
 
 -- the room of the tables
-pub record LeaveRoom (at : ℕ) (u : Progress) (spans heads places weights widths ring : List ℕ) : Type 0 where
+pub record LeaveRoom (at : ℕ) (u : Progress) (spans heads places sizes ring : List ℕ) : Type 0 where
   pub blocks : u .blocks < 32
   pub scope : u .scope < 32
   pub variables : u .variables ≤ 32
@@ -357,14 +385,13 @@ pub record LeaveRoom (at : ℕ) (u : Progress) (spans heads places weights width
   pub spanRoom : length spans ≡ 64
   pub headRoom : length heads ≡ 1536
   pub placeRoom : length places ≡ 32
-  pub weightRoom : length weights ≡ 32
-  pub widthRoom : length widths ≡ 32
+  pub sizeRoom : length sizes ≡ 64
   pub ringRoom : at % 65536 < length ring
 
-pub leave-bounds : (code : List ℕ) (at : ℕ) (u : Progress) (spans heads places weights widths ring : List ℕ)
-    → Leaving code at u spans heads places weights widths ring → (u .stage ≡ 0 → ⊥) → LeaveRoom at u spans heads places weights widths ring
-leave-bounds code at u spans heads places weights widths ring l n =
-    let h = leave-room code at u spans heads places weights widths ring l (omega arith) in
+pub leave-bounds : (code : List ℕ) (at : ℕ) (u : Progress) (spans heads places sizes ring : List ℕ)
+    → Leaving code at u spans heads places sizes ring → (u .stage ≡ 0 → ⊥) → LeaveRoom at u spans heads places sizes ring
+leave-bounds code at u spans heads places sizes ring l n =
+    let h = leave-room code at u spans heads places sizes ring l (omega arith) in
     let r = l .reading in
     record {
       blocks = h .0;
@@ -374,7 +401,6 @@ leave-bounds code at u spans heads places weights widths ring l n =
       spanRoom = r .sized .room .spanRoom;
       headRoom = r .sized .room .headRoom;
       placeRoom = r .sized .room .placeRoom;
-      weightRoom = r .sized .weightRoom;
-      widthRoom = r .sized .widthRoom;
+      sizeRoom = r .sized .sizeRoom;
       ringRoom = r .sized .ringRoom at (r .inside);
     }

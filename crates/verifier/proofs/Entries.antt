@@ -28,9 +28,9 @@ entered-same code spans heads spans' heads' p small span head o =
     }
 
 -- an entry of the present block in the table of heads
-pub closed-heads : (code : List ℕ) (m : ℕ) (spans heads places weights widths heads' : List ℕ) → AreClosed code m spans heads places weights widths
-    → ((i : ℕ) → i < m * 48 → getD heads' i 0 ≡ getD heads i 0) → AreClosed code m spans heads' places weights widths
-closed-heads code m spans heads places weights widths heads' c same =
+pub closed-heads : (code : List ℕ) (m : ℕ) (spans heads places sizes heads' : List ℕ) → AreClosed code m spans heads places sizes
+    → ((i : ℕ) → i < m * 48 → getD heads' i 0 ≡ getD heads i 0) → AreClosed code m spans heads' places sizes
+closed-heads code m spans heads places sizes heads' c same =
     record {
       within = c .within;
       wellFormed = c .wellFormed;

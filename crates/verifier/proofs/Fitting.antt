@@ -238,6 +238,6 @@ locals = (
 pub local : (k : ℕ) → stageOf k ≡ 4 → Local k
 local k e = by-kind Local locals k e
 
-pub no-names : (naming : ℕ) (body heads widths : List ℕ) (u : Progress) → naming ≡ 0 → true ≡ namesAt naming body heads widths u
+pub no-names : (naming : ℕ) (body heads sizes : List ℕ) (u : Progress) → naming ≡ 0 → true ≡ namesAt naming body heads sizes u
 unfolding namesAt named
-no-names naming body heads widths u e = rw e refl
+no-names naming body heads sizes u e = rw e refl

@@ -19,7 +19,7 @@ use Rattle.book.specs.declared.Variable.{Variable}
 use Rattle.machine.specs.Blocks.{Block, Parsed, stageOf, hasBlock}
 use Rattle.machine.specs.Acceptance.{counted, sound, weightIn, accepted}
 use Rattle.verifier.specs.Tables.{blockAt}
-use Rattle.verifier.specs.Pass.{countOf, faultyAt, variableRead, subScopeRead, Quiet, earlier, ahead, Head, Noted, Busy, Sized, Reading, SubRoom, SubRead}
+use Rattle.verifier.specs.Pass.{weightAt, countOf, faultyAt, variableRead, subScopeRead, Quiet, earlier, ahead, Head, Noted, Busy, Sized, Reading, SubRoom, SubRead}
 use Rattle.verifier.specs.declared.Progress.{Progress}
 use Rattle.verifier.proofs.Reading.{ahead-at, front-two, front-three, length-below}
 use Rattle.verifier.proofs.Blocks.{refused, block-fits, formed}
@@ -32,13 +32,12 @@ use native.Mathlib.Numerals.{add-one}
 use Rattle.book.proofs.Searches.{any-false}
 use Rattle.verifier.proofs.Entries.{closed-heads}
 
-sized-heads : (code spans heads places weights widths ring : List ℕ) (i v : ℕ) → Sized code spans heads places weights widths ring
-    → Sized code spans (set heads i v) places weights widths ring
-sized-heads code spans heads places weights widths ring i v s =
+sized-heads : (code spans heads places sizes ring : List ℕ) (i v : ℕ) → Sized code spans heads places sizes ring
+    → Sized code spans (set heads i v) places sizes ring
+sized-heads code spans heads places sizes ring i v s =
     record {
       room = record { spanRoom = s .room .spanRoom; headRoom = length-set heads i v ∙ s .room .headRoom; placeRoom = s .room .placeRoom };
-      weightRoom = s .weightRoom;
-      widthRoom = s .widthRoom;
+      sizeRoom = s .sizeRoom;
       ringRoom = s .ringRoom;
     }
 
@@ -50,8 +49,8 @@ sum-more f (y ∷ xs) x = let h = sum-more f xs x in omega arith
 
 -- A record of the present block's head
 
-module _ (code : List ℕ) (at : ℕ) (u : Progress) (spans heads places weights widths ring : List ℕ)
-    (r : Reading code at u spans heads places weights widths ring) (here : at < length code) (fine : faultyAt code at u ≡ false) where
+module _ (code : List ℕ) (at : ℕ) (u : Progress) (spans heads places sizes ring : List ℕ)
+    (r : Reading code at u spans heads places sizes ring) (here : at < length code) (fine : faultyAt code at u ≡ false) where
   abbrev next : ℕ
   next = nextAt code at
 
@@ -63,7 +62,7 @@ module _ (code : List ℕ) (at : ℕ) (u : Progress) (spans heads places weights
 
   module _ (low : 2 ≤ stageOf (getD code at 0)) (high : stageOf (getD code at 0) ≤ 3) where
     early : (1 ≤ u .stage) × (u .stage < 4)
-    early = let o = was-open code at u spans heads places weights widths ring r here fine low in (o .0, omega arith)
+    early = let o = was-open code at u spans heads places sizes ring r here fine low in (o .0, omega arith)
 
     busy : Busy code at u heads ring
     busy = r .busy (early .0)
@@ -93,16 +92,16 @@ module _ (code : List ℕ) (at : ℕ) (u : Progress) (spans heads places weights
     head-turn : (s vs ss w i x : ℕ) → 1 ≤ s → s ≤ 3 → vs ≤ 32 → ss ≤ 8 → counted (stageOf (getD code at 0)) (countOf u) ≡ countOf (after s vs ss w)
         → u .blocks * 48 ≤ i → ahead code at .opened .body ≡ ahead code next .opened .body → Head code next (after s vs ss w)
         → Noted code (after s vs ss w) (set heads i x)
-        → Reading code next (after s vs ss w) spans (set heads i x) places weights widths ring
+        → Reading code next (after s vs ss w) spans (set heads i x) places sizes ring
     head-turn s vs ss w i x s1 s3 hv hs count above same head noted =
         let z = busy .still (early .1) .0 in
         record {
-          sized = sized-heads code spans heads places weights widths ring i x (r .sized);
+          sized = sized-heads code spans heads places sizes ring i x (r .sized);
           limited = record { stage = omega arith; variables = hv; subs = hs };
-          inside = next-inside code at u spans heads places weights widths ring r here fine;
-          sound = rw count at (sound-next code at u spans heads places weights widths ring r here fine);
+          inside = next-inside code at u spans heads places sizes ring r here fine;
+          sound = rw count at (sound-next code at u spans heads places sizes ring r here fine);
           closed =
-              closed-heads code (u .blocks) spans heads places weights widths (set heads i x) (r .closed)
+              closed-heads code (u .blocks) spans heads places sizes (set heads i x) (r .closed)
               (λ j l. getD-set-other heads i j x 0 (λ q. omega arith));
           idle = λ q. absurd (omega arith);
           busy =
@@ -149,7 +148,7 @@ module _ (code : List ℕ) (at : ℕ) (u : Progress) (spans heads places weights
 
     few2 : u .variables < 32
     unfolding counted
-    few2 = let z = rw two at (is-clean code at u spans heads places weights widths ring r here fine .variables) in omega arith
+    few2 = let z = rw two at (is-clean code at u spans heads places sizes ring r here fine .variables) in omega arith
 
     pub variable-room : (u .variables < 32) × (u .blocks < 32)
     variable-room = (few2, busy2 .head .room)
@@ -196,7 +195,7 @@ module _ (code : List ℕ) (at : ℕ) (u : Progress) (spans heads places weights
           weightFew = h .weightFew;
         }
 
-    pub variable-turn : Reading code next (variableRead u next) spans (set heads (u .blocks * 48 + 3 + u .variables) first) places weights widths ring
+    pub variable-turn : Reading code next (variableRead u next) spans (set heads (u .blocks * 48 + 3 + u .variables) first) places sizes ring
     unfolding counted
     variable-turn =
         let f = few2 in
@@ -236,9 +235,9 @@ module _ (code : List ℕ) (at : ℕ) (u : Progress) (spans heads places weights
 
     few3 : u .subs < 8
     unfolding counted
-    few3 = let z = rw three at (is-clean code at u spans heads places weights widths ring r here fine .subScopes) in omega arith
+    few3 = let z = rw three at (is-clean code at u spans heads places sizes ring r here fine .subScopes) in omega arith
 
-    pub sub-room : (u .subs < 8) × (u .blocks < 32) × (u .weight + getD weights first 0 ≤ 40000)
+    pub sub-room : (u .subs < 8) × (u .blocks < 32) × (u .weight + weightAt sizes first ≤ 40000)
     sub-room = (few3, busy3 .head .room, let x = few3 in let y = busy3 .head .weightFew in let z = r .closed .light first in omega arith)
 
     -- no block of that scope stands before
@@ -252,7 +251,7 @@ module _ (code : List ℕ) (at : ℕ) (u : Progress) (spans heads places weights
         false≢true (sym (r .closed .known first ∙ rw q) ∙ h))
 
     module _ (there : getD places first 0 ≡ 0 → ⊥) where
-      noted3 : Noted code (subScopeRead u (getD weights first 0) next) (set heads (u .blocks * 48 + 35 + u .subs) first)
+      noted3 : Noted code (subScopeRead u (weightAt sizes first) next) (set heads (u .blocks * 48 + 35 + u .subs) first)
       noted3 =
           record {
             types =
@@ -281,7 +280,7 @@ module _ (code : List ℕ) (at : ℕ) (u : Progress) (spans heads places weights
           (λ (q : k < u .subs). busy3 .head .known k q)
           (eq-or-lt-of-le {n = k} {m = u .subs} (omega arith))
 
-      weight3 : u .weight + getD weights first 0 ≡ suc (sum (weightIn (earlier code (u .blocks))) (take (u .subs + 1) (b .subScopes)))
+      weight3 : u .weight + weightAt sizes first ≡ suc (sum (weightIn (earlier code (u .blocks))) (take (u .subs + 1) (b .subScopes)))
       weight3 =
           let s = sum-more (weightIn (earlier code (u .blocks))) (take (u .subs) (b .subScopes)) first in
           let t : take (u .subs + 1) (b .subScopes) ≡ take (u .subs) (b .subScopes) ++ (first ∷ []) =
@@ -291,7 +290,7 @@ module _ (code : List ℕ) (at : ℕ) (u : Progress) (spans heads places weights
           let x = r .closed .weighed first in
           rw t (omega arith)
 
-      head3 : Head code next (subScopeRead u (getD weights first 0) next)
+      head3 : Head code next (subScopeRead u (weightAt sizes first) next)
       head3 =
           let h = busy3 .head in
           record {
@@ -312,29 +311,31 @@ module _ (code : List ℕ) (at : ℕ) (u : Progress) (spans heads places weights
             weightFew = let y = h .weightFew in let z = r .closed .light first in omega arith;
           }
 
-      pub sub-turn : Reading code next (subScopeRead u (getD weights first 0) next) spans (set heads (u .blocks * 48 + 35 + u .subs) first) places
-          weights widths ring
+      pub sub-turn : Reading code next (subScopeRead u (weightAt sizes first) next) spans (set heads (u .blocks * 48 + 35 + u .subs) first) places
+          sizes ring
       unfolding counted
       sub-turn =
           let f = few3 in
-          head-turn low3 high3 3 (u .variables) (u .subs + 1) (u .weight + getD weights first 0) (u .blocks * 48 + 35 + u .subs) first
+          head-turn low3 high3 3 (u .variables) (u .subs + 1) (u .weight + weightAt sizes first) (u .blocks * 48 + 35 + u .subs) first
           (omega arith) (omega arith) (r .limited .variables) (omega arith) (rw three) (omega arith) same3 head3 noted3
 
 -- What the code reads
 
-module _ (scope next : ℕ) (u : Progress) (heads places weights : List ℕ) where
-  pub sub-missing : (i x : ℕ) → i ≡ scope → x ≡ getD places i 0 → x ≡ 0 → SubRead scope next u heads places weights heads Refused
+module _ (scope next : ℕ) (u : Progress) (heads places sizes : List ℕ) where
+  pub sub-missing : (i x : ℕ) → i ≡ scope → x ≡ getD places i 0 → x ≡ 0 → SubRead scope next u heads places sizes heads Refused
   sub-missing i x ei ex h =
       record { missing = λ _. refl; read = λ n. absurd (n (ap (λ (j : ℕ). getD places j 0) (sym ei) ∙ sym ex ∙ h)) }
 
-  pub sub-read : (i x w : ℕ) → i ≡ scope → x ≡ getD places i 0 → (x ≡ 0 → ⊥) → w ≡ getD weights i 0
-      → SubRead scope next u heads places weights (set heads (u .blocks * 48 + 35 + u .subs) scope) (Next next (subScopeRead u w next))
+  pub sub-read : (i x w : ℕ) → i ≡ scope → x ≡ getD places i 0 → (x ≡ 0 → ⊥) → w ≡ getD sizes (i * 2) 0
+      → SubRead scope next u heads places sizes (set heads (u .blocks * 48 + 35 + u .subs) scope) (Next next (subScopeRead u w next))
+  unfolding weightAt
   sub-read i x w ei ex h ew =
       record {
         missing = λ z. absurd (h (ex ∙ ap (λ (j : ℕ). getD places j 0) ei ∙ z));
-        read = λ _. (ap (λ (y : ℕ). Next next (subScopeRead u y next)) (ew ∙ ap (λ (j : ℕ). getD weights j 0) ei), refl);
+        read = λ _. (ap (λ (y : ℕ). Next next (subScopeRead u y next)) (ew ∙ ap (λ (j : ℕ). getD sizes (j * 2) 0) ei), refl);
       }
 
-pub weight-room : (scope : ℕ) (u : Progress) (heads weights : List ℕ) → SubRoom scope u heads weights → (i w : ℕ) → i ≡ scope
-    → w ≡ getD weights i 0 → u .weight + w ≤ 40000
-weight-room scope u heads weights r i w ei ew = let z = r .weight in rw (ew, ei) z
+pub weight-room : (scope : ℕ) (u : Progress) (heads sizes : List ℕ) → SubRoom scope u heads sizes → (i w : ℕ) → i ≡ scope
+    → w ≡ getD sizes (i * 2) 0 → u .weight + w ≤ 40000
+unfolding weightAt
+weight-room scope u heads sizes r i w ei ew = let z = r .weight in rw (ew, ei) z

@@ -5,7 +5,7 @@
 --     stepped-refused, stepped-next                             the loop
 --     end-leaves, end-judged, judged-refused, judged-accepted   the end
 -- Assumes nothing.
-use Prim.Native.Nat.{ℕ, zero, suc, _+_, _-_, _%_, _<_, _≤_}
+use Prim.Native.Nat.{ℕ, zero, suc, _+_, _-_, _*_, _%_, _<_, _≤_}
 use mathlib.Core.Path.{_≡_, refl, sym, ap, _∙_}
 use mathlib.Core.Bool.{true, false, false≢true}
 use mathlib.Core.List.{List, _∷_}
@@ -20,7 +20,7 @@ use Rattle.book.specs.Scopes.{sum}
 use Rattle.machine.specs.Blocks.{Block, Parsed, emptyBlock, stageOf, parse, hasBlock, variablesOf}
 use Rattle.machine.specs.Acceptance.{start, counted, sound, weightIn, wellFormed, allWellFormed, accepted}
 use Rattle.verifier.specs.Tables.{blockAt, Tabled, blockCount, Room}
-use Rattle.verifier.specs.Pass.{countOf, faultyAt, blockRead, mark, Quiet, earlier, ahead, Reading, nothingRead, filled, Leaving, AllClosed, Beginning, opening, Empty, Stepped, Judged, Left}
+use Rattle.verifier.specs.Pass.{weightAt, widthAt, countOf, faultyAt, blockRead, mark, Quiet, earlier, ahead, Reading, nothingRead, filled, Leaving, AllClosed, Beginning, opening, Empty, Stepped, Judged, Left}
 use Rattle.verifier.specs.declared.Progress.{Progress}
 use Rattle.verifier.proofs.Reading.{ahead-at, front-one, ahead-end, length-below}
 use Rattle.verifier.proofs.Blocks.{refused, block-fits, Formed, formed, all-accepted}
@@ -38,9 +38,9 @@ use Rattle.order.proofs.Matrix.{zeros}
 use native.Mathlib.Numerals.{add-one}
 
 -- at a record of kind 1 the present block ends
-pub begin-leaves : (code : List ℕ) (at next scope : ℕ) (u : Progress) (spans heads places weights widths ring : List ℕ)
-    → Beginning code at next scope u spans heads places weights widths ring → Leaving code at u spans heads places weights widths ring
-begin-leaves code at next scope u spans heads places weights widths ring g =
+pub begin-leaves : (code : List ℕ) (at next scope : ℕ) (u : Progress) (spans heads places sizes ring : List ℕ)
+    → Beginning code at next scope u spans heads places sizes ring → Leaving code at u spans heads places sizes ring
+begin-leaves code at next scope u spans heads places sizes ring g =
     record {
       reading = g .reading;
       ended = ap (λ (p : Parsed). p .opened) (ahead-at code at (g .here)
@@ -48,10 +48,10 @@ begin-leaves code at next scope u spans heads places weights widths ring g =
     }
 
 -- a block begins
-module _ (code : List ℕ) (at : ℕ) (u : Progress) (spans₀ heads₀ places₀ weights₀ widths₀ ring₀ : List ℕ)
-    (r : Reading code at u spans₀ heads₀ places₀ weights₀ widths₀ ring₀) (here : at < length code) (fine : faultyAt code at u ≡ false)
+module _ (code : List ℕ) (at : ℕ) (u : Progress) (spans₀ heads₀ places₀ sizes₀ ring₀ : List ℕ)
+    (r : Reading code at u spans₀ heads₀ places₀ sizes₀ ring₀) (here : at < length code) (fine : faultyAt code at u ≡ false)
     (one : stageOf (getD code at 0) ≡ 1)
-    (m : ℕ) (spans heads places weights widths ring : List ℕ) (c : AllClosed code at m spans heads places weights widths ring) where
+    (m : ℕ) (spans heads places sizes ring : List ℕ) (c : AllClosed code at m spans heads places sizes ring) where
   abbrev next : ℕ
   next = nextAt code at
 
@@ -111,14 +111,14 @@ module _ (code : List ℕ) (at : ℕ) (u : Progress) (spans₀ heads₀ places�
     unfolding new
     body-is = sym (ap (λ (x : Block). x .body) block-is)
 
-    pub open-turn : Reading code next (blockRead m s next) spans heads places weights widths ring
+    pub open-turn : Reading code next (blockRead m s next) spans heads places sizes ring
     unfolding counted new sum
     open-turn =
         record {
           sized = c .sized;
           limited = record { stage = omega arith; variables = omega arith; subs = omega arith };
-          inside = next-inside code at u spans₀ heads₀ places₀ weights₀ widths₀ ring₀ r here fine;
-          sound = rw one at (sound-next code at u spans₀ heads₀ places₀ weights₀ widths₀ ring₀ r here fine);
+          inside = next-inside code at u spans₀ heads₀ places₀ sizes₀ ring₀ r here fine;
+          sound = rw one at (sound-next code at u spans₀ heads₀ places₀ sizes₀ ring₀ r here fine);
           closed = c .closed;
           idle = λ z. absurd (omega arith);
           busy =
@@ -148,7 +148,7 @@ module _ (code : List ℕ) (at : ℕ) (u : Progress) (spans₀ heads₀ places�
               };
         }
 
-  pub open-stepped : Stepped code at spans heads places weights widths ring (opening s next m places)
+  pub open-stepped : Stepped code at spans heads places sizes ring (opening s next m places)
   unfolding opening
   open-stepped =
       ⊎-elim
@@ -160,36 +160,35 @@ module _ (code : List ℕ) (at : ℕ) (u : Progress) (spans₀ heads₀ places�
       (decide (eqb (getD places s 0) 0)))
       (decide (ltb 31 s))
 
-pub begin-stepped : (code : List ℕ) (at next scope : ℕ) (u : Progress) (spans₀ heads₀ places₀ weights₀ widths₀ ring₀ : List ℕ)
-    → Beginning code at next scope u spans₀ heads₀ places₀ weights₀ widths₀ ring₀
-    → (m : ℕ) (spans heads places weights widths ring : List ℕ) → AllClosed code at m spans heads places weights widths ring
-    → (r : Step) → r ≡ opening scope next m places → Stepped code at spans heads places weights widths ring r
-begin-stepped code at next scope u spans₀ heads₀ places₀ weights₀ widths₀ ring₀ g m spans heads places weights widths ring c r e =
+pub begin-stepped : (code : List ℕ) (at next scope : ℕ) (u : Progress) (spans₀ heads₀ places₀ sizes₀ ring₀ : List ℕ)
+    → Beginning code at next scope u spans₀ heads₀ places₀ sizes₀ ring₀
+    → (m : ℕ) (spans heads places sizes ring : List ℕ) → AllClosed code at m spans heads places sizes ring
+    → (r : Step) → r ≡ opening scope next m places → Stepped code at spans heads places sizes ring r
+begin-stepped code at next scope u spans₀ heads₀ places₀ sizes₀ ring₀ g m spans heads places sizes ring c r e =
     rw (e, g .scopeIs, g .nextIs)
-    (open-stepped code at u spans₀ heads₀ places₀ weights₀ widths₀ ring₀ (g .reading) (g .here) (g .fine) (g .stage) m spans heads places weights
-    widths ring c)
+    (open-stepped code at u spans₀ heads₀ places₀ sizes₀ ring₀ (g .reading) (g .here) (g .fine) (g .stage) m spans heads places sizes
+    ring c)
 
 -- a refused end
-pub left-refused : (code : List ℕ) (at : ℕ) (spans heads places weights widths ring : List ℕ) (x : Closing) → x ≡ closing.Refused
-    → Left code at spans heads places weights widths ring x → accepted code ≡ false
-left-refused code at spans heads places weights widths ring x e l = rw e at l
+pub left-refused : (code : List ℕ) (at : ℕ) (spans heads places sizes ring : List ℕ) (x : Closing) → x ≡ closing.Refused
+    → Left code at spans heads places sizes ring x → accepted code ≡ false
+left-refused code at spans heads places sizes ring x e l = rw e at l
 
-pub left-closed : (code : List ℕ) (at m : ℕ) (spans heads places weights widths ring : List ℕ) (x : Closing) → x ≡ Closed m
-    → Left code at spans heads places weights widths ring x → AllClosed code at m spans heads places weights widths ring
-left-closed code at m spans heads places weights widths ring x e l = rw e at l
+pub left-closed : (code : List ℕ) (at m : ℕ) (spans heads places sizes ring : List ℕ) (x : Closing) → x ≡ Closed m
+    → Left code at spans heads places sizes ring x → AllClosed code at m spans heads places sizes ring
+left-closed code at m spans heads places sizes ring x e l = rw e at l
 
 -- The start
 
 -- tables and a ring that are lent
 pub makes-empty : (code spans heads places : List ℕ) (n : ℕ) → Room spans heads places × (places ≡ replicate 32 0)
-    → ((d : ℕ) → d ≤ length code → d % 65536 < n) → Empty code spans heads places (replicate 32 0) (replicate 32 0) (replicate n 0)
+    → ((d : ℕ) → d ≤ length code → d % 65536 < n) → Empty code spans heads places (replicate 64 0) (replicate n 0)
 makes-empty code spans heads places n r room =
     record {
       spanRoom = r .0 .spanRoom;
       headRoom = r .0 .headRoom;
       noPlaces = r .1;
-      noWeights = refl;
-      noWidths = refl;
+      noSizes = refl;
       noMarks = zeros n;
       ringRoom = λ d h. rw (length-replicate {A = ℕ} n 0) (room d h);
     }
@@ -199,19 +198,18 @@ unfolding filled
 none-filled zero = refl
 none-filled (suc n) = let h = none-filled n in omega arith
 
-pub start-reading : (code spans heads places weights widths ring : List ℕ) → Empty code spans heads places weights widths ring
-    → Reading code 0 nothingRead spans heads places weights widths ring
-unfolding earlier allWellFormed hasBlock any weightIn variablesOf ahead mark
-start-reading code spans heads places weights widths ring e =
+pub start-reading : (code spans heads places sizes ring : List ℕ) → Empty code spans heads places sizes ring
+    → Reading code 0 nothingRead spans heads places sizes ring
+unfolding earlier allWellFormed hasBlock any weightIn variablesOf ahead mark weightAt widthAt
+start-reading code spans heads places sizes ring e =
     let p : (i : ℕ) → getD places i 0 ≡ 0 = λ i. rw (e .noPlaces) (zeros 32 i) in
-    let w : (i : ℕ) → getD weights i 0 ≡ 0 = λ i. rw (e .noWeights) (zeros 32 i) in
-    let v : (i : ℕ) → getD widths i 0 ≡ 0 = λ i. rw (e .noWidths) (zeros 32 i) in
+    let w : (i : ℕ) → weightAt sizes i ≡ 0 = λ i. rw (e .noSizes) (zeros 64 (i * 2)) in
+    let v : (i : ℕ) → widthAt sizes i ≡ 0 = λ i. rw (e .noSizes) (zeros 64 (i * 2 + 1)) in
     record {
       sized =
           record {
             room = record { spanRoom = e .spanRoom; headRoom = e .headRoom; placeRoom = rw (e .noPlaces) (length-replicate {A = ℕ} 32 0) };
-            weightRoom = rw (e .noWeights) (length-replicate {A = ℕ} 32 0);
-            widthRoom = rw (e .noWidths) (length-replicate {A = ℕ} 32 0);
+            sizeRoom = rw (e .noSizes) (length-replicate {A = ℕ} 64 0);
             ringRoom = e .ringRoom;
           };
       limited = record { stage = omega arith; variables = omega arith; subs = omega arith };
@@ -237,13 +235,13 @@ start-reading code spans heads places weights widths ring e =
 
 -- The end
 
-pub end-leaves : (code : List ℕ) (at : ℕ) (u : Progress) (spans heads places weights widths ring : List ℕ)
-    → Reading code at u spans heads places weights widths ring → length code ≤ at → Leaving code at u spans heads places weights widths ring
-end-leaves code at u spans heads places weights widths ring r h =
+pub end-leaves : (code : List ℕ) (at : ℕ) (u : Progress) (spans heads places sizes ring : List ℕ)
+    → Reading code at u spans heads places sizes ring → length code ≤ at → Leaving code at u spans heads places sizes ring
+end-leaves code at u spans heads places sizes ring r h =
     record { reading = r; ended = ap (λ (p : Parsed). p .opened) (ahead-end code at h) }
 
-module _ (code : List ℕ) (at m : ℕ) (u : Progress) (spans heads places weights widths ring : List ℕ) (h : length code ≤ at)
-    (s : sound (drop at code) 0 (countOf u) ≡ sound code 0 start) (c : AllClosed code at m spans heads places weights widths ring) where
+module _ (code : List ℕ) (at m : ℕ) (u : Progress) (spans heads places sizes ring : List ℕ) (h : length code ≤ at)
+    (s : sound (drop at code) 0 (countOf u) ≡ sound code 0 start) (c : AllClosed code at m spans heads places sizes ring) where
   all-blocks : length (parse code 0 .blocks) ≤ m
   all-blocks = drop-end (parse code 0 .blocks) m (c .idle .later ∙ ap (λ (p : Parsed). p .blocks) (ahead-end code at h))
 
@@ -272,26 +270,26 @@ module _ (code : List ℕ) (at m : ℕ) (u : Progress) (spans heads places weigh
 
 -- The loop
 
-pub stepped-refused : (code : List ℕ) (at : ℕ) (spans heads places weights widths ring : List ℕ) (x : Step) → x ≡ Refused
-    → Stepped code at spans heads places weights widths ring x → accepted code ≡ false
-stepped-refused code at spans heads places weights widths ring x e s = rw e at s
+pub stepped-refused : (code : List ℕ) (at : ℕ) (spans heads places sizes ring : List ℕ) (x : Step) → x ≡ Refused
+    → Stepped code at spans heads places sizes ring x → accepted code ≡ false
+stepped-refused code at spans heads places sizes ring x e s = rw e at s
 
-pub stepped-next : (code : List ℕ) (at : ℕ) (spans heads places weights widths ring : List ℕ) (x : Step) (next : ℕ) (u : Progress) → x ≡ Next next u
-    → Stepped code at spans heads places weights widths ring x → (at < next) × Reading code next u spans heads places weights widths ring
-stepped-next code at spans heads places weights widths ring x next u e s = rw e at s
+pub stepped-next : (code : List ℕ) (at : ℕ) (spans heads places sizes ring : List ℕ) (x : Step) (next : ℕ) (u : Progress) → x ≡ Next next u
+    → Stepped code at spans heads places sizes ring x → (at < next) × Reading code next u spans heads places sizes ring
+stepped-next code at spans heads places sizes ring x next u e s = rw e at s
 
-pub empty-start : (code spans heads places weights widths ring : List ℕ) (u : Progress) → Empty code spans heads places weights widths ring
+pub empty-start : (code spans heads places sizes ring : List ℕ) (u : Progress) → Empty code spans heads places sizes ring
     → u ≡ nothingRead
-    → Reading code 0 u spans heads places weights widths ring
-empty-start code spans heads places weights widths ring u e eu = rw eu (start-reading code spans heads places weights widths ring e)
+    → Reading code 0 u spans heads places sizes ring
+empty-start code spans heads places sizes ring u e eu = rw eu (start-reading code spans heads places sizes ring e)
 
-pub end-judged : (code : List ℕ) (at : ℕ) (u : Progress) (spans₀ heads₀ places₀ weights₀ widths₀ ring₀ : List ℕ)
-    → Reading code at u spans₀ heads₀ places₀ weights₀ widths₀ ring₀ → length code ≤ at
-    → (m : ℕ) (spans heads places weights widths ring : List ℕ) → AllClosed code at m spans heads places weights widths ring
+pub end-judged : (code : List ℕ) (at : ℕ) (u : Progress) (spans₀ heads₀ places₀ sizes₀ ring₀ : List ℕ)
+    → Reading code at u spans₀ heads₀ places₀ sizes₀ ring₀ → length code ≤ at
+    → (m : ℕ) (spans heads places sizes ring : List ℕ) → AllClosed code at m spans heads places sizes ring
     → (accepted code ≡ true) × Tabled code spans heads places m
-end-judged code at u spans₀ heads₀ places₀ weights₀ widths₀ ring₀ r h m spans heads places weights widths ring c = (
-  end-accepted code at m u spans heads places weights widths ring h (r .sound) c,
-  end-tabled code at m u spans heads places weights widths ring
+end-judged code at u spans₀ heads₀ places₀ sizes₀ ring₀ r h m spans heads places sizes ring c = (
+  end-accepted code at m u spans heads places sizes ring h (r .sound) c,
+  end-tabled code at m u spans heads places sizes ring
       h (r .sound) c,
 )
 

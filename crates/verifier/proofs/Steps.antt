@@ -20,7 +20,7 @@ use Rattle.machine.specs.Instructions.{instructionOf}
 use Rattle.machine.specs.Acceptance.{counted, sound, lands, fits, accepted}
 use Rattle.verifier.specs.Instructions.{numbersOf, rowOf, namingOf, distancePlace, named, distanceOf, farthest}
 use Rattle.verifier.specs.Tables.{blockAt}
-use Rattle.verifier.specs.Pass.{countOf, faultyAt, namesAt, instructionRead, mark, Passed, Marks, earlier, ahead, Busy, Reading, AtInstruction, Instructing, Instructed}
+use Rattle.verifier.specs.Pass.{widthAt, countOf, faultyAt, namesAt, instructionRead, mark, Passed, Marks, earlier, ahead, Busy, Reading, AtInstruction, Instructing, Instructed}
 use Rattle.verifier.specs.declared.Progress.{Progress}
 use Rattle.verifier.specs.declared.Row.{Row}
 use Rattle.verifier.proofs.Reading.{drop-here, ahead-at, ahead-short, length-below, front-four, NoHeads, no-heads}
@@ -53,8 +53,8 @@ named-more n a b v s c v' s' c' hv hs hc e =
 
 -- An instruction at a position
 
-module _ (code : List ℕ) (at : ℕ) (u : Progress) (spans heads places weights widths ring : List ℕ)
-    (r : Reading code at u spans heads places weights widths ring) (here : at < length code) (fine : faultyAt code at u ≡ false)
+module _ (code : List ℕ) (at : ℕ) (u : Progress) (spans heads places sizes ring : List ℕ)
+    (r : Reading code at u spans heads places sizes ring) (here : at < length code) (fine : faultyAt code at u ≡ false)
     (four : stageOf (getD code at 0) ≡ 4) where
   k : ℕ
   k = getD code at 0
@@ -73,7 +73,7 @@ module _ (code : List ℕ) (at : ℕ) (u : Progress) (spans heads places weights
   b = blockAt code (u .blocks)
 
   opened : 1 ≤ u .stage
-  opened = was-open code at u spans heads places weights widths ring r here fine (rw four (omega arith)) .0
+  opened = was-open code at u spans heads places sizes ring r here fine (rw four (omega arith)) .0
 
   busy : Busy code at u heads ring
   busy = r .busy opened
@@ -101,7 +101,7 @@ module _ (code : List ℕ) (at : ℕ) (u : Progress) (spans heads places weights
   whole : length bs ≡ bodyLength k
   unfolding bs k rest
   whole = length-take-le (bodyLength (getD code at 0)) (drop (at + 1) code)
-      (is-clean code at u spans heads places weights widths ring r here fine .whole)
+      (is-clean code at u spans heads places sizes ring r here fine .whole)
 
   marks : Marks e b (k ∷ bs ++ left) at (u .reach) ring
   unfolding e b
@@ -117,7 +117,7 @@ module _ (code : List ℕ) (at : ℕ) (u : Progress) (spans heads places weights
 
   -- what the tables say of the sub-scope's variables
   called : ℕ → ℕ
-  called a = getD widths (getD heads (u .blocks * 48 + 35 + a) 0) 0
+  called a = widthAt sizes (getD heads (u .blocks * 48 + 35 + a) 0)
 
   called-is : (a : ℕ) → a < u .subs → called a ≡ length (variablesOf e (getD (b .subScopes) a 0))
   unfolding called e b
@@ -140,7 +140,7 @@ module _ (code : List ℕ) (at : ℕ) (u : Progress) (spans heads places weights
   unfolding ahead counted
   no-more a =
       no-heads (drop (nextAt code at) code) 0 (counted (stageOf (getD code at 0)) (countOf u))
-      (sound-next code at u spans heads places weights widths ring r here fine ∙ sound-code code a)
+      (sound-next code at u spans heads places sizes ring r here fine ∙ sound-code code a)
       (rw four (omega arith))
 
   all-variables : accepted code ≡ true → length (b .variables) ≤ u .variables
@@ -164,7 +164,7 @@ module _ (code : List ℕ) (at : ℕ) (u : Progress) (spans heads places weights
       (sym fit-is ∙ back-fits k bs left whole e b at (u .reach) ring marks (accepted-fit a .fit))
 
   -- what is refused
-  pub names-refused : namesAt (namingOf (getD code at 0)) (drop (at + 1) code) heads widths u ≡ false → accepted code ≡ false
+  pub names-refused : namesAt (namingOf (getD code at 0)) (drop (at + 1) code) heads sizes u ≡ false → accepted code ≡ false
   unfolding namesAt names called k rest
   names-refused q =
       refused code
@@ -192,7 +192,7 @@ module _ (code : List ℕ) (at : ℕ) (u : Progress) (spans heads places weights
       omega arith)
 
   -- what holds after it
-  module _ (named-ok : namesAt (namingOf (getD code at 0)) (drop (at + 1) code) heads widths u ≡ true)
+  module _ (named-ok : namesAt (namingOf (getD code at 0)) (drop (at + 1) code) heads sizes u ≡ true)
       (d : ℕ) (ed : d ≡ distanceOf (distancePlace (getD code at 0)) (drop (at + 1) code)) (small : d < 65536)
       (near : nextAt code at + d ≤ length code) (clear : (p : ℕ) → at + 1 ≤ p → p < nextAt code at → mark ring p ≡ 0) where
     fit-lands : fits e b (instructionOf k (bs ++ left)) left ≡ lands left 0 d
@@ -231,7 +231,7 @@ module _ (code : List ℕ) (at : ℕ) (u : Progress) (spans heads places weights
         (ap (λ (l : List ℕ). take (at - u .begin) (drop (u .begin) code) ++ l) (sym body-is) ∙ busy .head .body)
 
     pub instruction-turn : Reading code (nextAt code at) (instructionRead u (farthest (u .reach) (nextAt code at - at) d)) spans heads places
-        weights widths (set (set ring (at % 65536) 0) ((nextAt code at % 65536 + d) % 65536) 1)
+        sizes (set (set ring (at % 65536) 0) ((nextAt code at % 65536 + d) % 65536) 1)
     unfolding counted e b left
     instruction-turn =
         let h = busy .head in
@@ -239,16 +239,15 @@ module _ (code : List ℕ) (at : ℕ) (u : Progress) (spans heads places weights
           sized =
               record {
                 room = r .sized .room;
-                weightRoom = r .sized .weightRoom;
-                widthRoom = r .sized .widthRoom;
+                sizeRoom = r .sized .sizeRoom;
                 ringRoom =
                     λ p h.
                     rw (length-set (set ring (at % 65536) 0) ((nextAt code at % 65536 + d) % 65536) 1, length-set ring (at % 65536) 0)
                     (r .sized .ringRoom p h);
               };
           limited = record { stage = omega arith; variables = r .limited .variables; subs = r .limited .subs };
-          inside = next-inside code at u spans heads places weights widths ring r here fine;
-          sound = rw four at (sound-next code at u spans heads places weights widths ring r here fine);
+          inside = next-inside code at u spans heads places sizes ring r here fine;
+          sound = rw four at (sound-next code at u spans heads places sizes ring r here fine);
           closed = r .closed;
           idle = λ z. absurd (omega arith);
           busy =
@@ -291,23 +290,23 @@ module _ (row : Row) (body : List ℕ) (at next : ℕ) (u : Progress) (ring : Li
       let w = i .whole in
       landing-room ring (at + 1 + length body) next d (i .ringRoom) (omega arith)
 
-module _ (row : Row) (body : List ℕ) (at next : ℕ) (u : Progress) (heads widths ring : List ℕ) (r : Bool)
-    (er : r ≡ namesAt (row .naming) body heads widths u) where
-  names-at : (code : List ℕ) → row ≡ rowOf (getD code at 0) → body ≡ drop (at + 1) code → r ≡ namesAt (namingOf (getD code at 0)) (drop (at + 1) code) heads widths u
+module _ (row : Row) (body : List ℕ) (at next : ℕ) (u : Progress) (heads sizes ring : List ℕ) (r : Bool)
+    (er : r ≡ namesAt (row .naming) body heads sizes u) where
+  names-at : (code : List ℕ) → row ≡ rowOf (getD code at 0) → body ≡ drop (at + 1) code → r ≡ namesAt (namingOf (getD code at 0)) (drop (at + 1) code) heads sizes u
   unfolding rowOf numbersOf
   names-at code ek eb = er ∙ rw (ek, eb)
 
-  pub refuse-names : r ≡ false → (ring' : List ℕ) → Instructed row body at next u heads widths ring ring' Refused
-  refuse-names h ring' code spans places weights i rd =
-      names-refused code at u spans heads places weights widths ring rd (i .here) (i .fine) (i .stage)
+  pub refuse-names : r ≡ false → (ring' : List ℕ) → Instructed row body at next u heads sizes ring ring' Refused
+  refuse-names h ring' code spans places i rd =
+      names-refused code at u spans heads places sizes ring rd (i .here) (i .fine) (i .stage)
       (sym (names-at code (i .rowIs) (i .bodyIs)) ∙ h)
 
   pub refuse-marks : (p : Bool) → Passed ring (at + 1) next p → p ≡ false → (ring' : List ℕ)
-      → Instructed row body at next u heads widths ring ring' Refused
-  refuse-marks p passed h ring' code spans places weights i rd =
+      → Instructed row body at next u heads sizes ring ring' Refused
+  refuse-marks p passed h ring' code spans places i rd =
       let t = passed .hit h in
       let l : t .0 < nextAt code at = let z = t .2 in let y = i .nextIs in omega arith in
-      inside-refused code at u spans heads places weights widths ring rd (i .here) (i .fine) (i .stage) (t .0) (t .1) l (t .3)
+      inside-refused code at u spans heads places sizes ring rd (i .here) (i .fine) (i .stage) (t .0) (t .1) l (t .3)
 
   module _ (code : List ℕ) (i : AtInstruction code row body at next u) where
     body-length : length body ≡ length code - (at + 1)
@@ -322,25 +321,25 @@ module _ (row : Row) (body : List ℕ) (at next : ℕ) (u : Progress) (heads wid
     distance-is d ed = ed ∙ rw (i .rowIs, i .bodyIs)
 
   pub refuse-far : (d : ℕ) → d ≡ distanceOf (row .place) body → length body - row .length < d → (ring' : List ℕ)
-      → Instructed row body at next u heads widths ring ring' Refused
-  refuse-far d ed h ring' code spans places weights i rd =
+      → Instructed row body at next u heads sizes ring ring' Refused
+  refuse-far d ed h ring' code spans places i rd =
       let l = body-length code i in
       let n = row-length code i in
       let f : length code - nextAt code at < d = omega arith in
-      far-refused code at u spans heads places weights widths ring rd (i .here) (i .fine) (i .stage) (rw (distance-is code i d ed) at f)
+      far-refused code at u spans heads places sizes ring rd (i .here) (i .fine) (i .stage) (rw (distance-is code i d ed) at f)
 
   pub take-instruction : r ≡ true → (p : Bool) → Passed ring (at + 1) next p → p ≡ true → (d f : ℕ)
       → d ≡ distanceOf (row .place) body → d < 65536 → d ≤ length body - row .length
       → f ≡ farthest (u .reach) (next - at) d
-      → Instructed row body at next u heads widths ring (set (set ring (at % 65536) 0) ((next % 65536 + d) % 65536) 1)
+      → Instructed row body at next u heads sizes ring (set (set ring (at % 65536) 0) ((next % 65536 + d) % 65536) 1)
       (Next next (instructionRead u f))
-  take-instruction ok p passed clear d f ed small near ef code spans places weights i rd =
+  take-instruction ok p passed clear d f ed small near ef code spans places i rd =
       let n = i .nextIs in
       let l = body-length code i in
       let m = row-length code i in
-      let w = next-inside code at u spans heads places weights widths ring rd (i .here) (i .fine) in
+      let w = next-inside code at u spans heads places sizes ring rd (i .here) (i .fine) in
       let t =
-      instruction-turn code at u spans heads places weights widths ring rd (i .here) (i .fine) (i .stage)
+      instruction-turn code at u spans heads places sizes ring rd (i .here) (i .fine) (i .stage)
       (sym (names-at code (i .rowIs) (i .bodyIs)) ∙ ok) d (distance-is code i d ed) small
       (omega arith)
       (λ q a b. passed .clear clear q a (omega arith)) in

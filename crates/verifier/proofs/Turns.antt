@@ -43,8 +43,8 @@ drop-end xs n e = let l : length xs - n ≡ 0 = sym (length-drop n xs) ∙ ap le
 abbrev pub nextAt : List ℕ → ℕ → ℕ
 nextAt code at = at + 1 + bodyLength (getD code at 0)
 
-module _ (code : List ℕ) (at : ℕ) (u : Progress) (spans heads places weights widths ring : List ℕ)
-    (r : Reading code at u spans heads places weights widths ring) (here : at < length code) (fine : faultyAt code at u ≡ false) where
+module _ (code : List ℕ) (at : ℕ) (u : Progress) (spans heads places sizes ring : List ℕ)
+    (r : Reading code at u spans heads places sizes ring) (here : at < length code) (fine : faultyAt code at u ≡ false) where
   pub is-clean : Clean (countOf u) (getD code at 0) (drop (at + 1) code)
   unfolding faultyAt
   is-clean = clean (countOf u) (getD code at 0) (drop (at + 1) code) fine

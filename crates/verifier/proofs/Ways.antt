@@ -23,15 +23,15 @@ use Rattle.verifier.proofs.Heads.{variable-room, variable-turn, sub-roo
 use Rattle.verifier.specs.declared.Step.{Step}
 use Rattle.verifier.specs.declared.Step.the-variants.{Next}
 
-pub makes-heading : (code : List ℕ) (at : ℕ) (u : Progress) (spans heads places weights widths ring : List ℕ)
-    → Reading code at u spans heads places weights widths ring → at < length code → (s : Row) → s ≡ rowOf (getD code at 0) → (s .stage ≡ 4 → ⊥)
-    → AtHeading code at u spans heads places weights widths ring
+pub makes-heading : (code : List ℕ) (at : ℕ) (u : Progress) (spans heads places sizes ring : List ℕ)
+    → Reading code at u spans heads places sizes ring → at < length code → (s : Row) → s ≡ rowOf (getD code at 0) → (s .stage ≡ 4 → ⊥)
+    → AtHeading code at u spans heads places sizes ring
 unfolding rowOf numbersOf
-makes-heading code at u spans heads places weights widths ring r here s es no-four =
+makes-heading code at u spans heads places sizes ring r here s es no-four =
     record { reading = r; here = here; noInstruction = λ z. no-four (ap (λ (y : Row). y .stage) es ∙ z) }
 
-module _ (code : List ℕ) (at : ℕ) (u : Progress) (spans heads places weights widths ring : List ℕ)
-    (r : Reading code at u spans heads places weights widths ring) (here : at < length code)
+module _ (code : List ℕ) (at : ℕ) (u : Progress) (spans heads places sizes ring : List ℕ)
+    (r : Reading code at u spans heads places sizes ring) (here : at < length code)
     (x : Bool) (ex : x ≡ faultyAt code at u) (fine : x ≡ false) (s : Row) (es : s ≡ rowOf (getD code at 0)) where
   ok : faultyAt code at u ≡ false
   ok = sym ex ∙ fine
@@ -45,48 +45,48 @@ module _ (code : List ℕ) (at : ℕ) (u : Progress) (spans heads places weights
   stage-is = ap (λ (y : Row). y .stage) es
 
   pub next-within : at + 1 + s .length ≤ length code
-  next-within = rw next-is (next-inside code at u spans heads places weights widths ring r here ok)
+  next-within = rw next-is (next-inside code at u spans heads places sizes ring r here ok)
 
   module _ (b : ℕ) (eb : b ≡ getD code (at + 1) 0) where
     first-is : b ≡ getD (drop (at + 1) code) 0 0
     first-is = let z : at + 1 + 0 ≡ at + 1 = omega arith in eb ∙ sym (getD-drop (at + 1) code 0 0 ∙ ap (λ (i : ℕ). getD code i 0) z)
 
-    pub makes-beginning : s .stage ≡ 1 → Beginning code at (at + 1 + s .length) b u spans heads places weights widths ring
+    pub makes-beginning : s .stage ≡ 1 → Beginning code at (at + 1 + s .length) b u spans heads places sizes ring
     makes-beginning e = record { reading = r; here = here; fine = ok; stage = sym stage-is ∙ e; nextIs = next-is; scopeIs = first-is }
 
     pub variable-stepped : s .stage ≡ 2 → (heads' : List ℕ) (y : Step) → VariableNoted b (at + 1 + s .length) u heads heads' y
-        → Stepped code at spans heads' places weights widths ring y
+        → Stepped code at spans heads' places sizes ring y
     variable-stepped e heads' y h =
-        rw (h .0, h .1, next-is, first-is) (omega arith, variable-turn code at u spans heads places weights widths ring r here ok (sym stage-is ∙ e))
+        rw (h .0, h .1, next-is, first-is) (omega arith, variable-turn code at u spans heads places sizes ring r here ok (sym stage-is ∙ e))
 
-    pub makes-sub-room : s .stage ≡ 3 → SubRoom b u heads weights
+    pub makes-sub-room : s .stage ≡ 3 → SubRoom b u heads sizes
     makes-sub-room e =
-        let h = sub-room code at u spans heads places weights widths ring r here ok (sym stage-is ∙ e) in
+        let h = sub-room code at u spans heads places sizes ring r here ok (sym stage-is ∙ e) in
         record { headRoom = r .sized .room .headRoom; blocks = h .1; subs = h .0; weight = rw first-is (h .2) }
 
-    pub sub-stepped : s .stage ≡ 3 → (heads' : List ℕ) (y : Step) → SubRead b (at + 1 + s .length) u heads places weights heads' y
-        → Stepped code at spans heads' places weights widths ring y
+    pub sub-stepped : s .stage ≡ 3 → (heads' : List ℕ) (y : Step) → SubRead b (at + 1 + s .length) u heads places sizes heads' y
+        → Stepped code at spans heads' places sizes ring y
     sub-stepped e heads' y h =
         ⊎-elim
         (λ (q : eqb (getD places b 0) 0 ≡ true).
         let z = eqb-true (getD places b 0) 0 q in
-        rw (h .missing z) (sub-refused code at u spans heads places weights widths ring r here ok (sym stage-is ∙ e) (rw first-is at z)))
+        rw (h .missing z) (sub-refused code at u spans heads places sizes ring r here ok (sym stage-is ∙ e) (rw first-is at z)))
         (λ (q : eqb (getD places b 0) 0 ≡ false).
         let z = eqb-false (getD places b 0) 0 q in
         let t = h .read z in
         rw (t .0, t .1, next-is, first-is)
-        (omega arith, sub-turn code at u spans heads places weights widths ring r here ok (sym stage-is ∙ e) (rw first-is at z)))
+        (omega arith, sub-turn code at u spans heads places sizes ring r here ok (sym stage-is ∙ e) (rw first-is at z)))
         (decide (eqb (getD places b 0) 0))
 
   pub makes-variable-room : s .stage ≡ 2 → VariableRoom u heads
   makes-variable-room e =
-      let h = variable-room code at u spans heads places weights widths ring r here ok (sym stage-is ∙ e) in
+      let h = variable-room code at u spans heads places sizes ring r here ok (sym stage-is ∙ e) in
       record { headRoom = r .sized .room .headRoom; blocks = h .1; variables = h .0 }
 
   -- a sub-scope is what is left
   pub is-sub : (stageOf (getD code at 0) ≡ 4 → ⊥) → (s .stage ≡ 1 → ⊥) → (s .stage ≡ 2 → ⊥) → s .stage ≡ 3
   is-sub four one two =
-      let k = is-clean code at u spans heads places weights widths ring r here ok .known in
+      let k = is-clean code at u spans heads places sizes ring r here ok .known in
       left (s .stage) (λ z. k (sym stage-is ∙ z)) one two (λ z. four (sym stage-is ∙ z)) (rw stage-is (stage-below (getD code at 0)))
     where
       left : (n : ℕ) → (n ≡ 0 → ⊥) → (n ≡ 1 → ⊥) → (n ≡ 2 → ⊥) → (n ≡ 4 → ⊥) → n ≤ 4 → n ≡ 3
@@ -101,7 +101,7 @@ module _ (code : List ℕ) (at : ℕ) (u : Progress) (spans heads places weights
     makes-instructing =
         let l = length-take-le (length code - (at + 1)) (drop (at + 1) code) (rw length-drop (omega arith)) in
         let w = next-within in
-        let o = in-order (u .stage) (stageOf (getD code at 0)) (is-clean code at u spans heads places weights widths ring r here ok .ordered)
+        let o = in-order (u .stage) (stageOf (getD code at 0)) (is-clean code at u spans heads places sizes ring r here ok .ordered)
         (rw four (omega arith)) in
         record {
           ringRoom = λ d h. r .sized .ringRoom d (omega arith);

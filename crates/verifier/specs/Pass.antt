@@ -38,11 +38,18 @@ pub record Limited (u : Progress) : Type 0 where
   pub variables : u .variables ≤ 32
   pub subs : u .subs ≤ 8
 
+-- of scope i the weight of its block, and the number of its variables
+unfoldable pub weightAt : List ℕ → ℕ → ℕ
+weightAt sizes i = getD sizes (i * 2) 0
+
+unfoldable pub widthAt : List ℕ → ℕ → ℕ
+widthAt sizes i = getD sizes (i * 2 + 1) 0
+
 -- the numbers of an instruction, by what they name and all bytes after its kind, name something in the present block, as the tables have it
 unfoldable pub namesAt : ℕ → List ℕ → List ℕ → List ℕ → Progress → Bool
-namesAt naming body heads widths u =
+namesAt naming body heads sizes u =
     let a = getD body 0 0 in
-    named naming a (getD body 1 0) (u .variables) (u .subs) (getD widths (getD heads (u .blocks * 48 + 35 + a) 0) 0)
+    named naming a (getD body 1 0) (u .variables) (u .subs) (widthAt sizes (getD heads (u .blocks * 48 + 35 + a) 0))
 
 -- What was read
 
@@ -139,7 +146,7 @@ filled [] = 0
 filled (x ∷ xs) = cond (eqb x 0) 0 1 + filled xs
 
 -- m blocks are closed
-pub record AreClosed (code : List ℕ) (m : ℕ) (spans heads places weights widths : List ℕ) : Type 0 where
+pub record AreClosed (code : List ℕ) (m : ℕ) (spans heads places sizes : List ℕ) : Type 0 where
   pub within : m ≤ length (parse code 0 .blocks)
   pub wellFormed : allWellFormed (earlier code m) ≡ true
   pub entered : (p : ℕ) → p < m → Entered code spans heads p
@@ -148,9 +155,9 @@ pub record AreClosed (code : List ℕ) (m : ℕ) (spans heads places weights wid
   pub used : filled places ≡ m
   pub small : (p : ℕ) → p < m → (length (blockAt code p .variables) ≤ 32) × (length (blockAt code p .subScopes) ≤ 8)
   pub known : (i : ℕ) → hasBlock (earlier code m) i ≡ ltb 0 (getD places i 0)
-  pub weighed : (i : ℕ) → weightIn (earlier code m) i ≡ getD weights i 0
-  pub light : (i : ℕ) → getD weights i 0 ≤ 4096
-  pub wide : (i : ℕ) → length (variablesOf (earlier code m) i) ≡ getD widths i 0
+  pub weighed : (i : ℕ) → weightIn (earlier code m) i ≡ weightAt sizes i
+  pub light : (i : ℕ) → weightAt sizes i ≤ 4096
+  pub wide : (i : ℕ) → length (variablesOf (earlier code m) i) ≡ widthAt sizes i
 
 -- what was read of the present block
 pub record Head (code : List ℕ) (at : ℕ) (u : Progress) : Type 0 where
@@ -193,31 +200,30 @@ pub record Idle (code : List ℕ) (at m : ℕ) (ring : List ℕ) : Type 0 where
 abbrev pub RingRoom : List ℕ → ℕ → Type 0
 RingRoom ring n = (d : ℕ) → d ≤ n → d % 65536 < length ring
 
-pub record Sized (code spans heads places weights widths ring : List ℕ) : Type 0 where
+pub record Sized (code spans heads places sizes ring : List ℕ) : Type 0 where
   pub room : Room spans heads places
-  pub weightRoom : length weights ≡ 32
-  pub widthRoom : length widths ≡ 32
+  pub sizeRoom : length sizes ≡ 64
   pub ringRoom : RingRoom ring (length code)
 
 -- what holds before the record at a position
-pub record Reading (code : List ℕ) (at : ℕ) (u : Progress) (spans heads places weights widths ring : List ℕ) : Type 0 where
-  pub sized : Sized code spans heads places weights widths ring
+pub record Reading (code : List ℕ) (at : ℕ) (u : Progress) (spans heads places sizes ring : List ℕ) : Type 0 where
+  pub sized : Sized code spans heads places sizes ring
   pub limited : Limited u
   pub inside : at ≤ length code
   pub sound : sound (drop at code) 0 (countOf u) ≡ sound code 0 start
-  pub closed : AreClosed code (u .blocks) spans heads places weights widths
+  pub closed : AreClosed code (u .blocks) spans heads places sizes
   pub idle : u .stage ≡ 0 → Idle code at (u .blocks) ring
   pub busy : 1 ≤ u .stage → Busy code at u heads ring
 
 -- The contracts of a record's ways
 
-abbrev pub Stepped : List ℕ → ℕ → List ℕ → List ℕ → List ℕ → List ℕ → List ℕ → List ℕ → Step → Type 0
-Stepped code at spans heads places weights widths ring Refused = accepted code ≡ false
-Stepped code at spans heads places weights widths ring (Next next u) = (at < next) × Reading code next u spans heads places weights widths ring
+abbrev pub Stepped : List ℕ → ℕ → List ℕ → List ℕ → List ℕ → List ℕ → List ℕ → Step → Type 0
+Stepped code at spans heads places sizes ring Refused = accepted code ≡ false
+Stepped code at spans heads places sizes ring (Next next u) = (at < next) × Reading code next u spans heads places sizes ring
 
 -- the record at a position is no instruction
-pub record AtHeading (code : List ℕ) (at : ℕ) (u : Progress) (spans heads places weights widths ring : List ℕ) : Type 0 where
-  pub reading : Reading code at u spans heads places weights widths ring
+pub record AtHeading (code : List ℕ) (at : ℕ) (u : Progress) (spans heads places sizes ring : List ℕ) : Type 0 where
+  pub reading : Reading code at u spans heads places sizes ring
   pub here : at < length code
   pub noInstruction : stageOf (getD code at 0) ≡ 4 → ⊥
 
@@ -237,27 +243,27 @@ pub record Instructing (row : Row) (body : List ℕ) (at next : ℕ) (u : Progre
   pub blocks : u .blocks < 32
 
 abbrev pub Instructed : Row → List ℕ → ℕ → ℕ → Progress → List ℕ → List ℕ → List ℕ → List ℕ → Step → Type 0
-Instructed row body at next u heads widths ring ring' r =
-    (code spans places weights : List ℕ) → AtInstruction code row body at next u → Reading code at u spans heads places weights widths ring
-    → Stepped code at spans heads places weights widths ring' r
+Instructed row body at next u heads sizes ring ring' r =
+    (code spans places : List ℕ) → AtInstruction code row body at next u → Reading code at u spans heads places sizes ring
+    → Stepped code at spans heads places sizes ring' r
 
 -- the present block ends at a position
-pub record Leaving (code : List ℕ) (at : ℕ) (u : Progress) (spans heads places weights widths ring : List ℕ) : Type 0 where
-  pub reading : Reading code at u spans heads places weights widths ring
+pub record Leaving (code : List ℕ) (at : ℕ) (u : Progress) (spans heads places sizes ring : List ℕ) : Type 0 where
+  pub reading : Reading code at u spans heads places sizes ring
   pub ended : ahead code at .opened ≡ emptyBlock
 
-pub record AllClosed (code : List ℕ) (at m : ℕ) (spans heads places weights widths ring : List ℕ) : Type 0 where
-  pub sized : Sized code spans heads places weights widths ring
-  pub closed : AreClosed code m spans heads places weights widths
+pub record AllClosed (code : List ℕ) (at m : ℕ) (spans heads places sizes ring : List ℕ) : Type 0 where
+  pub sized : Sized code spans heads places sizes ring
+  pub closed : AreClosed code m spans heads places sizes
   pub idle : Idle code at m ring
 
-abbrev pub Left : List ℕ → ℕ → List ℕ → List ℕ → List ℕ → List ℕ → List ℕ → List ℕ → Closing → Type 0
-Left code at spans heads places weights widths ring closing.Refused = accepted code ≡ false
-Left code at spans heads places weights widths ring (Closed m) = AllClosed code at m spans heads places weights widths ring
+abbrev pub Left : List ℕ → ℕ → List ℕ → List ℕ → List ℕ → List ℕ → List ℕ → Closing → Type 0
+Left code at spans heads places sizes ring closing.Refused = accepted code ≡ false
+Left code at spans heads places sizes ring (Closed m) = AllClosed code at m spans heads places sizes ring
 
 -- the record at a position begins a block of a scope
-pub record Beginning (code : List ℕ) (at next scope : ℕ) (u : Progress) (spans heads places weights widths ring : List ℕ) : Type 0 where
-  pub reading : Reading code at u spans heads places weights widths ring
+pub record Beginning (code : List ℕ) (at next scope : ℕ) (u : Progress) (spans heads places sizes ring : List ℕ) : Type 0 where
+  pub reading : Reading code at u spans heads places sizes ring
   pub here : at < length code
   pub fine : faultyAt code at u ≡ false
   pub stage : stageOf (getD code at 0) ≡ 1
@@ -279,25 +285,24 @@ abbrev pub VariableNoted : ℕ → ℕ → Progress → List ℕ → List ℕ �
 VariableNoted byte next u heads heads' r = (r ≡ Next next (variableRead u next)) × (heads' ≡ set heads (u .blocks * 48 + 3 + u .variables) byte)
 
 -- there is room for one more sub-scope
-pub record SubRoom (scope : ℕ) (u : Progress) (heads weights : List ℕ) : Type 0 where
+pub record SubRoom (scope : ℕ) (u : Progress) (heads sizes : List ℕ) : Type 0 where
   pub headRoom : length heads ≡ 1536
   pub blocks : u .blocks < 32
   pub subs : u .subs < 8
-  pub weight : u .weight + getD weights scope 0 ≤ 40000
+  pub weight : u .weight + weightAt sizes scope ≤ 40000
 
 -- one more sub-scope, unless its scope has no block yet
-pub record SubRead (scope next : ℕ) (u : Progress) (heads places weights heads' : List ℕ) (r : Step) : Type 0 where
+pub record SubRead (scope next : ℕ) (u : Progress) (heads places sizes heads' : List ℕ) (r : Step) : Type 0 where
   pub missing : getD places scope 0 ≡ 0 → r ≡ Refused
-  pub read : (getD places scope 0 ≡ 0 → ⊥) → (r ≡ Next next (subScopeRead u (getD weights scope 0) next)) ×
+  pub read : (getD places scope 0 ≡ 0 → ⊥) → (r ≡ Next next (subScopeRead u (weightAt sizes scope) next)) ×
       (heads' ≡ set heads (u .blocks * 48 + 35 + u .subs) scope)
 
 -- tables that are still empty
-pub record Empty (code spans heads places weights widths ring : List ℕ) : Type 0 where
+pub record Empty (code spans heads places sizes ring : List ℕ) : Type 0 where
   pub spanRoom : length spans ≡ 64
   pub headRoom : length heads ≡ 1536
   pub noPlaces : places ≡ replicate 32 0
-  pub noWeights : weights ≡ replicate 32 0
-  pub noWidths : widths ≡ replicate 32 0
+  pub noSizes : sizes ≡ replicate 64 0
   pub noMarks : (i : ℕ) → getD ring i 0 ≡ 0
   pub ringRoom : RingRoom ring (length code)
 

@@ -1,7 +1,7 @@
 // Judging code in one pass over its bytes: whether it is accepted, and the tables by which the blocks of accepted code are found.
-//   weights, widths   of each of 32 scopes: the weight of its block and the number of its variables, 0 where it has no block
-//   ring              the landings of distances that lie ahead: a mark for each position, by its remainder modulo 65,536; short code has no more
-//                     positions than a ring of 8,192 marks
+//   sizes   of each of 32 scopes the weight of its block, then the number of its variables; 0 where it has no block
+//   ring    the landings of distances that lie ahead: a mark for each position, by its remainder modulo 65,536; short code has no more
+//           positions than a ring of 8,192 marks
 use record::byte_at;
 use scan::is_invalid;
 use scan::may_follow;
@@ -233,17 +233,18 @@ fn farther(reach: usize, passed: usize, d: usize) -> usize
     d
 }
 
-// Whether the numbers of an instruction name something in its block; `widths` has the variables of each sub-scope's scope.
-fn names_hold(naming: usize, body: &[u8], u: Progress, heads: &[u8], widths: &[usize]) -> bool
+// Whether the numbers of an instruction name something in its block; `sizes` has the variables of each sub-scope's scope.
+fn names_hold(naming: usize, body: &[u8], u: Progress, heads: &[u8], sizes: &[usize]) -> bool
     requires { ⌜ u .blocks < 32 ⌝ }
-    ensures { λ r. ⌜ r ≡ namesAt naming (now (body .entry)) (now (heads .entry)) (now (widths .entry)) u ⌝ }
+    ensures { λ r. ⌜ r ≡ namesAt naming (now (body .entry)) (now (heads .entry)) (now (sizes .entry)) u ⌝ }
 {
     if naming == 0 {
         return true;
     }
     let a = wide(byte_at(body, 0));
     let b = wide(byte_at(body, 1));
-    let called = entry_at(widths, wide(byte_at(heads, u.blocks * 48 + 35 + a)));
+    let scope = wide(byte_at(heads, u.blocks * 48 + 35 + a));
+    let called = entry_at(sizes, scope * 2 + 1);
     names_something(naming, a, b, u.variables, u.subs, called)
 }
 
@@ -255,14 +256,14 @@ fn instruction(
     next: usize,
     u: Progress,
     heads: &[u8],
-    widths: &[usize],
+    sizes: &[usize],
     ring: &mut [u8],
 ) -> Step
     requires { ⌜ Instructing row (now body) at next u (now ring) ⌝ }
     ensures { λ r.
-        ⌜ Instructed row (now (body .entry)) at next u (now (heads .entry)) (now (widths .entry)) (now (ring .entry)) (now (ring .exit)) r ⌝ }
+        ⌜ Instructed row (now (body .entry)) at next u (now (heads .entry)) (now (sizes .entry)) (now (ring .entry)) (now (ring .exit)) r ⌝ }
 {
-    if !names_hold(row.naming, body, u, heads, widths) {
+    if !names_hold(row.naming, body, u, heads, sizes) {
         return Step::Refused;
     }
     if !unmarked(ring, at + 1, next) {
@@ -288,14 +289,13 @@ fn leave(
     spans: &mut [usize],
     heads: &mut [u8],
     places: &mut [u8],
-    weights: &mut [usize],
-    widths: &mut [usize],
+    sizes: &mut [usize],
     ring: &mut [u8],
 ) -> Closing
-    requires { ⌜ Leaving (now code) at u (now spans) (now heads) (now places) (now weights) (now widths) (now ring) ⌝ }
+    requires { ⌜ Leaving (now code) at u (now spans) (now heads) (now places) (now sizes) (now ring) ⌝ }
     ensures { λ r.
         ⌜ Left (now (code .entry)) at (now (spans .exit)) (now (heads .exit)) (now (places .exit))
-        (now (weights .exit)) (now (widths .exit)) (now (ring .exit)) r ⌝ }
+        (now (sizes .exit)) (now (ring .exit)) r ⌝ }
 {
     let m = u.blocks;
     if u.stage == 0 {
@@ -314,8 +314,8 @@ fn leave(
     heads[m * 48 + 2] = u.subs as u8;
     let scope = u.scope;
     places[scope] = (m + 1) as u8;
-    weights[scope] = u.weight;
-    widths[scope] = u.variables;
+    sizes[scope * 2] = u.weight;
+    sizes[scope * 2 + 1] = u.variables;
     ring[at % 65536] = 0;
     Closing::Closed(m + 1)
 }
@@ -356,16 +356,15 @@ fn begin_block(
     spans: &mut [usize],
     heads: &mut [u8],
     places: &mut [u8],
-    weights: &mut [usize],
-    widths: &mut [usize],
+    sizes: &mut [usize],
     ring: &mut [u8],
 ) -> Step
-    requires { ⌜ Beginning (now code) at next scope u (now spans) (now heads) (now places) (now weights) (now widths) (now ring) ⌝ }
+    requires { ⌜ Beginning (now code) at next scope u (now spans) (now heads) (now places) (now sizes) (now ring) ⌝ }
     ensures { λ r.
         ⌜ Stepped (now (code .entry)) at (now (spans .exit)) (now (heads .exit)) (now (places .exit))
-        (now (weights .exit)) (now (widths .exit)) (now (ring .exit)) r ⌝ }
+        (now (sizes .exit)) (now (ring .exit)) r ⌝ }
 {
-    match leave(code, at, u, spans, heads, places, weights, widths, ring) {
+    match leave(code, at, u, spans, heads, places, sizes, ring) {
         Closing::Refused => Step::Refused,
         Closing::Closed(m) => open_block(scope, next, m, places),
     }
@@ -392,10 +391,10 @@ fn sub_scope(
     u: Progress,
     heads: &mut [u8],
     places: &[u8],
-    weights: &[usize],
+    sizes: &[usize],
 ) -> Step
-    requires { ⌜ SubRoom scope u (now heads) (now weights) ⌝ }
-    ensures { λ r. ⌜ SubRead scope next u (now (heads .entry)) (now (places .entry)) (now (weights .entry)) (now (heads .exit)) r ⌝ }
+    requires { ⌜ SubRoom scope u (now heads) (now sizes) ⌝ }
+    ensures { λ r. ⌜ SubRead scope next u (now (heads .entry)) (now (places .entry)) (now (sizes .entry)) (now (heads .exit)) r ⌝ }
 {
     let i = wide(scope);
     if byte_at(places, i) == 0 {
@@ -408,7 +407,7 @@ fn sub_scope(
     v.stage = 3;
     v.subs = k + 1;
     v.begin = next;
-    v.weight = u.weight + entry_at(weights, i);
+    v.weight = u.weight + entry_at(sizes, i * 2);
     Step::Next(next, v)
 }
 
@@ -420,14 +419,13 @@ fn heading_at(
     spans: &mut [usize],
     heads: &mut [u8],
     places: &mut [u8],
-    weights: &mut [usize],
-    widths: &mut [usize],
+    sizes: &mut [usize],
     ring: &mut [u8],
 ) -> Step
-    requires { ⌜ AtHeading (now code) at u (now spans) (now heads) (now places) (now weights) (now widths) (now ring) ⌝ }
+    requires { ⌜ AtHeading (now code) at u (now spans) (now heads) (now places) (now sizes) (now ring) ⌝ }
     ensures { λ r.
         ⌜ Stepped (now (code .entry)) at (now (spans .exit)) (now (heads .exit)) (now (places .exit))
-        (now (weights .exit)) (now (widths .exit)) (now (ring .exit)) r ⌝ }
+        (now (sizes .exit)) (now (ring .exit)) r ⌝ }
 {
     let kind = code[at];
     let row = row_of(kind);
@@ -437,24 +435,12 @@ fn heading_at(
     let next = at + 1 + row.length;
     let first = byte_at(code, at + 1);
     if row.stage == 1 {
-        return begin_block(
-            code,
-            at,
-            next,
-            first,
-            u,
-            spans,
-            heads,
-            places,
-            weights,
-            widths,
-            ring,
-        );
+        return begin_block(code, at, next, first, u, spans, heads, places, sizes, ring);
     }
     if row.stage == 2 {
         return variable(first, next, u, heads);
     }
-    sub_scope(first, next, u, heads, places, weights)
+    sub_scope(first, next, u, heads, places, sizes)
 }
 
 // The record at a position, after what was read.
@@ -465,19 +451,18 @@ fn step_at(
     spans: &mut [usize],
     heads: &mut [u8],
     places: &mut [u8],
-    weights: &mut [usize],
-    widths: &mut [usize],
+    sizes: &mut [usize],
     ring: &mut [u8],
 ) -> Step
-    requires { ⌜ (at < length (now code)) × Reading (now code) at u (now spans) (now heads) (now places) (now weights) (now widths) (now ring) ⌝ }
+    requires { ⌜ (at < length (now code)) × Reading (now code) at u (now spans) (now heads) (now places) (now sizes) (now ring) ⌝ }
     ensures { λ r.
         ⌜ Stepped (now (code .entry)) at (now (spans .exit)) (now (heads .exit)) (now (places .exit))
-        (now (weights .exit)) (now (widths .exit)) (now (ring .exit)) r ⌝ }
+        (now (sizes .exit)) (now (ring .exit)) r ⌝ }
 {
     let kind = code[at];
     let row = row_of(kind);
     if row.stage != 4 {
-        return heading_at(code, at, u, spans, heads, places, weights, widths, ring);
+        return heading_at(code, at, u, spans, heads, places, sizes, ring);
     }
     if is_faulty(code, at, kind, row, u) {
         return Step::Refused;
@@ -490,7 +475,7 @@ fn step_at(
         start + row.length,
         u,
         heads,
-        widths,
+        sizes,
         ring,
     )
 }
@@ -501,17 +486,16 @@ fn judge_code(
     spans: &mut [usize],
     heads: &mut [u8],
     places: &mut [u8],
-    weights: &mut [usize],
-    widths: &mut [usize],
+    sizes: &mut [usize],
     ring: &mut [u8],
 ) -> Verdict
-    requires { ⌜ Empty (now code) (now spans) (now heads) (now places) (now weights) (now widths) (now ring) ⌝ }
+    requires { ⌜ Empty (now code) (now spans) (now heads) (now places) (now sizes) (now ring) ⌝ }
     ensures { λ r. ⌜ Judged (now (code .entry)) (now (spans .exit)) (now (heads .exit)) (now (places .exit)) r ⌝ }
 {
     let mut u = nothing_read();
     let mut at: usize = 0;
     while at < code.len() {
-        match step_at(code, at, u, spans, heads, places, weights, widths, ring) {
+        match step_at(code, at, u, spans, heads, places, sizes, ring) {
             Step::Refused => {
                 return Verdict::Refused;
             }
@@ -521,7 +505,7 @@ fn judge_code(
             }
         }
     }
-    match leave(code, at, u, spans, heads, places, weights, widths, ring) {
+    match leave(code, at, u, spans, heads, places, sizes, ring) {
         Closing::Refused => Verdict::Refused,
         Closing::Closed(m) => Verdict::Accepted(m),
     }
@@ -532,30 +516,13 @@ pub fn verify(code: &[u8], spans: &mut [usize], heads: &mut [u8], places: &mut [
     requires { ⌜ Room (now spans) (now heads) (now places) × (now places ≡ replicate 32 0) ⌝ }
     ensures { λ r. ⌜ Judged (now (code .entry)) (now (spans .exit)) (now (heads .exit)) (now (places .exit)) r ⌝ }
 {
-    let mut weights = [0usize; 32];
-    let mut widths = [0usize; 32];
+    let mut sizes = [0usize; 64];
     if code.len() < 8192 {
         let mut small = [0u8; 8192];
-        return judge_code(
-            code,
-            spans,
-            heads,
-            places,
-            &mut weights,
-            &mut widths,
-            &mut small,
-        );
+        return judge_code(code, spans, heads, places, &mut sizes, &mut small);
     }
     let mut ring = [0u8; 65536];
-    judge_code(
-        code,
-        spans,
-        heads,
-        places,
-        &mut weights,
-        &mut widths,
-        &mut ring,
-    )
+    judge_code(code, spans, heads, places, &mut sizes, &mut ring)
 }
 
 // Whether code is accepted.

@@ -1,6 +1,6 @@
 -- `verifier::names_hold` meets its contract.
 -- Assumes nothing.
-use Rattle.verifier.specs.Pass.{namesAt}
+use Rattle.verifier.specs.Pass.{widthAt, namesAt}
 use Rattle.verifier.proofs.Fitting.{no-names}
 use mathlib.Core.Path.{_∙_}
 use borrow.Author.Needs.{needs}
@@ -37,6 +37,12 @@ byte-at-requires-3 c κs = search needs
 wide-requires-3 : tie.Need-wide-requires-3
 wide-requires-3 c κs = search needs
 
+mul-entry-at : tie.Need-mul-entry-at
+mul-entry-at c = search needs
+
+add-entry-at : tie.Need-add-entry-at
+add-entry-at c = search needs
+
 entry-at-requires : tie.Need-entry-at-requires
 entry-at-requires c κs = search needs
 
@@ -44,7 +50,7 @@ names-something-requires : tie.Need-names-something-requires
 names-something-requires c κs = search needs
 
 returns-2 : tie.Need-returns-2
-unfolding namesAt
+unfolding namesAt widthAt
 returns-2 c = c .names-something .ensures ∙ rw (c .before .entry-at .ensures, c .before .before .wide3 .ensures, c .before .before .before .byte-at3 .ensures, c .before .before .before .before .before .wide2 .ensures, c .before .before .before .before .before .before .byte-at2 .ensures, c .before .before .before .before .before .before .before .wide .ensures, c .before .before .before .before .before .before .before .before .byte-at .ensures)
 
 pub names-hold-spec : {M : Type 1} → statement M
@@ -61,6 +67,8 @@ names-hold-spec =
     add-byte-at-2
     byte-at-requires-3
     wide-requires-3
+    mul-entry-at
+    add-entry-at
     entry-at-requires
     names-something-requires
     returns-2)

@@ -15,7 +15,7 @@ row-of-requires : tie.Need-row-of-requires
 row-of-requires c κs = search needs
 
 heading-at-requires : tie.Need-heading-at-requires
-heading-at-requires c κs = makes-heading _ _ _ _ _ _ _ _ _ (c .before .before .before .before .before .before .before .before .before .before .before .before .before .before .before .before .before .pre .1) (c .before .before .before .before .before .before .before .before .before .before .before .before .before .before .before .before .before .pre .0) _ (c .before .before .before .before .before .before .before .before .row-of .ensures) (c .before .before .before .before .before .before .if1 .taken)
+heading-at-requires c κs = makes-heading _ _ _ _ _ _ _ _ (c .before .before .before .before .before .before .before .before .before .before .before .before .before .before .before .pre .1) (c .before .before .before .before .before .before .before .before .before .before .before .before .before .before .before .pre .0) _ (c .before .before .before .before .before .before .before .row-of .ensures) (c .before .before .before .before .before .if1 .taken)
 
 same-length : tie.Need-same-length
 same-length c = search needs
@@ -32,9 +32,6 @@ same-length-4 c = search needs
 same-length-5 : tie.Need-same-length-5
 same-length-5 c = search needs
 
-same-length-6 : tie.Need-same-length-6
-same-length-6 c = search needs
-
 returns : tie.Need-returns
 returns c = search needs
 
@@ -42,7 +39,7 @@ is-faulty-requires : tie.Need-is-faulty-requires
 is-faulty-requires c κs = search needs
 
 returns-2 : tie.Need-returns-2
-returns-2 c = faulty-refused _ _ _ (c .before .before .before .before .before .before .before .before .before .before .before .before .before .pre .0) (c .before .before .before .before .before .before .before .before .before .before .before .before .before .pre .1 .sound) (sym (c .before .is-faulty .ensures) ∙ c .if2 .taken)
+returns-2 c = faulty-refused _ _ _ (c .before .before .before .before .before .before .before .before .before .before .before .before .pre .0) (c .before .before .before .before .before .before .before .before .before .before .before .before .pre .1 .sound) (sym (c .before .is-faulty .ensures) ∙ c .if2 .taken)
 
 add-start : tie.Need-add-start
 add-start c = search needs
@@ -57,10 +54,13 @@ part-instruction-end : tie.Need-part-instruction-end
 part-instruction-end c = search needs
 
 add-instruction : tie.Need-add-instruction
-add-instruction c = let h = next-within _ _ _ _ _ _ _ _ _ (c .before .before .before .before .before .before .before .before .before .before .before .before .before .before .before .pre .1) (c .before .before .before .before .before .before .before .before .before .before .before .before .before .before .before .pre .0) _ (c .before .before .before .is-faulty .ensures) (c .before .before .if2 .left) _ (c .before .before .before .before .before .before .row-of .ensures) in omega arith
+add-instruction c = let h = next-within _ _ _ _ _ _ _ _ (c .before .before .before .before .before .before .before .before .before .before .before .before .before .before .pre .1) (c .before .before .before .before .before .before .before .before .before .before .before .before .before .before .pre .0) _ (c .before .before .before .is-faulty .ensures) (c .before .before .if2 .left) _ (c .before .before .before .before .before .before .row-of .ensures) in omega arith
 
 instruction-requires : tie.Need-instruction-requires
-instruction-requires c κs = makes-instructing _ _ _ _ _ _ _ _ _ (c .before .before .before .before .before .before .before .before .before .before .before .before .before .before .before .before .before .before .pre .1) (c .before .before .before .before .before .before .before .before .before .before .before .before .before .before .before .before .before .before .pre .0) _ (c .before .before .before .before .before .before .is-faulty .ensures) (c .before .before .before .before .before .if2 .left) _ (c .before .before .before .before .before .before .before .before .before .row-of .ensures) (c .before .before .before .before .before .before .before .if1 .left)
+instruction-requires c κs = makes-instructing _ _ _ _ _ _ _ _ (c .before .before .before .before .before .before .before .before .before .before .before .before .before .before .before .before .before .pre .1) (c .before .before .before .before .before .before .before .before .before .before .before .before .before .before .before .before .before .pre .0) _ (c .before .before .before .before .before .before .is-faulty .ensures) (c .before .before .before .before .before .if2 .left) _ (c .before .before .before .before .before .before .before .before .before .row-of .ensures) (c .before .before .before .before .before .before .before .if1 .left)
+
+same-length-6 : tie.Need-same-length-6
+same-length-6 c = search needs
 
 same-length-7 : tie.Need-same-length-7
 same-length-7 c = search needs
@@ -68,11 +68,8 @@ same-length-7 c = search needs
 same-length-8 : tie.Need-same-length-8
 same-length-8 c = search needs
 
-same-length-9 : tie.Need-same-length-9
-same-length-9 c = search needs
-
 returns-3 : tie.Need-returns-3
-returns-3 c = c .before .before .instruction .ensures _ _ _ _ (at-instruction _ _ _ _ _ _ _ _ _ (c .before .before .before .before .before .before .before .before .before .before .before .before .before .before .before .before .before .before .before .before .before .pre .1) (c .before .before .before .before .before .before .before .before .before .before .before .before .before .before .before .before .before .before .before .before .before .pre .0) _ (c .before .before .before .before .before .before .before .before .before .is-faulty .ensures) (c .before .before .before .before .before .before .before .before .if2 .left) _ (c .before .before .before .before .before .before .before .before .before .before .before .before .row-of .ensures) (c .before .before .before .before .before .before .before .before .before .before .if1 .left)) (c .before .before .before .before .before .before .before .before .before .before .before .before .before .before .before .before .before .before .before .before .before .pre .1)
+returns-3 c = c .before .before .instruction .ensures _ _ _ (at-instruction _ _ _ _ _ _ _ _ (c .before .before .before .before .before .before .before .before .before .before .before .before .before .before .before .before .before .before .before .before .pre .1) (c .before .before .before .before .before .before .before .before .before .before .before .before .before .before .before .before .before .before .before .before .pre .0) _ (c .before .before .before .before .before .before .before .before .before .is-faulty .ensures) (c .before .before .before .before .before .before .before .before .if2 .left) _ (c .before .before .before .before .before .before .before .before .before .before .before .before .row-of .ensures) (c .before .before .before .before .before .before .before .before .before .before .if1 .left)) (c .before .before .before .before .before .before .before .before .before .before .before .before .before .before .before .before .before .before .before .before .pre .1)
 
 pub step-at-spec : {M : Type 1} → statement M
 step-at-spec =
@@ -86,7 +83,6 @@ step-at-spec =
     same-length-3
     same-length-4
     same-length-5
-    same-length-6
     returns
     is-faulty-requires
     returns-2
@@ -96,7 +92,7 @@ step-at-spec =
     part-instruction-end
     add-instruction
     instruction-requires
+    same-length-6
     same-length-7
     same-length-8
-    same-length-9
     returns-3)

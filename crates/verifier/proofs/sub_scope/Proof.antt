@@ -30,6 +30,9 @@ slice-write-heads c = search needs
 add-v : tie.Need-add-v
 add-v c = search needs
 
+mul-entry-at : tie.Need-mul-entry-at
+mul-entry-at c = search needs
+
 entry-at-requires : tie.Need-entry-at-requires
 entry-at-requires c κs = search needs
 
@@ -54,6 +57,7 @@ sub-scope-spec =
     add-heads-2
     slice-write-heads
     add-v
+    mul-entry-at
     entry-at-requires
     add-v-2
     same-length

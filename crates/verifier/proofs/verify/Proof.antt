@@ -12,11 +12,8 @@ slice-aggregate-judge-code c = search needs
 slice-aggregate-judge-code-2 : tie.Need-slice-aggregate-judge-code-2
 slice-aggregate-judge-code-2 c = search needs
 
-slice-aggregate-judge-code-3 : tie.Need-slice-aggregate-judge-code-3
-slice-aggregate-judge-code-3 c = search needs
-
 judge-code-requires : tie.Need-judge-code-requires
-judge-code-requires c κs = let l = c .before .before .before .before .before .before .if1 .taken in makes-empty _ _ _ _ 8192 (c .before .before .before .before .before .before .before .before .before .before .before .pre) (λ d h. omega arith)
+judge-code-requires c κs = let l = c .before .before .before .before .before .if1 .taken in makes-empty _ _ _ _ 8192 (c .before .before .before .before .before .before .before .before .before .before .pre) (λ d h. omega arith)
 
 same-length : tie.Need-same-length
 same-length c = search needs
@@ -30,17 +27,14 @@ same-length-3 c = search needs
 returns : tie.Need-returns
 returns c = search needs
 
+slice-aggregate-judge-code-3 : tie.Need-slice-aggregate-judge-code-3
+slice-aggregate-judge-code-3 c = search needs
+
 slice-aggregate-judge-code-4 : tie.Need-slice-aggregate-judge-code-4
 slice-aggregate-judge-code-4 c = search needs
 
-slice-aggregate-judge-code-5 : tie.Need-slice-aggregate-judge-code-5
-slice-aggregate-judge-code-5 c = search needs
-
-slice-aggregate-judge-code-6 : tie.Need-slice-aggregate-judge-code-6
-slice-aggregate-judge-code-6 c = search needs
-
 judge-code-requires-2 : tie.Need-judge-code-requires-2
-judge-code-requires-2 c κs = makes-empty _ _ _ _ 65536 (c .before .before .before .before .before .before .before .before .before .before .before .pre) (λ d h. omega arith)
+judge-code-requires-2 c κs = makes-empty _ _ _ _ 65536 (c .before .before .before .before .before .before .before .before .before .before .pre) (λ d h. omega arith)
 
 same-length-4 : tie.Need-same-length-4
 same-length-4 c = search needs
@@ -60,15 +54,13 @@ verify-spec =
     (tie.spec
     slice-aggregate-judge-code
     slice-aggregate-judge-code-2
-    slice-aggregate-judge-code-3
     judge-code-requires
     same-length
     same-length-2
     same-length-3
     returns
+    slice-aggregate-judge-code-3
     slice-aggregate-judge-code-4
-    slice-aggregate-judge-code-5
-    slice-aggregate-judge-code-6
     judge-code-requires-2
     same-length-4
     same-length-5
