@@ -1,7 +1,7 @@
 -- The start of the pass, the beginning of a block, and the end of the pass.
 --     scope-refused, repeat-refused, open-turn, open-stepped    a block begins
 --     begin-leaves, begin-stepped, left-refused, left-closed    the same, as the code takes it
---     start-reading, empty-start                                the start
+--     makes-empty, start-reading, empty-start                   the start
 --     stepped-refused, stepped-next                             the loop
 --     end-leaves, end-judged, judged-refused, judged-accepted   the end
 -- Assumes nothing.

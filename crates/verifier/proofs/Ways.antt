@@ -1,12 +1,16 @@
 -- The ways of a record, as the code takes them.
+--     makes-heading, next-within                            no instruction; the record's end
+--     makes-beginning, makes-variable-room, makes-sub-room  what the functions of the kinds 1 to 3 ask
+--     variable-stepped, is-sub, sub-stepped                 what they give
+--     makes-instructing, at-instruction                     an instruction
 -- Assumes nothing.
-use Prim.Native.Nat.{ℕ, _+_, _-_, _*_, _<_, _≤_}
+use Prim.Native.Nat.{ℕ, _+_, _-_, _<_, _≤_}
 use mathlib.Core.Path.{_≡_, refl, sym, ap, _∙_}
 use mathlib.Core.Bool.{Bool, true, false}
 use mathlib.Core.List.{List}
 use mathlib.Core.Logic.{⊎-elim}
 use native.Mathlib.Omega.{arith}
-use lib.ListN.{length, getD, take, drop, set, length-drop}
+use lib.ListN.{length, getD, take, drop, length-drop}
 use lib.Seq.{getD-drop, take-all, length-take-le}
 use lib.Dec.{eqb}
 use borrow.Author.Tests.{eqb-true, eqb-false}
@@ -21,7 +25,6 @@ use Rattle.verifier.proofs.Reading.{stage-below}
 use Rattle.verifier.proofs.Turns.{nextAt, is-clean, next-inside}
 use Rattle.verifier.proofs.Heads.{variable-room, variable-turn, sub-room, sub-refused, sub-turn}
 use Rattle.verifier.specs.declared.Step.{Step}
-use Rattle.verifier.specs.declared.Step.the-variants.{Next}
 
 pub makes-heading : (code : List ℕ) (at : ℕ) (u : Progress) (spans heads places sizes ring : List ℕ)
     → Reading code at u spans heads places sizes ring → at < length code → (s : Row) → s ≡ rowOf (getD code at 0) → (s .stage ≡ 4 → ⊥)

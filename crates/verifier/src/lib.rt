@@ -248,7 +248,8 @@ fn names_hold(naming: usize, body: &[u8], u: Progress, heads: &[u8], sizes: &[us
     names_something(naming, a, b, u.variables, u.subs, called)
 }
 
-// An instruction at a position, by its row and all bytes after its kind, up to the next record. One without a distance lands at its own end.
+// An instruction at a position, by its row and all bytes after its kind, up to the next record. One without a distance lands at its own end;
+// one that lands past the code's end, where the ring need not have a mark, is refused.
 fn instruction(
     row: Row,
     body: &[u8],
