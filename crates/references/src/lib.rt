@@ -16,10 +16,10 @@ ghost use lib.ListN.{length};
 ghost use lib.Dec.{ltb};
 ghost use Rattle.book.specs.Syntax.{sameTarget};
 ghost use Rattle.book.specs.Decode.{scopesOf};
-ghost use Rattle.book.specs.References.{scopeAt, namesCalled, namesException, nodeNames, namesTarget, namesParent, namesCondition, namesConsequence, clauseNames};
+ghost use Rattle.book.specs.References.{scopeAt, namesCalled, namesException, nodeNames, namesTarget, clauseNames};
 ghost use Rattle.book.specs.Sharing.{unless255, operands, clauseNodes};
 ghost use Rattle.book.specs.Tables.{Laid};
-ghost use Rattle.references.specs.Dangling.{bothBelow, defaultNames, subScopeDangles, clauseDangles};
+ghost use Rattle.references.specs.Dangling.{bothBelow, defaultNames, parentNames, consequenceNames, subScopeDangles, clauseDangles};
 ghost use Rattle.references.specs.Marks.{Marking, clauseNamings};
 ghost use Rattle.references.specs.Named.{NodesNamed, NamedIn, Named};
 
@@ -40,7 +40,7 @@ fn below(n: usize, a: u8) -> bool
 fn both_below(n: usize, a: u8, b: u8) -> bool
     ensures { λ r. ⌜ r ≡ bothBelow n a b ⌝ }
 {
-    if below(n, a) { below(n, b) } else { false }
+    below(n, a) & below(n, b)
 }
 
 // Whether scope i has sub-scope k, and the scope that it names has variable v.
@@ -56,8 +56,8 @@ fn names_called(book: &[u8], places: &[u16], counts: &[u8], i: usize, k: u8, v: 
     }
 }
 
-// Whether an exception of node n is none, or a node of lower number.
-fn names_exception(n: usize, e: u8) -> bool
+// Whether a number is none or always, 255, or below n.
+fn none_or_below(n: usize, e: u8) -> bool
     ensures { λ r. ⌜ r ≡ namesException n e ⌝ }
 {
     if e == 255 { true } else { below(n, e) }
@@ -67,16 +67,7 @@ fn names_exception(n: usize, e: u8) -> bool
 fn default_names(n: usize, x: u8, y: u8, z: u8, j: u8, c: u8) -> bool
     ensures { λ r. ⌜ r ≡ defaultNames n x y z j c ⌝ }
 {
-    if !names_exception(n, x) {
-        return false;
-    }
-    if !names_exception(n, y) {
-        return false;
-    }
-    if !names_exception(n, z) {
-        return false;
-    }
-    both_below(n, j, c)
+    none_or_below(n, x) & (none_or_below(n, y) & (none_or_below(n, z) & both_below(n, j, c)))
 }
 
 // Whether node n of scope i names only what it may.
@@ -93,13 +84,7 @@ fn node_names(book: &[u8], places: &[u16], counts: &[u8], i: usize, n: usize, no
         Node::Conflict(_) => true,
         Node::Unary(_, a) => below(n, a),
         Node::Binary(_, a, b) => both_below(n, a, b),
-        Node::Choice(c, a, b) => {
-            if below(n, c) {
-                both_below(n, a, b)
-            } else {
-                false
-            }
-        }
+        Node::Choice(c, a, b) => below(n, c) & both_below(n, a, b),
         Node::Default(x, y, z, j, c) => default_names(n, x, y, z, j, c),
     }
 }
@@ -108,11 +93,7 @@ fn node_names(book: &[u8], places: &[u16], counts: &[u8], i: usize, n: usize, no
 fn same_target(a: Target, b: Target) -> bool
     ensures { λ r. ⌜ r ≡ sameTarget a b ⌝ }
 {
-    if a.sub == b.sub {
-        a.variable == b.variable
-    } else {
-        false
-    }
+    (a.sub == b.sub) & (a.variable == b.variable)
 }
 
 // Whether a target is a variable of scope i or of one of its sub-scopes.
@@ -129,57 +110,33 @@ fn names_target(book: &[u8], places: &[u16], counts: &[u8], i: usize, target: Ta
     }
 }
 
-// Whether clause n of scope i has no parent, or one of lower number with the same target.
+// Whether clause n of scope i, of a target, has no parent, or parent p of lower number with the same target.
 fn names_parent(
     book: &[u8],
     places: &[u16],
     counts: &[u8],
     i: usize,
     n: usize,
-    clause: Clause,
+    p: u8,
+    target: Target,
 ) -> bool
     requires { ⌜ Laid (now book) (now places) (now counts) ⌝ }
-    ensures { λ r. ⌜ r ≡ namesParent (scopeAt (scopesOf (now (book .entry))) i) n clause ⌝ }
+    ensures { λ r. ⌜ r ≡ parentNames (scopesOf (now (book .entry))) i n p target ⌝ }
 {
-    let p = clause.parent;
     if p == 255 {
         return true;
     }
-    if below(n, p) {
-        let parent = clause_at(book, places, counts, i, p as usize);
-        let a = parent.target;
-        let b = clause.target;
-        same_target(a, b)
-    } else {
-        false
-    }
+    let parent = clause_at(book, places, counts, i, p as usize);
+    let other = parent.target;
+    below(n, p) & same_target(other, target)
 }
 
-// Whether a condition in scope i is always, or a node.
-fn names_condition(book: &[u8], places: &[u16], counts: &[u8], i: usize, n: u8) -> bool
-    requires { ⌜ Laid (now book) (now places) (now counts) ⌝ }
-    ensures { λ r. ⌜ r ≡ namesCondition (scopeAt (scopesOf (now (book .entry))) i) n ⌝ }
-{
-    if n == 255 {
-        true
-    } else {
-        below(node_count(book, places, counts, i), n)
-    }
-}
-
-// Whether the consequence of a clause of scope i is a node, or a rule's.
-fn names_consequence(
-    book: &[u8],
-    places: &[u16],
-    counts: &[u8],
-    i: usize,
-    consequence: Consequence,
-) -> bool
-    requires { ⌜ Laid (now book) (now places) (now counts) ⌝ }
-    ensures { λ r. ⌜ r ≡ namesConsequence (scopeAt (scopesOf (now (book .entry))) i) consequence ⌝ }
+// Whether a consequence is one of so many nodes, or a rule's.
+fn names_consequence(nodes: usize, consequence: Consequence) -> bool
+    ensures { λ r. ⌜ r ≡ consequenceNames nodes consequence ⌝ }
 {
     match consequence {
-        Consequence::Of(n) => below(node_count(book, places, counts, i), n),
+        Consequence::Of(n) => below(nodes, n),
         Consequence::Fixed(_) => true,
     }
 }
@@ -197,18 +154,13 @@ fn clause_names(
     ensures { λ r. ⌜ r ≡ clauseNames (scopesOf (now (book .entry))) (scopeAt (scopesOf (now (book .entry))) i) n clause ⌝ }
 {
     let target = clause.target;
-    if !names_target(book, places, counts, i, target) {
-        return false;
-    }
-    if !names_parent(book, places, counts, i, n, clause) {
-        return false;
-    }
+    let p = clause.parent;
     let condition = clause.condition;
-    if !names_condition(book, places, counts, i, condition) {
-        return false;
-    }
     let consequence = clause.consequence;
-    names_consequence(book, places, counts, i, consequence)
+    let nodes = node_count(book, places, counts, i);
+    let within = none_or_below(nodes, condition) & names_consequence(nodes, consequence);
+    names_target(book, places, counts, i, target)
+        & (names_parent(book, places, counts, i, n, p, target) & within)
 }
 
 // Whether some sub-scope of scope i names no scope.
@@ -269,6 +221,24 @@ fn mark_unless(marks: &mut [u8], twice: bool, w: u8) -> bool
     }
 }
 
+// Marks two numbers.
+fn mark_two(marks: &mut [u8], twice: bool, a: u8, b: u8) -> bool
+    ensures { λ r. ⌜ Marking (a ∷ b ∷ []) (now (marks .entry)) twice r (now (marks .exit)) ⌝ }
+{
+    let first = mark(marks, twice, a);
+    mark(marks, first, b)
+}
+
+// Marks the nodes that a default names.
+fn mark_default(marks: &mut [u8], twice: bool, x: u8, y: u8, z: u8, j: u8, c: u8) -> bool
+    ensures { λ r. ⌜ Marking (operands (Node.Default x y z j c)) (now (marks .entry)) twice r (now (marks .exit)) ⌝ }
+{
+    let first = mark_unless(marks, twice, x);
+    let second = mark_unless(marks, first, y);
+    let third = mark_unless(marks, second, z);
+    mark_two(marks, third, j, c)
+}
+
 // Marks the nodes that a node names.
 fn mark_operands(marks: &mut [u8], twice: bool, node: Node) -> bool
     ensures { λ r. ⌜ Marking (operands node) (now (marks .entry)) twice r (now (marks .exit)) ⌝ }
@@ -281,22 +251,12 @@ fn mark_operands(marks: &mut [u8], twice: bool, node: Node) -> bool
         Node::Empty(_) => twice,
         Node::Conflict(_) => twice,
         Node::Unary(_, a) => mark(marks, twice, a),
-        Node::Binary(_, a, b) => {
-            let first = mark(marks, twice, a);
-            mark(marks, first, b)
-        }
+        Node::Binary(_, a, b) => mark_two(marks, twice, a, b),
         Node::Choice(c, a, b) => {
             let first = mark(marks, twice, c);
-            let second = mark(marks, first, a);
-            mark(marks, second, b)
+            mark_two(marks, first, a, b)
         }
-        Node::Default(x, y, z, j, c) => {
-            let first = mark_unless(marks, twice, x);
-            let second = mark_unless(marks, first, y);
-            let third = mark_unless(marks, second, z);
-            let fourth = mark(marks, third, j);
-            mark(marks, fourth, c)
-        }
+        Node::Default(x, y, z, j, c) => mark_default(marks, twice, x, y, z, j, c),
     }
 }
 

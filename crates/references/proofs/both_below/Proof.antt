@@ -13,11 +13,7 @@ below-requires-2 c κs = search needs
 
 returns : tie.Need-returns
 unfolding bothBelow
-returns c = rw (← c .before .before .below .ensures, c .before .if1 .taken) (c .below2 .ensures)
-
-returns-2 : tie.Need-returns-2
-unfolding bothBelow
-returns-2 c = rw (← c .before .below .ensures, c .if1 .left)
+returns c = rw (c .before .below .ensures, c .below2 .ensures)
 
 pub both-below-spec : {M : Type 1} → statement M
-both-below-spec = tie.close (tie.spec below-requires below-requires-2 returns returns-2)
+both-below-spec = tie.close (tie.spec below-requires below-requires-2 returns)

@@ -1,71 +1,48 @@
 -- `references::clause_names` meets its contract.
 -- Assumes nothing.
-use Rattle.book.specs.References.{clauseNames}
-use borrow.Author.Tests.{not-true, not-false}
+use mathlib.Core.Path.{_≡_, refl}
+use lib.ListN.{length}
+use Rattle.book.specs.Syntax.{Scope}
+use Rattle.book.specs.References.{namesConsequence, clauseNames}
+use Rattle.book.specs.declared.Consequence.{Consequence}
+use Rattle.book.specs.declared.Consequence.the-variants.{Of, Fixed}
+use Rattle.references.specs.Dangling.{parentNames, consequenceNames}
 use borrow.Author.Needs.{needs}
 use Rattle.references.proofs.clause_names.Statement.{statement}
 use Rattle.references.proofs.clause_names.Tie as tie
 
-names-target-requires : tie.Need-names-target-requires
-names-target-requires c κs = search needs
+-- what a consequence may name, by the scope and by the count of its nodes
+same-consequence : (s : Scope) (c : Consequence) → consequenceNames (length (s .nodes)) c ≡ namesConsequence s c
+unfolding consequenceNames
+same-consequence s (Of n) = refl
+same-consequence s (Fixed b) = refl
 
-returns : tie.Need-returns
-unfolding clauseNames
-returns c = rw (← c .before .names-target .ensures, not-true (c .before .names-target .result) (c .if1 .taken))
+node-count-requires : tie.Need-node-count-requires
+node-count-requires c κs = search needs
 
-names-parent-requires : tie.Need-names-parent-requires
-names-parent-requires c κs = search needs
-
-returns-2 : tie.Need-returns-2
-unfolding clauseNames
-returns-2 c =
-    rw (
-      ← c .before .before .before .names-target .ensures,
-      not-false (c .before .before .before .names-target .result) (c .before .before .if1 .left),
-      ← c .before .names-parent .ensures,
-      not-true (c .before .names-parent .result) (c .if2 .taken),
-    )
-
-names-condition-requires : tie.Need-names-condition-requires
-names-condition-requires c κs = search needs
-
-returns-3 : tie.Need-returns-3
-unfolding clauseNames
-returns-3 c =
-    rw (
-      ← c .before .before .before .before .before .names-target .ensures,
-      not-false (c .before .before .before .before .before .names-target .result) (c .before .before .before .before .if1 .left),
-      ← c .before .before .before .names-parent .ensures,
-      not-false (c .before .before .before .names-parent .result) (c .before .before .if2 .left),
-      ← c .before .names-condition .ensures,
-      not-true (c .before .names-condition .result) (c .if3 .taken),
-    )
+none-or-below-requires : tie.Need-none-or-below-requires
+none-or-below-requires c κs = search needs
 
 names-consequence-requires : tie.Need-names-consequence-requires
 names-consequence-requires c κs = search needs
 
-returns-4 : tie.Need-returns-4
-unfolding clauseNames
-returns-4 c =
-    rw (
-      ← c .before .before .before .before .before .before .names-target .ensures,
-      not-false (c .before .before .before .before .before .before .names-target .result) (c .before .before .before .before .before .if1 .left),
-      ← c .before .before .before .before .names-parent .ensures,
-      not-false (c .before .before .before .before .names-parent .result) (c .before .before .before .if2 .left),
-      ← c .before .before .names-condition .ensures,
-      not-false (c .before .before .names-condition .result) (c .before .if3 .left),
-    )
-    (c .names-consequence .ensures)
+names-target-requires : tie.Need-names-target-requires
+names-target-requires c κs = search needs
+
+names-parent-requires : tie.Need-names-parent-requires
+names-parent-requires c κs = search needs
+
+returns : tie.Need-returns
+unfolding clauseNames parentNames
+returns c = rw (c .before .names-target .ensures, c .names-parent .ensures, c .before .before .before .none-or-below .ensures, c .before .before .names-consequence .ensures, c .before .before .before .before .node-count .ensures, same-consequence _ _)
 
 pub clause-names-spec : {M : Type 1} → statement M
 clause-names-spec =
     tie.close
     (tie.spec
-    names-target-requires
-    returns
-    names-parent-requires
-    returns-2
-    names-condition-requires
-    returns-3
+    node-count-requires
+    none-or-below-requires
     names-consequence-requires
-    returns-4)
+    names-target-requires
+    names-parent-requires
+    returns)

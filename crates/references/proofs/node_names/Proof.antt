@@ -94,16 +94,11 @@ returns-8 c = rw (c .before .before .node4 .given .1) (c .both-below .ensures)
 
 returns-9 : tie.Need-returns-9
 unfolding nodeNames bothBelow
-returns-9 c =
-    rw (c .before .before .before .before .node5 .given .1, ← c .before .before .below3 .ensures, c .before .if1 .taken) (c .both-below2 .ensures)
+returns-9 c = rw (c .before .before .before .node5 .given .1, c .before .below3 .ensures, c .both-below2 .ensures)
 
 returns-10 : tie.Need-returns-10
-unfolding nodeNames
-returns-10 c = rw (c .before .before .before .node5 .given .1, ← c .before .below3 .ensures, c .if1 .left)
-
-returns-11 : tie.Need-returns-11
 unfolding nodeNames defaultNames bothBelow
-returns-11 c = rw (c .before .before .node6 .given .1) (c .default-names .ensures)
+returns-10 c = rw (c .before .before .node6 .given .1) (c .default-names .ensures)
 
 pub node-names-spec : {M : Type 1} → statement M
 node-names-spec =
@@ -136,5 +131,4 @@ node-names-spec =
     returns-7
     returns-8
     returns-9
-    returns-10
-    returns-11)
+    returns-10)
