@@ -1,3 +1,4 @@
 mod Table
 mod Targets
 mod Marking
+mod Scopes

@@ -52,20 +52,17 @@ pub record Marking (book : List Scope) (i : ℕ) (seen : List ℕ) (n : ℕ) : T
   pub source : (a : ℕ) → (getD seen a 0 ≡ 0 → ⊥) → Source book i n a (getD seen a 0)
 
 mark-some : (q : Consequence) → markOf q ≡ 0 → ⊥
-unfolding markOf
 mark-some (Of n) e = omega arith
 mark-some (Fixed b) e = omega arith
 
 -- two consequences of one mark are no pair of a rule and a definition, and of two marks they are one in one order
 alike : (p q : Consequence) → markOf p ≡ markOf q → (isRule p && not (isRule q)) ≡ false
-unfolding markOf
 alike (Of m) q e = refl
 alike (Fixed b) (Of n) e = absurd (omega arith)
 alike (Fixed b) (Fixed c) e = refl
 
 unlike : (p q : Consequence) → (markOf p ≡ markOf q → ⊥)
     → ((isRule p && not (isRule q)) ≡ true) ⊎ ((isRule q && not (isRule p)) ≡ true)
-unfolding markOf
 unlike (Of m) (Of n) e = absurd (e refl)
 unlike (Of m) (Fixed c) e = inr refl
 unlike (Fixed b) (Of n) e = inl refl

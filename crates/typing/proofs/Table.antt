@@ -43,7 +43,7 @@ unfolding typeIn
 blank m k = rw (zeros m k)
 
 stored : (types : List ℕ) (n : ℕ) (t : ValueType) → n < length types → typeIn (set types n (byteOf t)) n ≡ t
-unfolding typeIn byteOf
+unfolding typeIn
 stored types n YesNo h = rw (getD-set-same types n 0 0 h)
 stored types n Numeric h = rw (getD-set-same types n 1 0 h)
 

@@ -16,7 +16,7 @@ unfoldable pub slotOf : Target → ℕ
 slotOf t = cond (eqb (t .sub) 255) (t .variable) (t .sub * 32 + t .variable + 32)
 
 -- a definition's mark and a rule's
-unfoldable pub markOf : Consequence → ℕ
+abbrev pub markOf : Consequence → ℕ
 markOf (Of n) = 1
 markOf (Fixed b) = 2
 

@@ -16,7 +16,7 @@ use Rattle.book.specs.declared.Target.{Target}
 use Rattle.book.specs.declared.Clause.{Clause}
 
 -- a type as a byte
-unfoldable pub byteOf : ValueType → ℕ
+abbrev pub byteOf : ValueType → ℕ
 byteOf YesNo = 0
 byteOf Numeric = 1
 

@@ -1,19 +1,18 @@
--- `typing::has_mismatch` meets its contract. The invariant of its loop is `Sought`.
+-- `typing::has_mismatch` meets its contract. The invariant of its loop is `Passed`, and its laws give the rest.
 -- Assumes nothing.
 use Prim.Native.Nat.{_-_}
-use mathlib.Core.Path.{_∙_}
 use native.Mathlib.Omega.{arith}
 use borrow.Author.Needs.{needs}
-use Rattle.book.specs.Syntax.{emptyScope}
 use Rattle.book.specs.Decode.{scopesOf}
 use Rattle.book.specs.Typing.{mismatchIn, mismatches}
 use Rattle.typing.specs.Types.{mismatchAt}
-use Rattle.book.proofs.Searches.{Sought, start, turn, found, ended, any-from}
+use Rattle.book.proofs.Searches.{start}
+use Rattle.typing.proofs.Scopes.{Passed, stopped, next, finished}
 use Rattle.typing.proofs.has_mismatch.Statement.{statement}
 use Rattle.typing.proofs.has_mismatch.Tie as tie
 
 abbrev Inv-loop : tie.InvT-loop
-Inv-loop book places counts scopes i₀ i = Sought (λ k s. mismatchIn (scopesOf book) s) (scopesOf book) i
+Inv-loop book places counts scopes i₀ i = Passed (scopesOf book) (mismatchIn (scopesOf book)) i
 
 abbrev μ-loop : tie.MeasureT-loop
 μ-loop book places counts scopes i₀ i = scopes - i
@@ -27,8 +26,8 @@ mismatch-at-requires c κs = let s = c .before .before .before .before .before i
 returns : tie.Need-returns Inv-loop μ-loop
 unfolding mismatches mismatchAt
 returns c =
-    let few = rw (c .before .before .before .before .before .before .before .pre .1 .0) at (c .before .before .loop-test .taken) in
-    found _ _ _ (c .before .before .before .loop .inv) emptyScope few (rw (← c .before .mismatch-at .ensures) (c .if1 .taken)) ∙ any-from _ _ _
+    let in-loop = c .before .before in
+    stopped _ _ (in-loop .before .before .before .before .before .pre .1 .0) (in-loop .before .loop .inv) _ (in-loop .loop-test .taken) (c .before .mismatch-at .ensures) (c .if1 .taken)
 
 add-i : tie.Need-add-i Inv-loop μ-loop
 add-i c = omega arith
@@ -39,12 +38,12 @@ loop-less c = omega arith
 loop-again : tie.Need-loop-again Inv-loop μ-loop
 unfolding mismatchAt
 loop-again c =
-    let few = rw (c .before .before .before .before .before .before .before .pre .1 .0) at (c .before .before .loop-test .taken) in
-    turn _ _ _ (c .before .before .before .loop .inv) emptyScope few (rw (← c .before .mismatch-at .ensures) (c .if1 .left))
+    let in-loop = c .before .before in
+    next _ _ (in-loop .before .before .before .before .before .pre .1 .0) (in-loop .before .loop .inv) _ (in-loop .loop-test .taken) (c .before .mismatch-at .ensures) (c .if1 .left)
 
 returns-2 : tie.Need-returns-2 Inv-loop μ-loop
 unfolding mismatches
-returns-2 c = ended _ _ _ (c .before .loop .inv) (rw (← c .before .before .before .before .before .pre .1 .0) (c .loop-test .left)) ∙ any-from _ _ _
+returns-2 c = finished _ _ (c .before .before .before .before .before .pre .1 .0) (c .before .loop .inv) (c .loop-test .left)
 
 pub has-mismatch-spec : {M : Type 1} → statement M
 has-mismatch-spec =
