@@ -40,11 +40,11 @@ use Rattle.compiler.specs.Compile.{Compilation, refuse, fitting, onJudge
 use Rattle.compiler.specs.declared.Compiled.the-variants.{Written, Refused}
 use Rattle.compiler.specs.Emission.{back, Emits, Room, each, total}
 use Rattle.compiler.specs.Pieces.{treeAt, variablePiece, variableSize, overridePiece, overrideSize, calledCount, callPiece, callSize}
-use Rattle.compiler.specs.Pieces.{stepPiece, stepSize, orderedPiece, orderedSize, stepsPiece, stepsSize, typePiece, numberPiece, pair}
-use Rattle.compiler.specs.Pieces.{typesPiece, typesSize, numbersPiece, numbersSize, blockPiece, blockSize, orderedBlock, orderedBlockSize}
+use Rattle.compiler.specs.Pieces.{stepPiece, stepSize, orderedPiece, orderedSize, stepsPiece, stepsSize, headCount, headByte, headPiece, pair}
+use Rattle.compiler.specs.Pieces.{headsPiece, headsSize, blockPiece, blockSize, orderedBlock, orderedBlockSize}
 use Rattle.compiler.specs.Pieces.{bookPiece, bookSize, Block, Tabled}
 use Rattle.compiler.proofs.Emission.{alike, Downward, stop}
-use Rattle.compiler.proofs.Pieces.{call-size, variable-size, steps-size, types-size, numbers-size, block-size}
+use Rattle.compiler.proofs.Pieces.{call-size, variable-size, steps-size, heads-size, variables-counted, sub-scopes-counted, block-size}
 use Rattle.book.specs.declared.Judged.the-variants as judged
 
 -- Sums and lists of pieces
@@ -104,25 +104,21 @@ module _ (bytes : List ℕ) (i : ℕ) where
   unfolding orderedPiece orderedSize
   ordered-length n k = step-length (getD (stepOrder (scopeAt (scopesOf bytes) i)) n 0) k
 
-  type-length : (v : ℕ) (k : List ℕ) → length (typePiece bytes i v k) ≡ pair v + length k
-  unfolding typePiece
-  type-length v k = omega arith
-
-  number-length : (v : ℕ) (k : List ℕ) → length (numberPiece bytes i v k) ≡ pair v + length k
-  unfolding numberPiece
-  number-length v k = omega arith
+  head-length : (kind n : ℕ) (k : List ℕ) → length (headPiece bytes i kind n k) ≡ pair n + length k
+  unfolding headPiece
+  head-length kind n k = omega arith
 
   block-length : (k : List ℕ) → length (blockPiece bytes i k) ≡ blockSize bytes i + length k
-  unfolding blockPiece blockSize typesPiece typesSize numbersPiece numbersSize stepsPiece stepsSize
+  unfolding blockPiece blockSize headsPiece headsSize stepsPiece stepsSize
   block-length k =
       let s = scopeAt (scopesOf bytes) i in
       let steps = each (orderedPiece bytes i) 0 (stepCount s) k in
-      let numbers = each (numberPiece bytes i) 0 (length (s .subScopes)) steps in
+      let numbers = each (headPiece bytes i 3) 0 (headCount bytes i 3) steps in
       omega (
         arith,
         each-length (orderedPiece bytes i) (orderedSize bytes i) ordered-length 0 (stepCount s) k,
-        each-length (numberPiece bytes i) pair number-length 0 (length (s .subScopes)) steps,
-        each-length (typePiece bytes i) pair type-length 0 (length (s .variables)) numbers,
+        each-length (headPiece bytes i 3) pair (head-length 3) 0 (headCount bytes i 3) steps,
+        each-length (headPiece bytes i 2) pair (head-length 2) 0 (headCount bytes i 2) numbers,
       )
 
 book-length : (bytes : List ℕ) → length (bookPiece bytes []) ≡ bookSize bytes
@@ -152,16 +148,16 @@ module _ (bytes : List ℕ) (i : ℕ) where
       let c = x - n in
       ap (cond (ltb x n) (variableCode scope x k)) (overrides-same c 0 (scopeAt book (getD (scope .subScopes) c 0) .variables) (43 ∷ c ∷ k))
 
-  types-same : (k : List ℕ) → typesPiece bytes i k ≡ variablesCode (scope .variables) k
-  unfolding typesPiece typePiece variablesCode variableAt
+  types-same : (k : List ℕ) → headsPiece bytes i 2 k ≡ variablesCode (scope .variables) k
+  unfolding headsPiece headPiece headCount headByte variablesCode variableAt
   types-same k =
-      list-each (record { holds = YesNo }) variablesCode (λ x j. 2 ∷ typeByte (x .holds) ∷ j) (typePiece bytes i) (λ j. refl) (λ x xs j. refl) 0 (scope .variables) k
+      list-each (record { holds = YesNo }) variablesCode (λ x j. 2 ∷ typeByte (x .holds) ∷ j) (headPiece bytes i 2) (λ j. refl) (λ x xs j. refl) 0 (scope .variables) k
       (λ w l j. let z : 0 + w ≡ w = omega arith in rw z refl)
 
-  numbers-same : (k : List ℕ) → numbersPiece bytes i k ≡ subScopesCode (scope .subScopes) k
-  unfolding numbersPiece numberPiece subScopesCode subScopeAt
+  numbers-same : (k : List ℕ) → headsPiece bytes i 3 k ≡ subScopesCode (scope .subScopes) k
+  unfolding headsPiece headPiece headCount headByte subScopesCode subScopeAt
   numbers-same k =
-      list-each 0 subScopesCode (λ x j. 3 ∷ x ∷ j) (numberPiece bytes i) (λ j. refl) (λ x xs j. refl) 0 (scope .subScopes) k
+      list-each 0 subScopesCode (λ x j. 3 ∷ x ∷ j) (headPiece bytes i 3) (λ j. refl) (λ x xs j. refl) 0 (scope .subScopes) k
       (λ w l j. let z : 0 + w ≡ w = omega arith in rw z refl)
 
   steps-same : length (stepOrder scope) ≡ stepCount scope → (k : List ℕ) → stepsPiece bytes i k ≡ stepsCode book scope (stepOrder scope) k
@@ -175,8 +171,8 @@ module _ (bytes : List ℕ) (i : ℕ) where
   unfolding blockPiece blockCode
   block-same e k =
       let steps = stepsCode book scope (stepOrder scope) k in
-      ap (λ (j : List ℕ). 1 ∷ i ∷ typesPiece bytes i (numbersPiece bytes i j)) (steps-same e k)
-      ∙ ap (λ (j : List ℕ). 1 ∷ i ∷ typesPiece bytes i j) (numbers-same steps)
+      ap (λ (j : List ℕ). 1 ∷ i ∷ headsPiece bytes i 2 (headsPiece bytes i 3 j)) (steps-same e k)
+      ∙ ap (λ (j : List ℕ). 1 ∷ i ∷ headsPiece bytes i 2 j) (numbers-same steps)
       ∙ ap (λ (j : List ℕ). 1 ∷ i ∷ j) (types-same (subScopesCode (scope .subScopes) steps))
 
 -- blocks in front of other bytes
@@ -247,11 +243,13 @@ module _ (bytes : List ℕ) (n : ℕ) (ok : judge bytes ≡ judged.Accepted n) w
           arith,
           block-size bytes i,
           steps-size bytes i,
-          types-size bytes i,
-          numbers-size bytes i,
+          heads-size bytes i 2,
+          heads-size bytes i 3,
+          variables-counted bytes i,
+          sub-scopes-counted bytes i,
           total-bound (orderedSize bytes i) 2097186 0 (stepCount (scopeAt (scopesOf bytes) i)) (λ m l. step-bound (getD (stepOrder (scopeAt (scopesOf bytes) i)) m 0)),
-          total-bound pair 2 0 (length (scopeAt (scopesOf bytes) i .variables)) (λ m l. omega arith),
-          total-bound pair 2 0 (length (scopeAt (scopesOf bytes) i .subScopes)) (λ m l. omega arith),
+          total-bound pair 2 0 (headCount bytes i 2) (λ m l. omega arith),
+          total-bound pair 2 0 (headCount bytes i 3) (λ m l. omega arith),
           accepted .within i .variables,
           accepted .within i .subScopes,
         )

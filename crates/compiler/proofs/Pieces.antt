@@ -13,16 +13,13 @@ use Rattle.record.specs.Bytes.{bytesOf}
 use Rattle.order.proofs.Order.{order-no-repeats}
 use Rattle.book.specs.Decode.{scopesOf}
 use Rattle.book.specs.References.{scopeAt}
-use Rattle.book.specs.Tables.{variableAt, subScopeAt}
 use Rattle.book.specs.Steps.{dependsOn, stepCount, stepOrder}
-use Rattle.book.specs.declared.Variable.{Variable}
 use Rattle.trees.specs.Chains.{clauseFor}
 use Rattle.translation.specs.Code.{size, code}
-use Rattle.translation.specs.Blocks.{typeByte}
 use Rattle.compiler.specs.Emission.{Emits, Emitted, one, two, total}
 use Rattle.compiler.specs.Pieces.{treeAt, variablePiece, variableSize, overridePiece, overrideSize, calledCount, callPiece, callSize}
-use Rattle.compiler.specs.Pieces.{stepPiece, stepSize, orderedPiece, orderedSize, stepsPiece, stepsSize, typePiece, numberPiece, pair}
-use Rattle.compiler.specs.Pieces.{typesPiece, typesSize, numbersPiece, numbersSize, blockPiece, blockSize, Ordered}
+use Rattle.compiler.specs.Pieces.{stepPiece, stepSize, orderedPiece, orderedSize, stepsPiece, stepsSize, headCount, headByte, headPiece, pair}
+use Rattle.compiler.specs.Pieces.{headsPiece, headsSize, blockPiece, blockSize, Ordered}
 use Rattle.compiler.proofs.Emission.{then, alike, nothing, Downward, stop}
 
 -- Variables
@@ -146,40 +143,35 @@ module _ (bytes : List ℕ) (i : ℕ) where
 
   -- Blocks
 
-  pub types-size : typesSize bytes i ≡ total pair 0 (length (scopeAt (scopesOf bytes) i .variables))
-  unfolding typesSize
-  types-size = refl
+  module _ (kind : ℕ) where
+    pub heads-size : headsSize bytes i kind ≡ total pair 0 (headCount bytes i kind)
+    unfolding headsSize
+    heads-size = refl
 
-  pub types-stop : {s m : List ℕ} {at p n : ℕ} → Downward s at (typePiece bytes i) pair (length (scopeAt (scopesOf bytes) i .variables)) n p m
-      → n ≡ 0 → Emits s at (typesPiece bytes i) (typesSize bytes i) p m
-  unfolding typesPiece typesSize
-  types-stop d e = alike (stop d e) (λ k. refl) refl
+    pub heads-stop : {s m : List ℕ} {at p n : ℕ} → Downward s at (headPiece bytes i kind) pair (headCount bytes i kind) n p m
+        → n ≡ 0 → Emits s at (headsPiece bytes i kind) (headsSize bytes i kind) p m
+    unfolding headsPiece headsSize
+    heads-stop d e = alike (stop d e) (λ k. refl) refl
 
-  pub emits-type : {s o : List ℕ} {at q : ℕ} (v b : ℕ) (found : Variable) → found ≡ variableAt (scopesOf bytes) i v → b ≡ typeByte (found .holds)
-      → Emits s at (two 2 b) 2 q o → Emits s at (typePiece bytes i v) 2 q o
-  unfolding typePiece
-  emits-type v b found e f a = alike a (λ k. ap (λ (n : ℕ). 2 ∷ n ∷ k) (f ∙ ap (λ (x : Variable). typeByte (x .holds)) e)) refl
+    pub emits-head : {s o : List ℕ} {at q : ℕ} (n b : ℕ) → b ≡ headByte bytes i kind n → Emits s at (two kind b) 2 q o
+        → Emits s at (headPiece bytes i kind n) 2 q o
+    unfolding headPiece
+    emits-head n b e a = alike a (λ k. ap (λ (x : ℕ). kind ∷ x ∷ k) e) refl
 
-  pub numbers-size : numbersSize bytes i ≡ total pair 0 (length (scopeAt (scopesOf bytes) i .subScopes))
-  unfolding numbersSize
-  numbers-size = refl
+  pub variables-counted : headCount bytes i 2 ≡ length (scopeAt (scopesOf bytes) i .variables)
+  unfolding headCount
+  variables-counted = refl
 
-  pub numbers-stop : {s m : List ℕ} {at p n : ℕ} → Downward s at (numberPiece bytes i) pair (length (scopeAt (scopesOf bytes) i .subScopes)) n p m
-      → n ≡ 0 → Emits s at (numbersPiece bytes i) (numbersSize bytes i) p m
-  unfolding numbersPiece numbersSize
-  numbers-stop d e = alike (stop d e) (λ k. refl) refl
+  pub sub-scopes-counted : headCount bytes i 3 ≡ length (scopeAt (scopesOf bytes) i .subScopes)
+  unfolding headCount
+  sub-scopes-counted = refl
 
-  pub emits-number : {s o : List ℕ} {at q : ℕ} (c j : ℕ) → j ≡ subScopeAt (scopesOf bytes) i c → Emits s at (two 3 j) 2 q o
-      → Emits s at (numberPiece bytes i c) 2 q o
-  unfolding numberPiece
-  emits-number c j e a = alike a (λ k. ap (λ (n : ℕ). 3 ∷ n ∷ k) e) refl
-
-  pub block-size : blockSize bytes i ≡ stepsSize bytes i + numbersSize bytes i + typesSize bytes i + 2
+  pub block-size : blockSize bytes i ≡ stepsSize bytes i + headsSize bytes i 3 + headsSize bytes i 2 + 2
   unfolding blockSize
   block-size = refl
 
   pub emits-block : {s m₁ m₂ m₃ o : List ℕ} {at p₁ p₂ p₃ q : ℕ} → Emits s at (stepsPiece bytes i) (stepsSize bytes i) p₁ m₁
-      → Emits m₁ p₁ (numbersPiece bytes i) (numbersSize bytes i) p₂ m₂ → Emits m₂ p₂ (typesPiece bytes i) (typesSize bytes i) p₃ m₃
+      → Emits m₁ p₁ (headsPiece bytes i 3) (headsSize bytes i 3) p₂ m₂ → Emits m₂ p₂ (headsPiece bytes i 2) (headsSize bytes i 2) p₃ m₃
       → Emits m₃ p₃ (two 1 i) 2 q o → Emits s at (blockPiece bytes i) (blockSize bytes i) q o
   unfolding blockPiece blockSize
   emits-block a b e f = alike (then (then (then a b) e) f) (λ k. refl) refl

@@ -161,34 +161,33 @@ stepsPiece bytes i k = each (orderedPiece bytes i) 0 (stepCount (scopeAt (scopes
 unfoldable pub stepsSize : List ℕ → ℕ → ℕ
 stepsSize bytes i = total (orderedSize bytes i) 0 (stepCount (scopeAt (scopesOf bytes) i))
 
-unfoldable pub typePiece : List ℕ → ℕ → ℕ → List ℕ → List ℕ
-typePiece bytes i v k = 2 ∷ typeByte (variableAt (scopesOf bytes) i v .holds) ∷ k
+-- the variables of scope i, for kind 2, or its sub-scopes, for kind 3
+unfoldable pub headCount : List ℕ → ℕ → ℕ → ℕ
+headCount bytes i kind = cond (eqb kind 2) (length (scopeAt (scopesOf bytes) i .variables)) (length (scopeAt (scopesOf bytes) i .subScopes))
 
-unfoldable pub numberPiece : List ℕ → ℕ → ℕ → List ℕ → List ℕ
-numberPiece bytes i c k = 3 ∷ subScopeAt (scopesOf bytes) i c ∷ k
+-- the type of variable n, or the scope of sub-scope n
+unfoldable pub headByte : List ℕ → ℕ → ℕ → ℕ → ℕ
+headByte bytes i kind n = cond (eqb kind 2) (typeByte (variableAt (scopesOf bytes) i n .holds)) (subScopeAt (scopesOf bytes) i n)
+
+unfoldable pub headPiece : List ℕ → ℕ → ℕ → ℕ → List ℕ → List ℕ
+headPiece bytes i kind n k = kind ∷ headByte bytes i kind n ∷ k
 
 -- two bytes
 abbrev pub pair : ℕ → ℕ
 pair v = 2
 
-unfoldable pub typesPiece : List ℕ → ℕ → List ℕ → List ℕ
-typesPiece bytes i k = each (typePiece bytes i) 0 (length (scopeAt (scopesOf bytes) i .variables)) k
+unfoldable pub headsPiece : List ℕ → ℕ → ℕ → List ℕ → List ℕ
+headsPiece bytes i kind k = each (headPiece bytes i kind) 0 (headCount bytes i kind) k
 
-unfoldable pub typesSize : List ℕ → ℕ → ℕ
-typesSize bytes i = total pair 0 (length (scopeAt (scopesOf bytes) i .variables))
-
-unfoldable pub numbersPiece : List ℕ → ℕ → List ℕ → List ℕ
-numbersPiece bytes i k = each (numberPiece bytes i) 0 (length (scopeAt (scopesOf bytes) i .subScopes)) k
-
-unfoldable pub numbersSize : List ℕ → ℕ → ℕ
-numbersSize bytes i = total pair 0 (length (scopeAt (scopesOf bytes) i .subScopes))
+unfoldable pub headsSize : List ℕ → ℕ → ℕ → ℕ
+headsSize bytes i kind = total pair 0 (headCount bytes i kind)
 
 -- "kind 1 with the scope number, its kinds 2 and 3, instructions"
 unfoldable pub blockPiece : List ℕ → ℕ → List ℕ → List ℕ
-blockPiece bytes i k = 1 ∷ i ∷ typesPiece bytes i (numbersPiece bytes i (stepsPiece bytes i k))
+blockPiece bytes i k = 1 ∷ i ∷ headsPiece bytes i 2 (headsPiece bytes i 3 (stepsPiece bytes i k))
 
 unfoldable pub blockSize : List ℕ → ℕ → ℕ
-blockSize bytes i = stepsSize bytes i + numbersSize bytes i + typesSize bytes i + 2
+blockSize bytes i = stepsSize bytes i + headsSize bytes i 3 + headsSize bytes i 2 + 2
 
 -- block n in the order of blocks
 unfoldable pub orderedBlock : List ℕ → ℕ → List ℕ → List ℕ

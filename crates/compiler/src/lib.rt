@@ -31,7 +31,6 @@ ghost use Rattle.book.specs.Decode.{scopesOf};
 ghost use Rattle.book.specs.References.{scopeAt};
 ghost use Rattle.book.specs.Tables.{Laid};
 ghost use Rattle.book.specs.Steps.{stepCount};
-ghost use Rattle.trees.specs.Links.{Sound};
 ghost use Rattle.trees.specs.Chains.{Ready};
 ghost use Rattle.translation.specs.Code.{unaryKind, binaryKind, size, sizes};
 ghost use Rattle.translation.specs.Blocks.{typeByte};
@@ -41,7 +40,7 @@ ghost use Rattle.compiler.specs.Pieces.{nodeBelow, branchesSize, caught,
 ghost use Rattle.compiler.specs.Pieces.{aroundSize, EmittedAround, conditionAt, consequenceAt, restAt, siblings, clauseTermAt};
 ghost use Rattle.compiler.specs.Pieces.{lastOutcome, lastResort, basesAt, treeAt};
 ghost use Rattle.compiler.specs.Pieces.{variablePiece, variableSize, overridePiece, overrideSize, callPiece, callSize, stepPiece, stepSize};
-ghost use Rattle.compiler.specs.Pieces.{stepsPiece, stepsSize, typesPiece, typesSize, numbersPiece, numbersSize};
+ghost use Rattle.compiler.specs.Pieces.{stepsPiece, stepsSize, headCount, headByte, headsPiece, headsSize};
 ghost use Rattle.compiler.specs.Pieces.{blockPiece, blockSize, bookPiece, bookSize, Ordered, Called, Block, Tabled};
 
 // The cells of a scope's links: first exceptions, next siblings, first rules.
@@ -624,28 +623,6 @@ fn emit_steps(
     p
 }
 
-// The sub-scopes of scope i.
-fn emit_sub_scopes(
-    book: &[u8],
-    places: &[u16],
-    counts: &[u8],
-    i: usize,
-    out: &mut [u8],
-    at: usize,
-) -> usize
-    requires { ⌜ Sound (now book) (now places) (now counts) × Called (now book) i × Room at (numbersSize (now book) i) ⌝ }
-    ensures { λ r. ⌜ Emits (now (out .entry)) at (numbersPiece (now (book .entry)) i) (numbersSize (now (book .entry)) i) r (now (out .exit)) ⌝ }
-{
-    let mut k = sub_scope_count(book, places, counts, i);
-    let mut p = at;
-    while 0 < k {
-        k -= 1;
-        let j = sub_scope_at(book, places, counts, i, k);
-        p = put_two(out, p, 3, j as u8);
-    }
-    p
-}
-
 // The byte of a type.
 fn type_byte(t: ValueType) -> u8
     ensures { λ r. ⌜ r ≡ typeByte t ⌝ }
@@ -656,25 +633,40 @@ fn type_byte(t: ValueType) -> u8
     }
 }
 
-// The variables of scope i.
-fn emit_variables(
+// What stands behind a kind of a block's head: for kind 2 the type of variable n of scope i, for kind 3 the scope of its sub-scope n.
+fn head_byte(book: &[u8], places: &[u16], counts: &[u8], i: usize, kind: u8, n: usize) -> u8
+    requires { ⌜ Laid (now book) (now places) (now counts) × Called (now book) i × (n < headCount (now book) i kind) ⌝ }
+    ensures { λ r. ⌜ r ≡ headByte (now (book .entry)) i kind n ⌝ }
+{
+    if kind == 2 {
+        let variable = variable_at(book, places, counts, i, n);
+        let holds = variable.holds;
+        return type_byte(holds);
+    }
+    sub_scope_at(book, places, counts, i, n) as u8
+}
+
+// The variables of scope i, for kind 2, or its sub-scopes, for kind 3, of which there are so many.
+fn emit_heads(
     book: &[u8],
     places: &[u16],
     counts: &[u8],
     i: usize,
+    kind: u8,
+    count: usize,
     out: &mut [u8],
     at: usize,
 ) -> usize
-    requires { ⌜ Laid (now book) (now places) (now counts) × Room at (typesSize (now book) i) ⌝ }
-    ensures { λ r. ⌜ Emits (now (out .entry)) at (typesPiece (now (book .entry)) i) (typesSize (now (book .entry)) i) r (now (out .exit)) ⌝ }
+    requires { ⌜ Laid (now book) (now places) (now counts) × Called (now book) i × (count ≡ headCount (now book) i kind) × Room at (headsSize (now book) i kind) ⌝ }
+    ensures { λ r.
+        ⌜ Emits (now (out .entry)) at (headsPiece (now (book .entry)) i kind) (headsSize (now (book .entry)) i kind) r (now (out .exit)) ⌝ }
 {
-    let mut v = variable_count(book, places, counts, i);
+    let mut n = count;
     let mut p = at;
-    while 0 < v {
-        v -= 1;
-        let variable = variable_at(book, places, counts, i, v);
-        let holds = variable.holds;
-        p = put_two(out, p, 2, type_byte(holds));
+    while 0 < n {
+        n -= 1;
+        let b = head_byte(book, places, counts, i, kind, n);
+        p = put_two(out, p, kind, b);
     }
     p
 }
@@ -692,11 +684,13 @@ fn emit_block(
     requires { ⌜ Block (now book) (now places) (now counts) (now orders) i × Room at (blockSize (now book) i) ⌝ }
     ensures { λ r. ⌜ Emits (now (out .entry)) at (blockPiece (now (book .entry)) i) (blockSize (now (book .entry)) i) r (now (out .exit)) ⌝ }
 {
+    let variables = variable_count(book, places, counts, i);
+    let subs = sub_scope_count(book, places, counts, i);
     let mut links = [255u8; 834];
     fill_links(book, places, counts, i, &mut links);
     let p = emit_steps(book, places, counts, &links, orders, i, out, at);
-    let q = emit_sub_scopes(book, places, counts, i, out, p);
-    let r = emit_variables(book, places, counts, i, out, q);
+    let q = emit_heads(book, places, counts, i, 3, subs, out, p);
+    let r = emit_heads(book, places, counts, i, 2, variables, out, q);
     put_two(out, r, 1, i as u8)
 }
 
