@@ -221,24 +221,6 @@ fn mark_unless(marks: &mut [u8], twice: bool, w: u8) -> bool
     }
 }
 
-// Marks two numbers.
-fn mark_two(marks: &mut [u8], twice: bool, a: u8, b: u8) -> bool
-    ensures { λ r. ⌜ Marking (a ∷ b ∷ []) (now (marks .entry)) twice r (now (marks .exit)) ⌝ }
-{
-    let first = mark(marks, twice, a);
-    mark(marks, first, b)
-}
-
-// Marks the nodes that a default names.
-fn mark_default(marks: &mut [u8], twice: bool, x: u8, y: u8, z: u8, j: u8, c: u8) -> bool
-    ensures { λ r. ⌜ Marking (operands (Node.Default x y z j c)) (now (marks .entry)) twice r (now (marks .exit)) ⌝ }
-{
-    let first = mark_unless(marks, twice, x);
-    let second = mark_unless(marks, first, y);
-    let third = mark_unless(marks, second, z);
-    mark_two(marks, third, j, c)
-}
-
 // Marks the nodes that a node names.
 fn mark_operands(marks: &mut [u8], twice: bool, node: Node) -> bool
     ensures { λ r. ⌜ Marking (operands node) (now (marks .entry)) twice r (now (marks .exit)) ⌝ }
@@ -251,12 +233,22 @@ fn mark_operands(marks: &mut [u8], twice: bool, node: Node) -> bool
         Node::Empty(_) => twice,
         Node::Conflict(_) => twice,
         Node::Unary(_, a) => mark(marks, twice, a),
-        Node::Binary(_, a, b) => mark_two(marks, twice, a, b),
+        Node::Binary(_, a, b) => {
+            let first = mark(marks, twice, a);
+            mark(marks, first, b)
+        }
         Node::Choice(c, a, b) => {
             let first = mark(marks, twice, c);
-            mark_two(marks, first, a, b)
+            let second = mark(marks, first, a);
+            mark(marks, second, b)
         }
-        Node::Default(x, y, z, j, c) => mark_default(marks, twice, x, y, z, j, c),
+        Node::Default(x, y, z, j, c) => {
+            let first = mark_unless(marks, twice, x);
+            let second = mark_unless(marks, first, y);
+            let third = mark_unless(marks, second, z);
+            let fourth = mark(marks, third, j);
+            mark(marks, fourth, c)
+        }
     }
 }
 

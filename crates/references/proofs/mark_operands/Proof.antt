@@ -1,6 +1,6 @@
 -- `references::mark_operands` meets its contract.
 -- Assumes nothing.
-use Rattle.references.proofs.Marks.{marked-none, marked-then}
+use Rattle.references.proofs.Marks.{marked-none, marked-then, marked-unless}
 use borrow.Author.Needs.{needs}
 use Rattle.references.proofs.mark_operands.Statement.{statement}
 use Rattle.references.proofs.mark_operands.Tie as tie
@@ -32,23 +32,41 @@ mark-requires c κs = search needs
 enum-known-node-2 : tie.Need-enum-known-node-2
 enum-known-node-2 c = search needs
 
-mark-two-requires : tie.Need-mark-two-requires
-mark-two-requires c κs = search needs
+mark-requires-2 : tie.Need-mark-requires-2
+mark-requires-2 c κs = search needs
+
+mark-requires-3 : tie.Need-mark-requires-3
+mark-requires-3 c κs = search needs
 
 enum-known-node-3 : tie.Need-enum-known-node-3
 enum-known-node-3 c = search needs
 
-mark-requires-2 : tie.Need-mark-requires-2
-mark-requires-2 c κs = search needs
+mark-requires-4 : tie.Need-mark-requires-4
+mark-requires-4 c κs = search needs
 
-mark-two-requires-2 : tie.Need-mark-two-requires-2
-mark-two-requires-2 c κs = search needs
+mark-requires-5 : tie.Need-mark-requires-5
+mark-requires-5 c κs = search needs
+
+mark-requires-6 : tie.Need-mark-requires-6
+mark-requires-6 c κs = search needs
 
 enum-known-node-4 : tie.Need-enum-known-node-4
 enum-known-node-4 c = search needs
 
-mark-default-requires : tie.Need-mark-default-requires
-mark-default-requires c κs = search needs
+mark-unless-requires : tie.Need-mark-unless-requires
+mark-unless-requires c κs = search needs
+
+mark-unless-requires-2 : tie.Need-mark-unless-requires-2
+mark-unless-requires-2 c κs = search needs
+
+mark-unless-requires-3 : tie.Need-mark-unless-requires-3
+mark-unless-requires-3 c κs = search needs
+
+mark-requires-7 : tie.Need-mark-requires-7
+mark-requires-7 c κs = search needs
+
+mark-requires-8 : tie.Need-mark-requires-8
+mark-requires-8 c κs = search needs
 
 returns : tie.Need-returns
 returns c = rw (c .enum-told .given .1) marked-none
@@ -78,19 +96,35 @@ same-length-2 : tie.Need-same-length-2
 same-length-2 c = search needs
 
 returns-8 : tie.Need-returns-8
-returns-8 c = rw (c .before .before .before .before .before .node2 .given .1) (c .before .before .mark-two .ensures)
+returns-8 c =
+    rw (c .before .before .before .before .before .before .before .before .before .node2 .given .1)
+    (marked-then (c .before .before .before .before .before .before .mark2 .ensures) (c .before .before .mark3 .ensures))
 
 same-length-3 : tie.Need-same-length-3
 same-length-3 c = search needs
 
 returns-9 : tie.Need-returns-9
-returns-9 c = rw (c .before .before .before .before .before .before .before .before .before .node3 .given .1) (marked-then (c .before .before .before .before .before .before .mark2 .ensures) (c .before .before .mark-two2 .ensures))
+returns-9 c =
+    rw (c .before .before .before .before .before .before .before .before .before .before .before .before .before .node3 .given .1)
+    (marked-then (c .before .before .before .before .before .before .before .before .before .before .mark4 .ensures)
+    (marked-then (c .before .before .before .before .before .before .mark5 .ensures) (c .before .before .mark6 .ensures)))
 
 same-length-4 : tie.Need-same-length-4
 same-length-4 c = search needs
 
 returns-10 : tie.Need-returns-10
-returns-10 c = rw (c .before .before .before .before .before .node4 .given .1) (c .before .before .mark-default .ensures)
+returns-10 c =
+    rw (c .before .before .before .before .before .before .before .before .before .before .before .before .before .before .before .before .before .before .before .before .before .node4 .given .1)
+    (marked-unless
+    (c .before .before .before .before .before .before .before .before .before .before .before .before .before .before .before .before .before .before .before .before .before .node4 .given .0 .0)
+    (c .before .before .before .before .before .before .before .before .before .before .before .before .before .before .before .before .before .before .mark-unless .ensures)
+    (marked-unless
+    (c .before .before .before .before .before .before .before .before .before .before .before .before .before .before .before .before .before .before .before .before .before .node4 .given .0 .1 .0)
+    (c .before .before .before .before .before .before .before .before .before .before .before .before .before .before .mark-unless2 .ensures)
+    (marked-unless
+    (c .before .before .before .before .before .before .before .before .before .before .before .before .before .before .before .before .before .before .before .before .before .node4 .given .0 .1 .1 .0)
+    (c .before .before .before .before .before .before .before .before .before .before .mark-unless3 .ensures)
+    (marked-then (c .before .before .before .before .before .before .mark7 .ensures) (c .before .before .mark8 .ensures)))))
 
 pub mark-operands-spec : {M : Type 1} → statement M
 mark-operands-spec =
@@ -105,12 +139,18 @@ mark-operands-spec =
     enum-known-node
     mark-requires
     enum-known-node-2
-    mark-two-requires
-    enum-known-node-3
     mark-requires-2
-    mark-two-requires-2
+    mark-requires-3
+    enum-known-node-3
+    mark-requires-4
+    mark-requires-5
+    mark-requires-6
     enum-known-node-4
-    mark-default-requires
+    mark-unless-requires
+    mark-unless-requires-2
+    mark-unless-requires-3
+    mark-requires-7
+    mark-requires-8
     returns
     returns-2
     returns-3
