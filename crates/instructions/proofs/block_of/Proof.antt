@@ -1,49 +1,38 @@
+-- `instructions::block_of` meets its contract.
+-- Assumes nothing.
 use Rattle.instructions.specs.Effects.{blockIn}
 use borrow.Author.Needs.{needs}
 use Rattle.instructions.proofs.block_of.Statement.{statement}
 use Rattle.instructions.proofs.block_of.Tie as tie
-use Rattle.instructions.proofs.block_of.Reads as reads
-use Rattle.instructions.proofs.block_of.Lts as lts
-use Rattle.record.proofs.byte_at.Reads as byte-at-reads
 
--- src/lib.rt:455:48
 mul-byte-at : tie.Need-mul-byte-at
 mul-byte-at c = search needs
 
--- src/lib.rt:455:48
 add-byte-at : tie.Need-add-byte-at
 add-byte-at c = search needs
 
--- src/lib.rt:455:48
 add-byte-at-2 : tie.Need-add-byte-at-2
 add-byte-at-2 c = search needs
 
--- src/lib.rt:455:33
 byte-at-requires : tie.Need-byte-at-requires
 byte-at-requires c κs = search needs
 
--- src/lib.rt:455:33
 cast-byte-at : tie.Need-cast-byte-at
 cast-byte-at c = search needs
 
--- src/lib.rt:455:17
 byte-at-requires-2 : tie.Need-byte-at-requires-2
 byte-at-requires-2 c κs = search needs
 
--- src/lib.rt:455:17
 cast-place : tie.Need-cast-place
 cast-place c = search needs
 
--- src/lib.rt:457:9
 returns : tie.Need-returns
 unfolding blockIn
 returns c = rw (← c .before .before .byte-at .ensures, ← c .before .byte-at2 .ensures, c .if1 .taken)
 
--- src/lib.rt:459:5
 sub-result : tie.Need-sub-result
 sub-result c = search needs
 
--- src/lib.rt:451:1
 returns-2 : tie.Need-returns-2
 unfolding blockIn
 returns-2 c = rw (← c .before .before .byte-at .ensures, ← c .before .byte-at2 .ensures)

@@ -1,59 +1,44 @@
+-- `instructions::branch` meets its contract.
+-- Assumes nothing.
 use Rattle.instructions.proofs.Stack.{branch-none, branch-other, branch-yes, branch-no}
 use native.Mathlib.Omega.{arith}
 use borrow.Author.Needs.{needs}
 use Rattle.instructions.proofs.branch.Statement.{statement}
 use Rattle.instructions.proofs.branch.Tie as tie
-use Rattle.instructions.proofs.branch.Reads as reads
-use Rattle.instructions.proofs.branch.Lts as lts
-use Rattle.calculus.proofs.truth_of.Reads as truth-of-reads
-use Rattle.instructions.proofs.has_type.Reads as has-type-reads
-use Rattle.instructions.proofs.top_value.Reads as top-value-reads
 
--- src/lib.rt:211:11
 top-value-requires : tie.Need-top-value-requires
 top-value-requires c κs = search needs
 
--- src/lib.rt:212:26
 enum-told : tie.Need-enum-told
 enum-told c = search needs
 
--- src/lib.rt:213:24
 enum-known-v : tie.Need-enum-known-v
 enum-known-v c = search needs
 
--- src/lib.rt:214:17
 has-type-requires : tie.Need-has-type-requires
 has-type-requires c κs = search needs
 
--- src/lib.rt:215:17
 returns : tie.Need-returns
 returns c = λ env tr m left p. branch-other env left m (c .before .before .before .before .before .top-value .ensures) _ _ (c .before .before .before .before .before .before .before .pre) tr p (c .before .before .before .v .given .1) (c .before .has-type .ensures) (c .if1 .taken)
 
--- src/lib.rt:217:16
 truth-of-requires : tie.Need-truth-of-requires
 truth-of-requires c κs = search needs
 
--- src/lib.rt:218:36
 sub-t12 : tie.Need-sub-t12
 sub-t12 c = omega (arith, c .before .before .before .before .before .before .before .top-value .ensures .some _ (c .before .before .before .before .before .v .given .1) .1)
 
--- src/lib.rt:218:17
 returns-2 : tie.Need-returns-2
 returns-2 c = λ env tr m left p. branch-yes env left m (c .before .before .before .before .before .before .before .top-value .ensures) _ _ (c .before .before .before .before .before .before .before .before .before .pre) tr p (c .before .before .before .before .before .v .given .1) (c .before .before .before .has-type .ensures) (c .before .before .if1 .left) (c .before .truth-of .ensures) (c .if2 .taken)
 
--- src/lib.rt:220:22
 add-t13 : tie.Need-add-t13
 add-t13 c = search needs
 
--- src/lib.rt:220:29
 sub-t14 : tie.Need-sub-t14
 sub-t14 c = omega (arith, c .before .before .before .before .before .before .before .top-value .ensures .some _ (c .before .before .before .before .before .v .given .1) .1)
 
--- src/lib.rt:206:1
 returns-3 : tie.Need-returns-3
 returns-3 c = λ env tr m left p. branch-none env left m (c .before .before .top-value .ensures) _ _ (c .before .before .before .before .pre) tr p (c .enum-told .given .1)
 
--- src/lib.rt:206:1
 returns-4 : tie.Need-returns-4
 returns-4 c = λ env tr m left p. branch-no env left m (c .before .before .before .before .before .before .before .top-value .ensures) _ _ (c .before .before .before .before .before .before .before .before .before .pre) tr p (c .before .before .before .before .before .v .given .1) (c .before .before .before .has-type .ensures) (c .before .before .if1 .left) (c .before .truth-of .ensures) (c .if2 .left)
 

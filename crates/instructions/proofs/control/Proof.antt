@@ -1,3 +1,5 @@
+-- `instructions::control` meets its contract.
+-- Assumes nothing.
 use mathlib.Core.Path.{refl}
 use Rattle.record.specs.Kinds.{kinds, shapesOf, shapeIn}
 use Rattle.machine.specs.Instructions.{instructionOf}
@@ -6,118 +8,84 @@ use Rattle.instructions.proofs.Steps.{pass-at, pass-try, pass-jump}
 use borrow.Author.Needs.{needs}
 use Rattle.instructions.proofs.control.Statement.{statement}
 use Rattle.instructions.proofs.control.Tie as tie
-use Rattle.instructions.proofs.control.Reads as reads
-use Rattle.instructions.proofs.control.Lts as lts
-use Rattle.instructions.proofs.begin_try.Reads as begin-try-reads
-use Rattle.instructions.proofs.branch.Reads as branch-reads
-use Rattle.instructions.proofs.compute.Reads as compute-reads
-use Rattle.instructions.proofs.distance.Reads as distance-reads
-use Rattle.instructions.proofs.end_try.Reads as end-try-reads
-use Rattle.instructions.proofs.raise.Reads as raise-reads
-use Rattle.instructions.proofs.settle.Reads as settle-reads
 
--- src/lib.rt:556:15
 raise-requires : tie.Need-raise-requires
 raise-requires c κs = search needs
 
--- src/lib.rt:558:28
 distance-requires : tie.Need-distance-requires
 distance-requires c κs = search needs
 
--- src/lib.rt:558:24
 add-t15 : tie.Need-add-t15
 add-t15 c = search needs
 
--- src/lib.rt:559:22
 distance-requires-2 : tie.Need-distance-requires-2
 distance-requires-2 c κs = search needs
 
--- src/lib.rt:559:15
 branch-requires : tie.Need-branch-requires
 branch-requires c κs = search needs
 
--- src/lib.rt:560:37
 distance-requires-3 : tie.Need-distance-requires-3
 distance-requires-3 c κs = search needs
 
--- src/lib.rt:560:15
 begin-try-requires : tie.Need-begin-try-requires
 begin-try-requires c κs = search needs
 
--- src/lib.rt:561:15
 end-try-requires : tie.Need-end-try-requires
 end-try-requires c κs = search needs
 
--- src/lib.rt:562:22
 distance-requires-4 : tie.Need-distance-requires-4
 distance-requires-4 c κs = search needs
 
--- src/lib.rt:562:15
 settle-requires : tie.Need-settle-requires
 settle-requires c κs = search needs
 
--- src/lib.rt:563:14
 compute-requires : tie.Need-compute-requires
 compute-requires c κs = (c .before .before .before .before .before .pre .0 .stack, c .before .before .before .before .before .pre .0 .height, record { controls = c .before .before .before .before .before .pre .1; raises = c .before .match .rest .0 .0 .0 .0 .0 .0 .1; raisesConflict = c .before .match .rest .0 .0 .0 .0 .0 .1; jumps = c .before .match .rest .0 .0 .0 .0 .1; jumpsIfNo = c .before .match .rest .0 .0 .0 .1; beginsTry = c .before .match .rest .0 .0 .1; endsTry = c .before .match .rest .0 .1; settles = c .before .match .rest .1 })
 
--- src/lib.rt:551:1
 same-length : tie.Need-same-length
 same-length c = search needs
 
--- src/lib.rt:551:1
 same-length-2 : tie.Need-same-length-2
 same-length-2 c = search needs
 
--- src/lib.rt:551:1
 returns : tie.Need-returns
 unfolding effect instructionOf shapeIn shapesOf kinds
 returns c = pass-at (c .before .before .before .match .keys1) (λ env m. c .raise .ensures m)
 
--- src/lib.rt:551:1
 returns-2 : tie.Need-returns-2
 unfolding effect instructionOf shapeIn shapesOf kinds
 returns-2 c = pass-at (c .match .keys2) (λ env m. refl)
 
--- src/lib.rt:551:1
 returns-3 : tie.Need-returns-3
 returns-3 c = pass-jump (c .before .match .keys3) _ (c .distance .ensures .0) (c .before .before .before .before .before .pre .0)
 
--- src/lib.rt:551:1
 same-length-3 : tie.Need-same-length-3
 same-length-3 c = search needs
 
--- src/lib.rt:551:1
 returns-4 : tie.Need-returns-4
 unfolding effect instructionOf shapeIn shapesOf kinds
 returns-4 c = pass-at (c .before .before .before .match .keys4) (λ env m. rw (← c .before .before .distance2 .ensures .0) (c .branch .ensures env _ m 0 (c .before .before .before .before .before .before .before .pre .0 .tries, c .before .before .before .before .before .before .before .pre .0 .pairs)))
 
--- src/lib.rt:551:1
 same-length-4 : tie.Need-same-length-4
 same-length-4 c = search needs
 
--- src/lib.rt:551:1
 returns-5 : tie.Need-returns-5
 returns-5 c = pass-try (c .before .before .before .before .before .match .keys5) _ (λ m. rw (← c .before .before .before .before .distance3 .ensures .0) (c .before .before .begin-try .ensures _ m (c .before .before .before .before .before .before .before .before .before .pre .0 .stack, c .before .before .before .before .before .before .before .before .before .pre .0 .height)))
 
--- src/lib.rt:551:1
 returns-6 : tie.Need-returns-6
 unfolding effect instructionOf shapeIn shapesOf kinds
 returns-6 c = pass-at (c .before .match .keys6) (λ env m. c .end-try .ensures _ _ m (c .before .before .before .before .before .pre .0))
 
--- src/lib.rt:551:1
 same-length-5 : tie.Need-same-length-5
 same-length-5 c = search needs
 
--- src/lib.rt:551:1
 returns-7 : tie.Need-returns-7
 unfolding effect instructionOf shapeIn shapesOf kinds
 returns-7 c = pass-at (c .before .before .before .match .keys7) (λ env m. rw (← c .before .before .distance4 .ensures .0) (c .settle .ensures env _ m 0 (c .before .before .before .before .before .before .before .pre .0 .tries, c .before .before .before .before .before .before .before .pre .0 .pairs)))
 
--- src/lib.rt:551:1
 same-length-6 : tie.Need-same-length-6
 same-length-6 c = search needs
 
--- src/lib.rt:551:1
 returns-8 : tie.Need-returns-8
 returns-8 c = c .before .before .compute .ensures _ (c .before .before .before .before .before .before .before .before .pre .0 .tries, c .before .before .before .before .before .before .before .before .pre .0 .pairs)
 

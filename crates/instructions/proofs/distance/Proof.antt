@@ -1,18 +1,15 @@
+-- `instructions::distance` meets its contract.
+-- Assumes nothing.
 use Prim.Native.Nat.{_+_}
 use native.Mathlib.Omega.{arith}
 use Rattle.record.specs.Bytes.{bigEndian}
 use borrow.Author.Needs.{needs}
 use Rattle.instructions.proofs.distance.Statement.{statement}
 use Rattle.instructions.proofs.distance.Tie as tie
-use Rattle.instructions.proofs.distance.Reads as reads
-use Rattle.instructions.proofs.distance.Lts as lts
-use Rattle.record.proofs.distance_at.Reads as distance-at-reads
 
--- src/lib.rt:337:5
 distance-at-requires : tie.Need-distance-at-requires
 distance-at-requires c κs = search needs
 
--- src/lib.rt:334:1
 returns : tie.Need-returns
 unfolding bigEndian
 returns c = let a = c .before .shared-slice-known .given (c .before .before .args .at + 0) in let b = c .before .shared-slice-known .given (c .before .before .args .at + 1) in (c .distance-at .ensures, omega (arith, a, b, c .distance-at .ensures))

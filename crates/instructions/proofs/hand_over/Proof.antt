@@ -1,91 +1,68 @@
+-- `instructions::hand_over` meets its contract.
+-- Assumes nothing.
 use Rattle.instructions.proofs.Memory.{hand-none, hand-other, hand-late, hand-twice, hand-go}
 use native.Mathlib.Omega.{arith}
 use borrow.Author.Needs.{needs}
 use Rattle.instructions.proofs.hand_over.Statement.{statement}
 use Rattle.instructions.proofs.hand_over.Tie as tie
-use Rattle.instructions.proofs.hand_over.Reads as reads
-use Rattle.instructions.proofs.hand_over.Lts as lts
-use Rattle.instructions.proofs.encode.Reads as encode-reads
-use Rattle.instructions.proofs.has_type.Reads as has-type-reads
-use Rattle.instructions.proofs.top_value.Reads as top-value-reads
 
--- src/lib.rt:417:11
 top-value-requires : tie.Need-top-value-requires
 top-value-requires c κs = search needs
 
--- src/lib.rt:418:26
 enum-told : tie.Need-enum-told
 enum-told c = search needs
 
--- src/lib.rt:419:24
 enum-known-v : tie.Need-enum-known-v
 enum-known-v c = search needs
 
--- src/lib.rt:420:17
 has-type-requires : tie.Need-has-type-requires
 has-type-requires c κs = search needs
 
--- src/lib.rt:421:17
 returns : tie.Need-returns
 returns c = hand-other _ _ _ _ _ _ (c .before .before .before .before .before .top-value .ensures) (c .before .before .before .v .given .1) (c .before .has-type .ensures) (c .if1 .taken)
 
--- src/lib.rt:423:16
 mul-if2 : tie.Need-mul-if2
 mul-if2 c = search needs
 
--- src/lib.rt:423:16
 shared-slice-read-if2 : tie.Need-shared-slice-read-if2
 shared-slice-read-if2 c = search needs
 
--- src/lib.rt:424:17
 returns-2 : tie.Need-returns-2
 returns-2 c = hand-late _ _ _ _ _ _ (c .before .before .before .before .before .before .before .top-value .ensures) (c .before .before .before .before .before .v .given .1) (c .before .before .before .has-type .ensures) (c .before .before .if1 .left) (c .if2 .taken)
 
--- src/lib.rt:426:22
 mul-at : tie.Need-mul-at
 mul-at c = search needs
 
--- src/lib.rt:426:22
 add-at : tie.Need-add-at
 add-at c = search needs
 
--- src/lib.rt:427:16
 mul-if3 : tie.Need-mul-if3
 mul-if3 c = search needs
 
--- src/lib.rt:427:16
 slice-read-if3 : tie.Need-slice-read-if3
 slice-read-if3 c = search needs
 
--- src/lib.rt:428:17
 returns-3 : tie.Need-returns-3
 returns-3 c = hand-twice _ _ _ _ _ _ (c .before .before .before .before .before .before .before .before .before .top-value .ensures) (c .before .before .before .before .before .before .before .v .given .1) (c .before .before .before .before .before .has-type .ensures) (c .before .before .before .before .if1 .left) (c .before .before .if2 .left) (c .if3 .taken)
 
--- src/lib.rt:430:26
 encode-requires : tie.Need-encode-requires
 encode-requires c κs = search needs
 
--- src/lib.rt:430:13
 mul-called : tie.Need-mul-called
 mul-called c = search needs
 
--- src/lib.rt:430:13
 slice-write-called : tie.Need-slice-write-called
 slice-write-called c = search needs
 
--- src/lib.rt:431:25
 sub-t15 : tie.Need-sub-t15
 sub-t15 c = omega (arith, c .before .before .before .before .before .before .before .before .before .before .top-value .ensures .some _ (c .before .before .before .before .before .before .before .before .v .given .1) .1)
 
--- src/lib.rt:413:1
 returns-4 : tie.Need-returns-4
 returns-4 c = hand-none _ _ _ _ _ _ (c .before .before .top-value .ensures) (c .enum-told .given .1)
 
--- src/lib.rt:413:1
 same-length : tie.Need-same-length
 same-length c = search needs
 
--- src/lib.rt:413:1
 returns-5 : tie.Need-returns-5
 returns-5 c = hand-go _ _ _ _ _ _ (c .before .before .before .before .before .before .before .before .before .before .top-value .ensures) (c .before .before .before .before .before .before .before .before .v .given .1) (c .before .before .before .before .before .before .has-type .ensures) (c .before .before .before .before .before .if1 .left) (c .before .before .before .if2 .left) (c .before .if3 .left) (c .encode .ensures) (c .before .before .before .before .before .before .before .before .before .before .before .before .before .before .pre .0, c .before .before .before .before .before .before .before .before .before .before .before .before .before .before .pre .1) (omega arith) (omega arith)
 

@@ -1,56 +1,43 @@
+-- `instructions::join_top` meets its contract.
+-- Assumes nothing.
 use Rattle.instructions.proofs.Stack.{join-low, join-go}
 use borrow.Author.Needs.{needs}
 use Rattle.instructions.proofs.join_top.Statement.{statement}
 use Rattle.instructions.proofs.join_top.Tie as tie
-use Rattle.instructions.proofs.join_top.Reads as reads
-use Rattle.instructions.proofs.join_top.Lts as lts
-use Rattle.instructions.proofs.joined.Reads as joined-reads
 
--- src/lib.rt:187:9
 returns : tie.Need-returns
 returns c = λ env tr m left p. join-low env left m _ _ _ (c .if1 .taken)
 
--- src/lib.rt:189:13
 mul-a : tie.Need-mul-a
 mul-a c = search needs
 
--- src/lib.rt:189:13
 slice-read-a : tie.Need-slice-read-a
 slice-read-a c = search needs
 
--- src/lib.rt:190:16
 sub-b : tie.Need-sub-b
 sub-b c = search needs
 
--- src/lib.rt:190:13
 mul-b : tie.Need-mul-b
 mul-b c = search needs
 
--- src/lib.rt:190:13
 slice-read-b : tie.Need-slice-read-b
 slice-read-b c = search needs
 
--- src/lib.rt:191:17
 joined-requires : tie.Need-joined-requires
 joined-requires c κs = search needs
 
--- src/lib.rt:191:5
 mul-st : tie.Need-mul-st
 mul-st c = search needs
 
--- src/lib.rt:191:5
 slice-write-st : tie.Need-slice-write-st
 slice-write-st c = search needs
 
--- src/lib.rt:192:17
 sub-t7 : tie.Need-sub-t7
 sub-t7 c = search needs
 
--- src/lib.rt:181:1
 same-length : tie.Need-same-length
 same-length c = search needs
 
--- src/lib.rt:181:1
 returns-2 : tie.Need-returns-2
 returns-2 c = λ env tr m left p. join-go env left m _ _ _ _ (c .before .before .before .if1 .left) (c .before .before .before .before .before .pre) (c .joined .ensures) tr p
 

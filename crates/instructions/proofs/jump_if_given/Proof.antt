@@ -1,3 +1,5 @@
+-- `instructions::jump_if_given` meets its contract.
+-- Assumes nothing.
 use Rattle.instructions.proofs.Memory.{given-unset, given-given, given-stored}
 use native.Mathlib.Omega.{arith}
 use Prim.Native.Nat.{_+_, _-_}
@@ -5,34 +7,25 @@ use mathlib.Core.Path.{_≡_}
 use borrow.Author.Needs.{needs}
 use Rattle.instructions.proofs.jump_if_given.Statement.{statement}
 use Rattle.instructions.proofs.jump_if_given.Tie as tie
-use Rattle.instructions.proofs.jump_if_given.Reads as reads
-use Rattle.instructions.proofs.jump_if_given.Lts as lts
 
--- src/lib.rt:433:8
 mul-if1 : tie.Need-mul-if1
 mul-if1 c = search needs
 
--- src/lib.rt:433:8
 shared-slice-read-if1 : tie.Need-shared-slice-read-if1
 shared-slice-read-if1 c = search needs
 
--- src/lib.rt:434:9
 returns : tie.Need-returns
 returns c = λ st tr m o. (given-unset _ _ _ _ _ _ m (c .if1 .taken), omega arith, o)
 
--- src/lib.rt:436:8
 shared-slice-read-if2 : tie.Need-shared-slice-read-if2
 shared-slice-read-if2 c = search needs
 
--- src/lib.rt:437:25
 add-t13 : tie.Need-add-t13
 add-t13 c = search needs
 
--- src/lib.rt:437:9
 returns-2 : tie.Need-returns-2
 returns-2 c = λ st tr m o. let z : 3 + c .before .before .before .before .args .d - 3 ≡ c .before .before .before .before .args .d = omega arith in (rw z (given-given _ _ _ _ _ _ m (c .before .before .if1 .left) (c .if2 .taken)), omega arith, o)
 
--- src/lib.rt:428:1
 returns-3 : tie.Need-returns-3
 returns-3 c = λ st tr m o. (given-stored _ _ _ _ _ _ m (c .before .before .if1 .left) (c .if2 .left), omega arith, o)
 

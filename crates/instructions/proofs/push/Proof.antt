@@ -1,35 +1,28 @@
+-- `instructions::push` meets its contract.
+-- Assumes nothing.
 use Rattle.instructions.proofs.Stack.{push-full, push-go}
 use borrow.Author.Needs.{needs}
 use Rattle.instructions.proofs.push.Statement.{statement}
 use Rattle.instructions.proofs.push.Tie as tie
-use Rattle.instructions.proofs.push.Reads as reads
-use Rattle.instructions.proofs.push.Lts as lts
 
--- src/lib.rt:97:9
 returns : tie.Need-returns
 returns c = λ tr m r. push-full _ _ _ (c .if1 .taken) _ m
 
--- src/lib.rt:100:9
 returns-2 : tie.Need-returns-2
 returns-2 c = search needs
 
--- src/lib.rt:102:5
 mul-st : tie.Need-mul-st
 mul-st c = search needs
 
--- src/lib.rt:102:5
 slice-write-st : tie.Need-slice-write-st
 slice-write-st c = search needs
 
--- src/lib.rt:103:17
 add-t7 : tie.Need-add-t7
 add-t7 c = search needs
 
--- src/lib.rt:92:1
 same-length : tie.Need-same-length
 same-length c = search needs
 
--- src/lib.rt:92:1
 returns-3 : tie.Need-returns-3
 returns-3 c = push-go _ _ _ _ _ (c .before .if1 .left) (c .if2 .left)
 

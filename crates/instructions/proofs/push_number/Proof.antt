@@ -1,32 +1,24 @@
+-- `instructions::push_number` meets its contract.
+-- Assumes nothing.
 use mir.Facts.{toZ-ofZ}
 use mir.Val.{SFits}
 use mir.Syntax.{w32}
 use borrow.Author.Needs.{needs}
 use Rattle.instructions.proofs.push_number.Statement.{statement}
 use Rattle.instructions.proofs.push_number.Tie as tie
-use Rattle.instructions.proofs.push_number.Reads as reads
-use Rattle.instructions.proofs.push_number.Lts as lts
-use Rattle.record.proofs.number_at.Reads as number-at-reads
-use Rattle.instructions.proofs.encode.Reads as encode-reads
-use Rattle.instructions.proofs.push.Reads as push-reads
 
--- src/lib.rt:353:38
 number-at-requires : tie.Need-number-at-requires
 number-at-requires c κs = search needs
 
--- src/lib.rt:353:17
 encode-requires : tie.Need-encode-requires
 encode-requires c κs = search needs
 
--- src/lib.rt:353:5
 push-requires : tie.Need-push-requires
 push-requires c κs = search needs
 
--- src/lib.rt:348:1
 same-length : tie.Need-same-length
 same-length c = search needs
 
--- src/lib.rt:348:1
 returns : tie.Need-returns
 returns c = λ tr m o.
     let f : SFits w32 (c .before .before .before .before .number-at .result) = record { sfits = c .before .before .before .before .number-at .ok } in

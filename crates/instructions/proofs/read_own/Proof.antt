@@ -1,38 +1,29 @@
+-- `instructions::read_own` meets its contract.
+-- Assumes nothing.
 use Rattle.instructions.proofs.Memory.{read-unset, read-set}
 use Rattle.instructions.specs.Views.{entries, opened}
 use borrow.Author.Needs.{needs}
 use Rattle.instructions.proofs.read_own.Statement.{statement}
 use Rattle.instructions.proofs.read_own.Tie as tie
-use Rattle.instructions.proofs.read_own.Reads as reads
-use Rattle.instructions.proofs.read_own.Lts as lts
-use Rattle.instructions.proofs.push.Reads as push-reads
-use Rattle.instructions.proofs.value_cell.Reads as value-cell-reads
 
--- src/lib.rt:362:13
 mul-c : tie.Need-mul-c
 mul-c c = search needs
 
--- src/lib.rt:362:13
 shared-slice-read-c : tie.Need-shared-slice-read-c
 shared-slice-read-c c = search needs
 
--- src/lib.rt:364:9
 returns : tie.Need-returns
 returns c = λ flags tr m o. read-unset _ flags _ _ _ m (c .if1 .taken)
 
--- src/lib.rt:366:17
 value-cell-requires : tie.Need-value-cell-requires
 value-cell-requires c κs = search needs
 
--- src/lib.rt:366:5
 push-requires : tie.Need-push-requires
 push-requires c κs = search needs
 
--- src/lib.rt:357:1
 same-length : tie.Need-same-length
 same-length c = search needs
 
--- src/lib.rt:357:1
 returns-2 : tie.Need-returns-2
 returns-2 c = λ flags tr m o. rw (read-set (c .before .before .before .before .before .before .before .before .before .args .own .now) flags (c .before .before .before .before .before .before .before .before .before .args .x) (entries (c .before .before .before .before .before .before .before .before .before .args .st .now) (c .before .before .before .before .before .before .before .before .before .args .h)) (opened tr (c .before .before .before .before .before .before .before .before .before .args .t)) m (c .before .before .before .before .before .if1 .left), ← c .before .before .before .value-cell .ensures) (c .before .before .push .ensures tr m o)
 

@@ -1,44 +1,35 @@
+-- `instructions::settle` meets its contract.
+-- Assumes nothing.
 use Rattle.instructions.proofs.Stack.{settle-empty, settle-many, settle-nothing, settle-value}
 use native.Mathlib.Omega.{arith}
 use borrow.Author.Needs.{needs}
 use Rattle.instructions.proofs.settle.Statement.{statement}
 use Rattle.instructions.proofs.settle.Tie as tie
-use Rattle.instructions.proofs.settle.Reads as reads
-use Rattle.instructions.proofs.settle.Lts as lts
 
--- src/lib.rt:234:9
 returns : tie.Need-returns
 returns c = λ env tr m left p. settle-empty env left m _ _ _ (c .before .args .t) (c .before .pre) _ (c .if1 .taken)
 
--- src/lib.rt:236:16
 sub-c : tie.Need-sub-c
 sub-c c = search needs
 
--- src/lib.rt:236:13
 mul-c : tie.Need-mul-c
 mul-c c = search needs
 
--- src/lib.rt:236:13
 shared-slice-read-c : tie.Need-shared-slice-read-c
 shared-slice-read-c c = search needs
 
--- src/lib.rt:238:28
 sub-t11 : tie.Need-sub-t11
 sub-t11 c = search needs
 
--- src/lib.rt:238:9
 returns-2 : tie.Need-returns-2
 returns-2 c = λ env tr m left p. settle-nothing env left m _ _ _ _ (c .before .before .before .pre) tr p (omega arith) (c .if2 .taken)
 
--- src/lib.rt:241:25
 add-t12 : tie.Need-add-t12
 add-t12 c = search needs
 
--- src/lib.rt:241:9
 returns-3 : tie.Need-returns-3
 returns-3 c = λ env tr m left p. settle-value env left m _ _ _ _ (c .before .before .before .before .pre) tr p (omega arith) (c .before .if2 .left) (c .if3 .taken)
 
--- src/lib.rt:228:1
 returns-4 : tie.Need-returns-4
 returns-4 c = λ env tr m left p. settle-many env left m _ _ _ (c .before .before .before .before .args .t) (c .before .before .before .before .pre) _ (omega arith) (c .if3 .left)
 

@@ -1,10 +1,10 @@
+-- `instructions::step` meets its contract.
+-- Assumes nothing.
 use Rattle.instructions.proofs.Steps.{own-named, called-named, given-named, own-fits, called-fits, store-fits, override-fits}
 use Rattle.instructions.proofs.Steps.{does-own, does-called, does-given, does-store, does-override, does-pass}
 use borrow.Author.Needs.{needs}
 use Rattle.instructions.proofs.step.Statement.{statement}
 use Rattle.instructions.proofs.step.Tie as tie
-use Rattle.instructions.proofs.step.Reads as reads
-use Rattle.instructions.proofs.step.Lts as lts
 
 first-requires : tie.Need-first-requires
 first-requires c κs = search needs

@@ -1,79 +1,59 @@
+-- `instructions::store` meets its contract.
+-- Assumes nothing.
 use Rattle.instructions.proofs.Memory.{store-none, store-other, store-twice, store-go}
 use native.Mathlib.Omega.{arith}
 use borrow.Author.Needs.{needs}
 use Rattle.instructions.proofs.store.Statement.{statement}
 use Rattle.instructions.proofs.store.Tie as tie
-use Rattle.instructions.proofs.store.Reads as reads
-use Rattle.instructions.proofs.store.Lts as lts
-use Rattle.instructions.proofs.encode.Reads as encode-reads
-use Rattle.instructions.proofs.has_type.Reads as has-type-reads
-use Rattle.instructions.proofs.top_value.Reads as top-value-reads
 
--- src/lib.rt:387:11
 top-value-requires : tie.Need-top-value-requires
 top-value-requires c κs = search needs
 
--- src/lib.rt:388:26
 enum-told : tie.Need-enum-told
 enum-told c = search needs
 
--- src/lib.rt:389:24
 enum-known-v : tie.Need-enum-known-v
 enum-known-v c = search needs
 
--- src/lib.rt:390:17
 has-type-requires : tie.Need-has-type-requires
 has-type-requires c κs = search needs
 
--- src/lib.rt:391:17
 returns : tie.Need-returns
 returns c = store-other _ _ _ _ _ (c .before .before .before .before .before .top-value .ensures) (c .before .before .before .v .given .1) (c .before .has-type .ensures) (c .if1 .taken)
 
--- src/lib.rt:393:16
 mul-if2 : tie.Need-mul-if2
 mul-if2 c = search needs
 
--- src/lib.rt:393:16
 slice-read-if2 : tie.Need-slice-read-if2
 slice-read-if2 c = search needs
 
--- src/lib.rt:394:17
 returns-2 : tie.Need-returns-2
 returns-2 c = store-twice _ _ _ _ _ (c .before .before .before .before .before .before .before .top-value .ensures) (c .before .before .before .before .before .v .given .1) (c .before .before .before .has-type .ensures) (c .before .before .if1 .left) (c .if2 .taken)
 
--- src/lib.rt:396:22
 encode-requires : tie.Need-encode-requires
 encode-requires c κs = search needs
 
--- src/lib.rt:396:13
 mul-own : tie.Need-mul-own
 mul-own c = search needs
 
--- src/lib.rt:396:13
 slice-write-own : tie.Need-slice-write-own
 slice-write-own c = search needs
 
--- src/lib.rt:397:13
 slice-write-flags : tie.Need-slice-write-flags
 slice-write-flags c = search needs
 
--- src/lib.rt:398:25
 sub-t13 : tie.Need-sub-t13
 sub-t13 c = omega (arith, c .before .before .before .before .before .before .before .before .top-value .ensures .some _ (c .before .before .before .before .before .before .v .given .1) .1)
 
--- src/lib.rt:383:1
 returns-3 : tie.Need-returns-3
 returns-3 c = store-none _ _ _ _ _ (c .before .before .top-value .ensures) (c .enum-told .given .1)
 
--- src/lib.rt:383:1
 same-length : tie.Need-same-length
 same-length c = search needs
 
--- src/lib.rt:383:1
 same-length-2 : tie.Need-same-length-2
 same-length-2 c = search needs
 
--- src/lib.rt:383:1
 returns-4 : tie.Need-returns-4
 returns-4 c = store-go _ _ _ _ _ (c .before .before .before .before .before .before .before .before .top-value .ensures) (c .before .before .before .before .before .before .v .given .1) (c .before .before .before .before .has-type .ensures) (c .before .before .before .if1 .left) (c .before .if2 .left) (c .encode .ensures) (c .before .before .before .before .before .before .before .before .before .before .before .before .pre .0, c .before .before .before .before .before .before .before .before .before .before .before .before .pre .1) (c .before .before .before .before .before .before .before .before .before .before .before .before .pre .2) (c .before .before .before .before .before .before .before .before .before .before .before .before .pre .3)
 

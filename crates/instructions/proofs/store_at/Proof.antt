@@ -1,8 +1,8 @@
+-- `instructions::store_at` meets its contract.
+-- Assumes nothing.
 use borrow.Author.Needs.{needs}
 use Rattle.instructions.proofs.store_at.Statement.{statement}
 use Rattle.instructions.proofs.store_at.Tie as tie
-use Rattle.instructions.proofs.store_at.Reads as reads
-use Rattle.instructions.proofs.store_at.Lts as lts
 
 first-requires : tie.Need-first-requires
 first-requires c κs = search needs

@@ -1,34 +1,25 @@
+-- `instructions::suits` meets its contract.
+-- Assumes nothing.
 use Rattle.instructions.proofs.Stack.{suits-not, suits-both}
 use borrow.Author.Needs.{needs}
 use Rattle.instructions.proofs.suits.Statement.{statement}
 use Rattle.instructions.proofs.suits.Tie as tie
-use Rattle.instructions.proofs.suits.Reads as reads
-use Rattle.instructions.proofs.suits.Lts as lts
-use Rattle.instructions.proofs.has_type.Reads as has-type-reads
-use Rattle.instructions.proofs.type_in.Reads as type-in-reads
-use Rattle.typing.proofs.operand_type.Reads as operand-type-reads
 
--- src/lib.rt:173:35
 type-in-requires : tie.Need-type-in-requires
 type-in-requires c κs = search needs
 
--- src/lib.rt:173:9
 operand-type-requires : tie.Need-operand-type-requires
 operand-type-requires c κs = search needs
 
--- src/lib.rt:174:9
 has-type-requires : tie.Need-has-type-requires
 has-type-requires c κs = search needs
 
--- src/lib.rt:175:9
 returns : tie.Need-returns
 returns c = suits-not (c .before .before .before .before .args .op) (c .before .before .before .before .args .v) (c .before .before .before .before .args .w) (c .before .before .before .type-in .ensures) (c .before .before .operand-type .ensures) (c .before .has-type .ensures) (c .if1 .taken)
 
--- src/lib.rt:177:5
 has-type-requires-2 : tie.Need-has-type-requires-2
 has-type-requires-2 c κs = search needs
 
--- src/lib.rt:170:1
 returns-2 : tie.Need-returns-2
 returns-2 c = suits-both (c .before .before .before .before .before .args .op) (c .before .before .before .before .before .args .v) (c .before .before .before .before .before .args .w) (c .before .before .before .before .type-in .ensures) (c .before .before .before .operand-type .ensures) (c .before .before .has-type .ensures) (c .before .if1 .left) (c .has-type2 .ensures)
 

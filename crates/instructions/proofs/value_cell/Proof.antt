@@ -1,23 +1,19 @@
+-- `instructions::value_cell` meets its contract.
+-- Assumes nothing.
 use Rattle.instructions.proofs.Memory.{cell-zero, cell-small, cell-number}
 use borrow.Author.Needs.{needs}
 use Rattle.instructions.proofs.value_cell.Statement.{statement}
 use Rattle.instructions.proofs.value_cell.Tie as tie
-use Rattle.instructions.proofs.value_cell.Reads as reads
-use Rattle.instructions.proofs.value_cell.Lts as lts
 
--- src/lib.rt:313:9
 returns : tie.Need-returns
 returns c = cell-zero (c .if1 .taken)
 
--- src/lib.rt:316:9
 returns-2 : tie.Need-returns-2
 returns-2 c = cell-small _ (c .before .if1 .left) (c .if2 .taken)
 
--- src/lib.rt:318:5
 add-result : tie.Need-add-result
 add-result c = search needs
 
--- src/lib.rt:309:1
 returns-3 : tie.Need-returns-3
 returns-3 c = cell-number _ (c .if2 .left)
 
