@@ -3,12 +3,13 @@
 --     then                             marking some edges, and then others
 --     Marking                          with the edges that are left, `to` has all that `from` has and the whole
 --     start, turn, done                where nothing is marked yet, once some more is marked, where nothing is left
+--     each-none, each-more             marking the edges of a list's elements, one element after the other
 --     list-turn, list-done             turn and done, where what is left are the edges of a list's elements
 -- Assumes nothing.
 use Prim.Native.Nat.{ℕ, _<_, _≤_, _+_, _*_}
 use mathlib.Core.Path.{_≡_, refl, sym, ap, _∙_}
 use mathlib.Core.Bool.{Bool, true, false, _&&_, _||_, and-false, or-false, or-assoc}
-use mathlib.Core.List.{List}
+use mathlib.Core.List.{List, [], _∷_}
 use mathlib.Core.Logic.{⊎-elim}
 use native.Mathlib.Omega.{arith}
 use native.Mathlib.Numerals.{add-one}
@@ -108,6 +109,15 @@ module _ (from : List ℕ) (left whole : ℕ → ℕ → Bool) where
 -- the edges of a list's elements
 unfoldable pub anyEdge : {A : Type 0} → (A → ℕ → ℕ → Bool) → List A → ℕ → ℕ → Bool
 anyEdge f xs x y = any (λ a. f a x y) xs
+
+module _ {A : Type 0} (f : A → ℕ → ℕ → Bool) where
+  pub each-none : (from : List ℕ) → Marked from from (anyEdge f [])
+  unfolding anyEdge any
+  each-none from = record { long = refl; edges = λ x y l m. sym (or-false (edgeOf from x y)) }
+
+  pub each-more : (a : A) (rest : List A) (from mid to : List ℕ) → Marked from mid (f a) → Marked mid to (anyEdge f rest) → Marked from to (anyEdge f (a ∷ rest))
+  unfolding anyEdge any
+  each-more a rest from mid to g h = then from mid to (f a) (anyEdge f rest) (anyEdge f (a ∷ rest)) g h (λ x y l m. refl)
 
 module _ {A : Type 0} (f : A → ℕ → ℕ → Bool) (xs : List A) (from to : List ℕ) (whole : ℕ → ℕ → Bool) (k : ℕ)
     (g : Marking from to (anyEdge f (drop k xs)) whole) where

@@ -1,7 +1,8 @@
 -- What a node's term reads, marked in a row of a matrix.
 --     read-none                  a number that names no node below the limit reads nothing
---     operandsLeft, operands-start, operands-turn, operands-done     the reads of a node's operands from the k-th on
+--     ownStep, operandsOf        the step that a node itself reads, and the nodes that it names; leaf, a node that has neither
 --     read-all                   a node's own read, then those of its operands
+--     can-mark                   what marking the reads of an operand rests on
 -- Assumes nothing.
 use Prim.Native.Nat.{ℕ, _<_, _≤_, _+_}
 use mathlib.Core.Path.{_≡_, refl, sym, ap, _∙_}
@@ -9,9 +10,11 @@ use mathlib.Core.Bool.{Bool, true, false, _&&_, _||_, and-false, or-false, and-o
 use mathlib.Core.List.{List, [], _∷_}
 use mathlib.Core.Logic.{⊎-elim}
 use native.Mathlib.Omega.{arith}
-use lib.ListN.{length, getD, drop}
+use lib.ListN.{length}
 use lib.Dec.{eqb}
 use borrow.Author.Tests.{eqb-true, ne-eqb}
+use denote.Enum.Declared.{tagOf}
+use types.Run.{OneOf, miss}
 use Rattle.order.specs.Matrix.{edgeOf}
 use Rattle.calculus.specs.Terms.{Term, Terms, error, none}
 use Rattle.calculus.specs.declared.Cause.the-variants.{Empty}
@@ -23,10 +26,48 @@ use Rattle.book.specs.Steps.{reads, readsAny}
 use Rattle.book.specs.Tables.{nodeAt}
 use Rattle.book.specs.declared.Node.{Node}
 use Rattle.book.specs.declared.Node.the-variants as node
-use Rattle.steps.specs.Edges.{oneEdge, operandsOf, readBy, readEdges, Marked}
+use Rattle.book.proofs.Node.{the-type}
+use Rattle.steps.specs.Edges.{oneEdge, readEdges, Marked, CanMark}
 use Rattle.order.proofs.Booleans.{decide}
 use Rattle.book.proofs.Terms.{term-past, term-here}
-use Rattle.steps.proofs.Marking.{Marking, anyEdge, then, start, list-turn, list-done}
+use Rattle.steps.proofs.Marking.{anyEdge, no-column, then, each-none}
+
+-- in a scope with v variables; 40, which is no step, where a node itself reads none
+abbrev pub ownStep : ℕ → Node → ℕ
+ownStep v (node.Constant b) = 40
+ownStep v (node.Number z) = 40
+ownStep v (node.Own x) = x
+ownStep v (node.Called k x) = v + k
+ownStep v (node.Empty t) = 40
+ownStep v (node.Conflict t) = 40
+ownStep v (node.Unary op a) = 40
+ownStep v (node.Binary op a b) = 40
+ownStep v (node.Choice c a b) = 40
+ownStep v (node.Default x y z j c) = 40
+
+abbrev pub operandsOf : Node → List ℕ
+operandsOf (node.Constant b) = []
+operandsOf (node.Number z) = []
+operandsOf (node.Own x) = []
+operandsOf (node.Called k x) = []
+operandsOf (node.Empty t) = []
+operandsOf (node.Conflict t) = []
+operandsOf (node.Unary op a) = a ∷ []
+operandsOf (node.Binary op a b) = a ∷ b ∷ []
+operandsOf (node.Choice c a b) = c ∷ a ∷ b ∷ []
+operandsOf (node.Default x y z j c) = x ∷ y ∷ z ∷ j ∷ c ∷ []
+
+pub leaf : (v : ℕ) (nd : Node) → OneOf (0 ∷ 1 ∷ 4 ∷ 5 ∷ []) (tagOf the-type nd) → (ownStep v nd ≡ 40) × (operandsOf nd ≡ [])
+leaf v (node.Constant b) h = (refl, refl)
+leaf v (node.Number z) h = (refl, refl)
+leaf v (node.Own x) h = absurd (miss (0 ∷ 1 ∷ 4 ∷ 5 ∷ []) 2 tt h)
+leaf v (node.Called k x) h = absurd (miss (0 ∷ 1 ∷ 4 ∷ 5 ∷ []) 3 tt h)
+leaf v (node.Empty t) h = (refl, refl)
+leaf v (node.Conflict t) h = (refl, refl)
+leaf v (node.Unary op a) h = absurd (miss (0 ∷ 1 ∷ 4 ∷ 5 ∷ []) 6 tt h)
+leaf v (node.Binary op a b) h = absurd (miss (0 ∷ 1 ∷ 4 ∷ 5 ∷ []) 7 tt h)
+leaf v (node.Choice c a b) h = absurd (miss (0 ∷ 1 ∷ 4 ∷ 5 ∷ []) 8 tt h)
+leaf v (node.Default x y z j c) h = absurd (miss (0 ∷ 1 ∷ 4 ∷ 5 ∷ []) 9 tt h)
 
 -- What a node reads, by what its operands do
 
@@ -53,19 +94,18 @@ module _ (v w : ℕ) (lower : ℕ → Term) (absent : lower 255 ≡ error Empty)
       (λ (q : eqb e 255 ≡ false). rw q)
       (decide (eqb e 255))
 
-  reads-node : (nd : Node) → w < 40 → reads v w (nodeTerm lower nd) ≡ (eqb (readBy v nd) w || any of (operandsOf nd))
-  unfolding reads readsAny readBy operandsOf any of
-  reads-node (node.Constant b) l = rw (ne-eqb 40 w (omega arith), absent)
-  reads-node (node.Number z) l = rw (ne-eqb 40 w (omega arith), absent)
-  reads-node (node.Own x) l = rw absent (sym (or-false (eqb x w)))
-  reads-node (node.Called k x) l = rw absent (sym (or-false (eqb (v + k) w)))
-  reads-node (node.Empty t) l = rw (ne-eqb 40 w (omega arith), absent)
-  reads-node (node.Conflict t) l = rw (ne-eqb 40 w (omega arith), absent)
-  reads-node (node.Unary op a) l = rw (ne-eqb 40 w (omega arith), absent) (sym (or-false (of a)))
-  reads-node (node.Binary op a b) l =
-      rw (ne-eqb 40 w (omega arith), absent) (ap (λ (t : Bool). of a || t) (sym (or-false (of b))))
+  reads-node : (nd : Node) → w < 40 → reads v w (nodeTerm lower nd) ≡ (eqb (ownStep v nd) w || any of (operandsOf nd))
+  unfolding reads readsAny any of
+  reads-node (node.Constant b) l = rw (ne-eqb 40 w (omega arith))
+  reads-node (node.Number z) l = rw (ne-eqb 40 w (omega arith))
+  reads-node (node.Own x) l = sym (or-false (eqb x w))
+  reads-node (node.Called k x) l = sym (or-false (eqb (v + k) w))
+  reads-node (node.Empty t) l = rw (ne-eqb 40 w (omega arith))
+  reads-node (node.Conflict t) l = rw (ne-eqb 40 w (omega arith))
+  reads-node (node.Unary op a) l = rw (ne-eqb 40 w (omega arith)) (sym (or-false (of a)))
+  reads-node (node.Binary op a b) l = rw (ne-eqb 40 w (omega arith)) (ap (λ (t : Bool). of a || t) (sym (or-false (of b))))
   reads-node (node.Choice c a b) l =
-      rw (ne-eqb 40 w (omega arith), absent) (ap (λ (t : Bool). of c || (of a || t)) (sym (or-false (of b))))
+      rw (ne-eqb 40 w (omega arith)) (ap (λ (t : Bool). of c || (of a || t)) (sym (or-false (of b))))
   reads-node (node.Default x y z j c) l =
       rw (ne-eqb 40 w (omega arith))
       (ap (λ (t : Bool). t || (of j || of c))
@@ -79,42 +119,7 @@ unfolding any
 any-and b p [] = sym (and-false b)
 any-and b p (x ∷ xs) = ap (λ (t : Bool). b && p x || t) (any-and b p xs) ∙ sym (and-or-distrib-left b (p x) (any p xs))
 
-pub operands-five : (nd : Node) → length (operandsOf nd) ≡ 5
-unfolding operandsOf
-operands-five (node.Constant b) = refl
-operands-five (node.Number z) = refl
-operands-five (node.Own x) = refl
-operands-five (node.Called k x) = refl
-operands-five (node.Empty t) = refl
-operands-five (node.Conflict t) = refl
-operands-five (node.Unary op a) = refl
-operands-five (node.Binary op a b) = refl
-operands-five (node.Choice c a b) = refl
-operands-five (node.Default x y z j c) = refl
-
 -- Marks of what is read
-
--- in a row, the reads of the operands from the k-th on
-unfoldable pub operandsLeft : List Scope → ℕ → ℕ → ℕ → List ℕ → ℕ → ℕ → ℕ → Bool
-operandsLeft book i row n ops k = anyEdge (readEdges book i row n) (drop k ops)
-
-module _ (book : List Scope) (i row n : ℕ) (ops : List ℕ) (from : List ℕ) where
-  pub operands-start : Marking from from (operandsLeft book i row n ops 0) (operandsLeft book i row n ops 0)
-  operands-start = start from (operandsLeft book i row n ops 0) (operandsLeft book i row n ops 0) (λ x y l m. refl)
-
-  module _ (to : List ℕ) (k : ℕ) (g : Marking from to (operandsLeft book i row n ops k) (operandsLeft book i row n ops 0)) where
-    pub operands-turn : (nd : Node) → ops ≡ operandsOf nd → k < 5 → (next : List ℕ) → Marked to next (readEdges book i row n (getD ops k 0))
-        → Marking from next (operandsLeft book i row n ops (k + 1)) (operandsLeft book i row n ops 0)
-    unfolding operandsLeft
-    operands-turn nd e l next h =
-        let long : length ops ≡ 5 = ap length e ∙ operands-five nd in
-        list-turn (readEdges book i row n) ops from to (operandsLeft book i row n ops 0) k g next 0 (omega arith) h
-
-    pub operands-done : (nd : Node) → ops ≡ operandsOf nd → 5 ≤ k → Marked from to (operandsLeft book i row n ops 0)
-    unfolding operandsLeft
-    operands-done nd e l =
-        let long : length ops ≡ 5 = ap length e ∙ operands-five nd in
-        list-done (readEdges book i row n) ops from to (operandsLeft book i row n ops 0) k g (omega arith)
 
 module _ (book : List Scope) (i row limit n : ℕ) where
   pub read-none : (from : List ℕ) → limit ≤ n → Marked from from (readEdges book i row limit n)
@@ -130,8 +135,8 @@ module _ (book : List Scope) (i row limit n : ℕ) where
   module _ (few : length (scopeAt book i .nodes) ≤ 250) (below : limit ≤ length (scopeAt book i .nodes)) (here : n < limit)
       (nd : Node) (is : nd ≡ nodeAt book i n) where
     read-split : (x y : ℕ) → y < 40
-        → readEdges book i row limit n x y ≡ (oneEdge row (readBy (length (scopeAt book i .variables)) nd) x y || operandsLeft book i row n (operandsOf nd) 0 x y)
-    unfolding readEdges oneEdge operandsLeft anyEdge nodeAt of
+        → readEdges book i row limit n x y ≡ (oneEdge row (ownStep (length (scopeAt book i .variables)) nd) x y || anyEdge (readEdges book i row n) (operandsOf nd) x y)
+    unfolding readEdges oneEdge anyEdge nodeAt of
     read-split x y l =
         let s = scopeAt book i in
         let v = length (s .variables) in
@@ -140,15 +145,27 @@ module _ (book : List Scope) (i row limit n : ℕ) where
         let term : termBelow (s .nodes) limit n ≡ nodeTerm lower nd = term-here (s .nodes) limit n here ∙ ap (nodeTerm lower) (sym is) in
         ap (λ (t : Term). eqb row x && reads v y t) term
         ∙ ap (λ (t : Bool). eqb row x && t) (reads-node v y lower absent nd l)
-        ∙ and-or-distrib-left (eqb row x) (eqb (readBy v nd) y) (any (λ a. reads v y (lower a)) (operandsOf nd))
-        ∙ ap (λ (t : Bool). eqb row x && eqb (readBy v nd) y || t) (sym (any-and (eqb row x) (λ a. reads v y (lower a)) (operandsOf nd)))
+        ∙ and-or-distrib-left (eqb row x) (eqb (ownStep v nd) y) (any (λ a. reads v y (lower a)) (operandsOf nd))
+        ∙ ap (λ (t : Bool). eqb row x && eqb (ownStep v nd) y || t) (sym (any-and (eqb row x) (λ a. reads v y (lower a)) (operandsOf nd)))
 
-    pub read-all : (from own to : List ℕ) (variables step : ℕ) (ops : List ℕ) → variables ≡ length (scopeAt book i .variables)
-        → step ≡ readBy variables nd → ops ≡ operandsOf nd
-        → Marked from own (oneEdge row step) → Marked own to (operandsLeft book i row n ops 0) → Marked from to (readEdges book i row limit n)
-    read-all from own to variables step ops ev es eo g h =
+    pub read-all : (from own to : List ℕ) → Marked from own (oneEdge row (ownStep (length (scopeAt book i .variables)) nd))
+        → Marked own to (anyEdge (readEdges book i row n) (operandsOf nd)) → Marked from to (readEdges book i row limit n)
+    read-all from own to g h =
         let v = length (scopeAt book i .variables) in
-        let one : oneEdge row step ≡ oneEdge row (readBy v nd) = rw (es, ev) in
-        let rest : operandsLeft book i row n ops 0 ≡ operandsLeft book i row n (operandsOf nd) 0 = rw eo in
-        then from own to (oneEdge row step) (operandsLeft book i row n ops 0) (readEdges book i row limit n) g h
-        (λ x y a b. cc (one, rest, read-split x y b))
+        then from own to (oneEdge row (ownStep v nd)) (anyEdge (readEdges book i row n) (operandsOf nd)) (readEdges book i row limit n) g h
+        (λ x y a b. read-split x y b)
+
+    -- of a node that itself reads nothing
+    pub read-operands : (from to : List ℕ) → ownStep (length (scopeAt book i .variables)) nd ≡ 40
+        → Marked from to (anyEdge (readEdges book i row n) (operandsOf nd)) → Marked from to (readEdges book i row limit n)
+    read-operands from to e h = read-all from from to (rw e (no-column from row 40 (omega arith))) h
+
+    pub read-leaf : OneOf (0 ∷ 1 ∷ 4 ∷ 5 ∷ []) (tagOf the-type nd) → (from : List ℕ) → Marked from from (readEdges book i row limit n)
+    read-leaf h from =
+        let q = leaf (length (scopeAt book i .variables)) nd h in
+        read-operands from from (q .0) (rw (q .1) (each-none (readEdges book i row n) from))
+
+pub can-mark : (bytes places counts : List ℕ) (i limit n : ℕ) (from to : List ℕ) → CanMark bytes places counts i limit from → n < limit
+    → length to ≡ length from → CanMark bytes places counts i n to
+can-mark bytes places counts i limit n from to g l e =
+    record { tables = g .tables; below = omega (arith, g .below); size = e ∙ g .size }

@@ -2,7 +2,7 @@
 use Prim.Native.Nat.{ℕ, _+_, _<_, _≤_}
 use mathlib.Core.Path.{_≡_}
 use mathlib.Core.Bool.{Bool, cond, _&&_, _||_}
-use mathlib.Core.List.{List, [], _∷_}
+use mathlib.Core.List.{List}
 use lib.ListN.{length}
 use lib.Dec.{eqb}
 use Rattle.order.specs.Matrix.{edgeOf}
@@ -15,8 +15,6 @@ use Rattle.book.specs.Steps.{reads, stepOf, clauseReads}
 use Rattle.book.specs.Tables.{clauseAt}
 use Rattle.steps.specs.Limits.{Tabled}
 use Rattle.book.specs.declared.Clause.{Clause}
-use Rattle.book.specs.declared.Node.{Node}
-use Rattle.book.specs.declared.Node.the-variants.{Constant, Number, Own, Called, Empty, Conflict, Unary, Binary, Choice, Default}
 
 -- the edge from v to w alone
 unfoldable pub oneEdge : ℕ → ℕ → ℕ → ℕ → Bool
@@ -25,32 +23,6 @@ oneEdge v w x y = eqb v x && eqb w y
 -- the calls of scope i
 unfoldable pub callEdges : List Scope → ℕ → ℕ → ℕ → Bool
 callEdges book i x y = eqb i x && calls book i y
-
--- the nodes that a node names, in five places; 255 where a place names none
-unfoldable pub operandsOf : Node → List ℕ
-operandsOf (Constant b) = 255 ∷ 255 ∷ 255 ∷ 255 ∷ 255 ∷ []
-operandsOf (Number z) = 255 ∷ 255 ∷ 255 ∷ 255 ∷ 255 ∷ []
-operandsOf (Own v) = 255 ∷ 255 ∷ 255 ∷ 255 ∷ 255 ∷ []
-operandsOf (Called k v) = 255 ∷ 255 ∷ 255 ∷ 255 ∷ 255 ∷ []
-operandsOf (Empty t) = 255 ∷ 255 ∷ 255 ∷ 255 ∷ 255 ∷ []
-operandsOf (Conflict t) = 255 ∷ 255 ∷ 255 ∷ 255 ∷ 255 ∷ []
-operandsOf (Unary op a) = a ∷ 255 ∷ 255 ∷ 255 ∷ 255 ∷ []
-operandsOf (Binary op a b) = a ∷ b ∷ 255 ∷ 255 ∷ 255 ∷ []
-operandsOf (Choice c a b) = c ∷ a ∷ b ∷ 255 ∷ 255 ∷ []
-operandsOf (Default x y z j c) = x ∷ y ∷ z ∷ j ∷ c ∷ []
-
--- the step that a node itself reads, in a scope with v variables; 40, which is no step, where it reads none
-unfoldable pub readBy : ℕ → Node → ℕ
-readBy v (Constant b) = 40
-readBy v (Number z) = 40
-readBy v (Own x) = x
-readBy v (Called k x) = v + k
-readBy v (Empty t) = 40
-readBy v (Conflict t) = 40
-readBy v (Unary op a) = 40
-readBy v (Binary op a b) = 40
-readBy v (Choice c a b) = 40
-readBy v (Default x y z j c) = 40
 
 -- in a row, what the term of node n reads, as it stands among the nodes below a limit
 unfoldable pub readEdges : List Scope → ℕ → ℕ → ℕ → ℕ → ℕ → ℕ → Bool

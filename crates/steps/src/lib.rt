@@ -22,7 +22,7 @@ ghost use Rattle.book.specs.References.{scopeAt};
 ghost use Rattle.book.specs.Steps.{stepCount, dependsOn, stepOrder};
 ghost use Rattle.book.specs.Tables.{Laid};
 ghost use Rattle.steps.specs.Limits.{Scoped, Tabled, WholeOrder};
-ghost use Rattle.steps.specs.Edges.{oneEdge, callEdges, operandsOf, readBy, readEdges, stepWith, clauseEdges, Marked, CanMark};
+ghost use Rattle.steps.specs.Edges.{oneEdge, callEdges, readEdges, stepWith, clauseEdges, Marked, CanMark};
 ghost use Rattle.steps.specs.Answers.{Written, StepsFilled, Weight, weightBy, Weighed};
 
 // The most vertices of a graph, and the bytes of a matrix's row.
@@ -148,43 +148,6 @@ pub fn fill_weights(
     false
 }
 
-// The nodes that a node names, in five places: 255 where a place names none.
-fn operands_of(node: Node) -> [u8; 5]
-    ensures { λ r. ⌜ r ≡ operandsOf node ⌝ }
-{
-    match node {
-        Node::Constant(_) => [255, 255, 255, 255, 255],
-        Node::Number(_) => [255, 255, 255, 255, 255],
-        Node::Own(_) => [255, 255, 255, 255, 255],
-        Node::Called(_, _) => [255, 255, 255, 255, 255],
-        Node::Empty(_) => [255, 255, 255, 255, 255],
-        Node::Conflict(_) => [255, 255, 255, 255, 255],
-        Node::Unary(_, a) => [a, 255, 255, 255, 255],
-        Node::Binary(_, a, b) => [a, b, 255, 255, 255],
-        Node::Choice(c, a, b) => [c, a, b, 255, 255],
-        Node::Default(x, y, z, j, c) => [x, y, z, j, c],
-    }
-}
-
-// The step that a node itself reads, in a scope with some number of variables: 40 where it reads none.
-fn read_by(variables: usize, node: Node) -> usize
-    requires { ⌜ variables ≤ 32 ⌝ }
-    ensures { λ r. ⌜ r ≡ readBy variables node ⌝ }
-{
-    match node {
-        Node::Constant(_) => WIDTH,
-        Node::Number(_) => WIDTH,
-        Node::Own(x) => x as usize,
-        Node::Called(k, _) => variables + k as usize,
-        Node::Empty(_) => WIDTH,
-        Node::Conflict(_) => WIDTH,
-        Node::Unary(_, _) => WIDTH,
-        Node::Binary(_, _, _) => WIDTH,
-        Node::Choice(_, _, _) => WIDTH,
-        Node::Default(_, _, _, _, _) => WIDTH,
-    }
-}
-
 // Marks, in a row, what node n reads, with the nodes under it. Only nodes below the limit count.
 fn mark_reads(
     book: &[u8],
@@ -203,18 +166,28 @@ fn mark_reads(
     if limit <= at {
         return;
     }
-    let node = node_at(book, places, counts, i, at);
     let variables = variable_count(book, places, counts, i);
-    let step = read_by(variables, node);
-    mark(deps, row, step);
-    let operands = operands_of(node);
-    let mut k: usize = 0;
-    while k < 5 {
-        let operand = operands[k];
-        if (operand as usize) < at {
-            mark_reads(book, places, counts, i, row, at, operand, deps);
+    match node_at(book, places, counts, i, at) {
+        Node::Constant(_) | Node::Number(_) | Node::Empty(_) | Node::Conflict(_) => {}
+        Node::Own(x) => mark(deps, row, x as usize),
+        Node::Called(k, _) => mark(deps, row, variables + k as usize),
+        Node::Unary(_, a) => mark_reads(book, places, counts, i, row, at, a, deps),
+        Node::Binary(_, a, b) => {
+            mark_reads(book, places, counts, i, row, at, a, deps);
+            mark_reads(book, places, counts, i, row, at, b, deps)
         }
-        k += 1;
+        Node::Choice(c, a, b) => {
+            mark_reads(book, places, counts, i, row, at, c, deps);
+            mark_reads(book, places, counts, i, row, at, a, deps);
+            mark_reads(book, places, counts, i, row, at, b, deps)
+        }
+        Node::Default(x, y, z, j, c) => {
+            mark_reads(book, places, counts, i, row, at, x, deps);
+            mark_reads(book, places, counts, i, row, at, y, deps);
+            mark_reads(book, places, counts, i, row, at, z, deps);
+            mark_reads(book, places, counts, i, row, at, j, deps);
+            mark_reads(book, places, counts, i, row, at, c, deps)
+        }
     }
 }
 
@@ -271,7 +244,7 @@ fn step_count(book: &[u8], places: &[u16], counts: &[u8], i: usize) -> usize
 
 // The order of scope i's steps, written from the first byte of `out`; no later byte changes. Answers its length: fewer than all steps
 // exactly where there is a dependency cycle.
-pub fn step_order(book: &[u8], places: &[u16], counts: &[u8], i: usize, out: &mut [u8]) -> usize
+fn step_order(book: &[u8], places: &[u16], counts: &[u8], i: usize, out: &mut [u8]) -> usize
     requires { ⌜ Tabled (now book) (now places) (now counts) × (40 ≤ length (now out)) ⌝ }
     ensures { λ r. ⌜ Written (stepOrder (scopeAt (scopesOf (now (book .entry))) i)) (now (out .entry)) r (now (out .exit)) ⌝ }
 {

@@ -1,12 +1,10 @@
--- `steps::mark_reads` meets its contract. The measure is the limit. The loop's invariant: with what the operands from the k-th on read, all is marked.
+-- `steps::mark_reads` meets its contract. The measure is the limit.
 -- Assumes nothing.
-use Prim.Native.Nat.{ℕ, _<_, _≤_, _-_}
-use mathlib.Core.Path.{_∙_}
-use mathlib.Core.Logic.{⊎-elim}
+use Prim.Native.Nat.{ℕ, _<_}
+use mathlib.Core.Path.{refl, sym, _∙_}
 use native.Mathlib.Omega.{arith}
-use Rattle.book.specs.Decode.{scopesOf}
-use Rattle.steps.proofs.Marking.{Marking}
-use Rattle.steps.proofs.Reading.{read-none, operandsLeft, operands-start, operands-turn, operands-done, read-all}
+use Rattle.steps.proofs.Marking.{each-none, each-more}
+use Rattle.steps.proofs.Reading.{read-none, read-all, read-operands, read-leaf, can-mark}
 use borrow.Author.Needs.{needs}
 use borrow.Fn.Kinds.{In}
 use borrow.Fn.PlainCycle.{Measures, is, falls, and}
@@ -16,8 +14,6 @@ use Rattle.steps.proofs.+mark_reads.Lts-mark_reads as mark-reads-lts
 use Rattle.book.proofs.node_at.Reads as node-at-reads
 use Rattle.book.proofs.variable_count.Reads as variable-count-reads
 use Rattle.steps.proofs.mark.Reads as mark-reads′
-use Rattle.steps.proofs.operands_of.Reads as operands-of-reads
-use Rattle.steps.proofs.read_by.Reads as read-by-reads
 use Rattle.steps.proofs.+mark_reads.{statement}
 use Rattle.steps.proofs.+mark_reads.Tie.{close}
 
@@ -32,98 +28,163 @@ abbrev mark-reads-below : ℕ → In 4 mark-reads-kinds.ps
 mark-reads-below t =
     and 4 mark-reads-kinds.ps (falls 4 mark-reads-kinds.ps _<_ μ-mark-reads t) mark-reads.Pre
 
-abbrev mark-reads-Inv-loop : mark-reads-lts.InvT-loop
-mark-reads-Inv-loop book places counts i row limit n deps₀ at variables step operands k₀ deps k =
-    (k ≤ 5) × Marking deps₀ deps (operandsLeft (scopesOf book) i row n operands k) (operandsLeft (scopesOf book) i row n operands 0)
-
-abbrev mark-reads-μ-loop : mark-reads-lts.MeasureT-loop
-mark-reads-μ-loop book places counts i row limit n deps₀ at variables step operands k₀ deps k = 5 - k
-
 abbrev R-mark-reads : ℕ → mark-reads-lts.Claims
 R-mark-reads t =
-    (node-at-reads.Asked, node-at-reads.Learnt, variable-count-reads.Asked, variable-count-reads.Learnt, read-by-reads.Asked, read-by-reads.Learnt, mark-reads′.Asked, mark-reads′.Learnt, operands-of-reads.Asked, operands-of-reads.Learnt, mark-reads-below t, mark-reads.Post)
+    (variable-count-reads.Asked, variable-count-reads.Learnt, node-at-reads.Asked, node-at-reads.Learnt, mark-reads′.Asked, mark-reads′.Learnt, mark-reads-below t, mark-reads.Post)
 
-mark-reads-returns : (t : ℕ) → mark-reads-lts.Need-returns (R-mark-reads t) (mark-reads-at t) mark-reads.Post mark-reads-Inv-loop mark-reads-μ-loop
+mark-reads-returns : (t : ℕ) → mark-reads-lts.Need-returns (R-mark-reads t) (mark-reads-at t) mark-reads.Post
 mark-reads-returns t c = read-none _ _ _ _ _ _ (c .if1 .taken)
 
-mark-reads-node-at-requires : (t : ℕ) → mark-reads-lts.Need-node-at-requires (R-mark-reads t) (mark-reads-at t) mark-reads.Post mark-reads-Inv-loop mark-reads-μ-loop
-mark-reads-node-at-requires t c κs = search needs
-
-mark-reads-variable-count-requires : (t : ℕ) → mark-reads-lts.Need-variable-count-requires (R-mark-reads t) (mark-reads-at t) mark-reads.Post mark-reads-Inv-loop mark-reads-μ-loop
+mark-reads-variable-count-requires : (t : ℕ) → mark-reads-lts.Need-variable-count-requires (R-mark-reads t) (mark-reads-at t) mark-reads.Post
 mark-reads-variable-count-requires t c κs = search needs
 
-mark-reads-read-by-requires : (t : ℕ) → mark-reads-lts.Need-read-by-requires (R-mark-reads t) (mark-reads-at t) mark-reads.Post mark-reads-Inv-loop mark-reads-μ-loop
-mark-reads-read-by-requires t c κs =
-    let s = c .before .before .before .before .before .before .before in
-    rw (c .variable-count .ensures) (s .pre .1 .tables .within .variables (s .args .i))
+mark-reads-node-at-requires : (t : ℕ) → mark-reads-lts.Need-node-at-requires (R-mark-reads t) (mark-reads-at t) mark-reads.Post
+mark-reads-node-at-requires t c κs = search needs
 
-mark-reads-mark-requires : (t : ℕ) → mark-reads-lts.Need-mark-requires (R-mark-reads t) (mark-reads-at t) mark-reads.Post mark-reads-Inv-loop mark-reads-μ-loop
-mark-reads-mark-requires t c κs = c .before .before .before .before .before .before .before .before .before .pre .1 .size
+mark-reads-enum-known-x : (t : ℕ) → mark-reads-lts.Need-enum-known-x (R-mark-reads t) (mark-reads-at t) mark-reads.Post
+mark-reads-enum-known-x t c = search needs
 
-mark-reads-operands-of-requires : (t : ℕ) → mark-reads-lts.Need-operands-of-requires (R-mark-reads t) (mark-reads-at t) mark-reads.Post mark-reads-Inv-loop mark-reads-μ-loop
-mark-reads-operands-of-requires t c κs = search needs
+mark-reads-cast-mark : (t : ℕ) → mark-reads-lts.Need-cast-mark (R-mark-reads t) (mark-reads-at t) mark-reads.Post
+mark-reads-cast-mark t c = search needs
 
-mark-reads-loop-holds : (t : ℕ) → mark-reads-lts.Need-loop-holds (R-mark-reads t) (mark-reads-at t) mark-reads.Post mark-reads-Inv-loop mark-reads-μ-loop
-mark-reads-loop-holds t c = (omega arith, operands-start _ _ _ _ _ _)
+mark-reads-mark-requires : (t : ℕ) → mark-reads-lts.Need-mark-requires (R-mark-reads t) (mark-reads-at t) mark-reads.Post
+mark-reads-mark-requires t c κs = search needs
 
-mark-reads-array-read-operand : (t : ℕ) → mark-reads-lts.Need-array-read-operand (R-mark-reads t) (mark-reads-at t) mark-reads.Post mark-reads-Inv-loop mark-reads-μ-loop
-mark-reads-array-read-operand t c = omega arith
+mark-reads-enum-known-k : (t : ℕ) → mark-reads-lts.Need-enum-known-k (R-mark-reads t) (mark-reads-at t) mark-reads.Post
+mark-reads-enum-known-k t c = search needs
 
-mark-reads-cast-if2 : (t : ℕ) → mark-reads-lts.Need-cast-if2 (R-mark-reads t) (mark-reads-at t) mark-reads.Post mark-reads-Inv-loop mark-reads-μ-loop
-mark-reads-cast-if2 t c = search needs
+mark-reads-cast-mark-2 : (t : ℕ) → mark-reads-lts.Need-cast-mark-2 (R-mark-reads t) (mark-reads-at t) mark-reads.Post
+mark-reads-cast-mark-2 t c = search needs
 
-mark-reads-mark-reads-requires : (t : ℕ) → mark-reads-lts.Need-mark-reads-requires (R-mark-reads t) (mark-reads-at t) mark-reads.Post mark-reads-Inv-loop mark-reads-μ-loop
-mark-reads-mark-reads-requires t c κs =
-    let s = c .before .before .before .before .before .before .before .before .before .before .before .before .before .before .before .before .before in
-    (omega arith, record { tables = s .pre .1 .tables; below = omega (arith, s .pre .1 .below); size = omega (arith, s .pre .1 .size, c .before .before .before .before .before .before .before .mark .ensures .long, c .before .before .before .loop .inv .1 .long) })
+mark-reads-add-mark : (t : ℕ) → mark-reads-lts.Need-add-mark (R-mark-reads t) (mark-reads-at t) mark-reads.Post
+mark-reads-add-mark t c = let l = c .before .before .before .before .before .before .before .before .before .before .before .pre .1 .tables .within .variables (c .before .before .before .before .before .before .before .before .before .before .before .args .i) in let e = c .before .before .before .before .before .variable-count .ensures in omega arith
 
-mark-reads-add-k : (t : ℕ) → mark-reads-lts.Need-add-k (R-mark-reads t) (mark-reads-at t) mark-reads.Post mark-reads-Inv-loop mark-reads-μ-loop
-mark-reads-add-k t c = omega arith
+mark-reads-mark-requires-2 : (t : ℕ) → mark-reads-lts.Need-mark-requires-2 (R-mark-reads t) (mark-reads-at t) mark-reads.Post
+mark-reads-mark-requires-2 t c κs = search needs
 
-mark-reads-loop-less : (t : ℕ) → mark-reads-lts.Need-loop-less (R-mark-reads t) (mark-reads-at t) mark-reads.Post mark-reads-Inv-loop mark-reads-μ-loop
-mark-reads-loop-less t c = omega arith
+mark-reads-enum-known-a : (t : ℕ) → mark-reads-lts.Need-enum-known-a (R-mark-reads t) (mark-reads-at t) mark-reads.Post
+mark-reads-enum-known-a t c = search needs
 
-mark-reads-loop-again : (t : ℕ) → mark-reads-lts.Need-loop-again (R-mark-reads t) (mark-reads-at t) mark-reads.Post mark-reads-Inv-loop mark-reads-μ-loop
-mark-reads-loop-again t c =
-    let m = c .before in (
-      omega arith,
-      ⊎-elim
-          (λ a. rw (a .5) (operands-turn _ _ _ _ _ _ _ _ (m .before .loop .inv .1) _ (m .before .before .operands-of .ensures) (m .loop-test .taken) _ (a .2 .ensures)))
-          (λ a. rw (a .1) (operands-turn _ _ _ _ _ _ _ _ (m .before .loop .inv .1) _ (m .before .before .operands-of .ensures) (m .loop-test .taken) _ (read-none _ _ _ _ _ _ (a .0 .left))))
-          (c .if2 .came),
-    )
+mark-reads-mark-reads-requires : (t : ℕ) → mark-reads-lts.Need-mark-reads-requires (R-mark-reads t) (mark-reads-at t) mark-reads.Post
+mark-reads-mark-reads-requires t c κs = (omega (arith, c .before .before .before .before .before .before .before .before .before .before .before .pre .0, c .before .before .before .before .before .before .if1 .left), can-mark _ _ _ _ _ _ _ _ (c .before .before .before .before .before .before .before .before .before .before .before .pre .1) (c .before .before .before .before .before .before .if1 .left) (refl))
 
-mark-reads-same-length : (t : ℕ) → mark-reads-lts.Need-same-length (R-mark-reads t) (mark-reads-at t) mark-reads.Post mark-reads-Inv-loop mark-reads-μ-loop
-mark-reads-same-length t c = c .before .loop .inv .1 .long ∙ c .before .before .before .before .before .mark .ensures .long
+mark-reads-enum-known-a-2 : (t : ℕ) → mark-reads-lts.Need-enum-known-a-2 (R-mark-reads t) (mark-reads-at t) mark-reads.Post
+mark-reads-enum-known-a-2 t c = search needs
 
-mark-reads-returns-2 : (t : ℕ) → mark-reads-lts.Need-returns-2 (R-mark-reads t) (mark-reads-at t) mark-reads.Post mark-reads-Inv-loop mark-reads-μ-loop
-mark-reads-returns-2 t c =
-    let s = c .before .before .before .before .before .before .before .before .before .before .before .before .before .before .before in
-    let m = c .before .before .before .before .before in
-    read-all _ _ _ _ _ (s .pre .1 .tables .within .nodes (s .args .i)) (s .pre .1 .below)
-    (m .before .before .before .before .before .if1 .left) _ (m .before .before .before .before .node-at .ensures) _ _ _ _ _ _
-    (m .before .before .before .variable-count .ensures) (m .before .before .read-by .ensures) (c .before .before .operands-of .ensures)
-    (m .mark .ensures)
-    (operands-done _ _ _ _ _ _ _ _ (c .before .loop .inv .1) _ (c .before .before .operands-of .ensures) (c .loop-test .left))
+mark-reads-mark-reads-requires-2 : (t : ℕ) → mark-reads-lts.Need-mark-reads-requires-2 (R-mark-reads t) (mark-reads-at t) mark-reads.Post
+mark-reads-mark-reads-requires-2 t c κs = (omega (arith, c .before .before .before .before .before .before .before .before .before .before .before .pre .0, c .before .before .before .before .before .before .if1 .left), can-mark _ _ _ _ _ _ _ _ (c .before .before .before .before .before .before .before .before .before .before .before .pre .1) (c .before .before .before .before .before .before .if1 .left) (refl))
+
+mark-reads-mark-reads-requires-3 : (t : ℕ) → mark-reads-lts.Need-mark-reads-requires-3 (R-mark-reads t) (mark-reads-at t) mark-reads.Post
+mark-reads-mark-reads-requires-3 t c κs = (omega (arith, c .before .before .before .before .before .before .before .before .before .before .before .before .before .before .before .pre .0, c .before .before .before .before .before .before .before .before .before .before .if1 .left), can-mark _ _ _ _ _ _ _ _ (c .before .before .before .before .before .before .before .before .before .before .before .before .before .before .before .pre .1) (c .before .before .before .before .before .before .before .before .before .before .if1 .left) (c .before .before .before .mark-reads2 .ensures .long))
+
+mark-reads-enum-known-c : (t : ℕ) → mark-reads-lts.Need-enum-known-c (R-mark-reads t) (mark-reads-at t) mark-reads.Post
+mark-reads-enum-known-c t c = search needs
+
+mark-reads-mark-reads-requires-4 : (t : ℕ) → mark-reads-lts.Need-mark-reads-requires-4 (R-mark-reads t) (mark-reads-at t) mark-reads.Post
+mark-reads-mark-reads-requires-4 t c κs = (omega (arith, c .before .before .before .before .before .before .before .before .before .before .before .pre .0, c .before .before .before .before .before .before .if1 .left), can-mark _ _ _ _ _ _ _ _ (c .before .before .before .before .before .before .before .before .before .before .before .pre .1) (c .before .before .before .before .before .before .if1 .left) (refl))
+
+mark-reads-mark-reads-requires-5 : (t : ℕ) → mark-reads-lts.Need-mark-reads-requires-5 (R-mark-reads t) (mark-reads-at t) mark-reads.Post
+mark-reads-mark-reads-requires-5 t c κs = (omega (arith, c .before .before .before .before .before .before .before .before .before .before .before .before .before .before .before .pre .0, c .before .before .before .before .before .before .before .before .before .before .if1 .left), can-mark _ _ _ _ _ _ _ _ (c .before .before .before .before .before .before .before .before .before .before .before .before .before .before .before .pre .1) (c .before .before .before .before .before .before .before .before .before .before .if1 .left) (c .before .before .before .mark-reads4 .ensures .long))
+
+mark-reads-mark-reads-requires-6 : (t : ℕ) → mark-reads-lts.Need-mark-reads-requires-6 (R-mark-reads t) (mark-reads-at t) mark-reads.Post
+mark-reads-mark-reads-requires-6 t c κs = (omega (arith, c .before .before .before .before .before .before .before .before .before .before .before .before .before .before .before .before .before .before .before .pre .0, c .before .before .before .before .before .before .before .before .before .before .before .before .before .before .if1 .left), can-mark _ _ _ _ _ _ _ _ (c .before .before .before .before .before .before .before .before .before .before .before .before .before .before .before .before .before .before .before .pre .1) (c .before .before .before .before .before .before .before .before .before .before .before .before .before .before .if1 .left) (c .before .before .before .mark-reads5 .ensures .long ∙ c .before .before .before .before .before .before .before .mark-reads4 .ensures .long))
+
+mark-reads-enum-known-x-2 : (t : ℕ) → mark-reads-lts.Need-enum-known-x-2 (R-mark-reads t) (mark-reads-at t) mark-reads.Post
+mark-reads-enum-known-x-2 t c = search needs
+
+mark-reads-mark-reads-requires-7 : (t : ℕ) → mark-reads-lts.Need-mark-reads-requires-7 (R-mark-reads t) (mark-reads-at t) mark-reads.Post
+mark-reads-mark-reads-requires-7 t c κs = (omega (arith, c .before .before .before .before .before .before .before .before .before .before .before .pre .0, c .before .before .before .before .before .before .if1 .left), can-mark _ _ _ _ _ _ _ _ (c .before .before .before .before .before .before .before .before .before .before .before .pre .1) (c .before .before .before .before .before .before .if1 .left) (refl))
+
+mark-reads-mark-reads-requires-8 : (t : ℕ) → mark-reads-lts.Need-mark-reads-requires-8 (R-mark-reads t) (mark-reads-at t) mark-reads.Post
+mark-reads-mark-reads-requires-8 t c κs = (omega (arith, c .before .before .before .before .before .before .before .before .before .before .before .before .before .before .before .pre .0, c .before .before .before .before .before .before .before .before .before .before .if1 .left), can-mark _ _ _ _ _ _ _ _ (c .before .before .before .before .before .before .before .before .before .before .before .before .before .before .before .pre .1) (c .before .before .before .before .before .before .before .before .before .before .if1 .left) (c .before .before .before .mark-reads7 .ensures .long))
+
+mark-reads-mark-reads-requires-9 : (t : ℕ) → mark-reads-lts.Need-mark-reads-requires-9 (R-mark-reads t) (mark-reads-at t) mark-reads.Post
+mark-reads-mark-reads-requires-9 t c κs = (omega (arith, c .before .before .before .before .before .before .before .before .before .before .before .before .before .before .before .before .before .before .before .pre .0, c .before .before .before .before .before .before .before .before .before .before .before .before .before .before .if1 .left), can-mark _ _ _ _ _ _ _ _ (c .before .before .before .before .before .before .before .before .before .before .before .before .before .before .before .before .before .before .before .pre .1) (c .before .before .before .before .before .before .before .before .before .before .before .before .before .before .if1 .left) (c .before .before .before .mark-reads8 .ensures .long ∙ c .before .before .before .before .before .before .before .mark-reads7 .ensures .long))
+
+mark-reads-mark-reads-requires-10 : (t : ℕ) → mark-reads-lts.Need-mark-reads-requires-10 (R-mark-reads t) (mark-reads-at t) mark-reads.Post
+mark-reads-mark-reads-requires-10 t c κs = (omega (arith, c .before .before .before .before .before .before .before .before .before .before .before .before .before .before .before .before .before .before .before .before .before .before .before .pre .0, c .before .before .before .before .before .before .before .before .before .before .before .before .before .before .before .before .before .before .if1 .left), can-mark _ _ _ _ _ _ _ _ (c .before .before .before .before .before .before .before .before .before .before .before .before .before .before .before .before .before .before .before .before .before .before .before .pre .1) (c .before .before .before .before .before .before .before .before .before .before .before .before .before .before .before .before .before .before .if1 .left) (c .before .before .before .mark-reads9 .ensures .long ∙ c .before .before .before .before .before .before .before .mark-reads8 .ensures .long ∙ c .before .before .before .before .before .before .before .before .before .before .before .mark-reads7 .ensures .long))
+
+mark-reads-mark-reads-requires-11 : (t : ℕ) → mark-reads-lts.Need-mark-reads-requires-11 (R-mark-reads t) (mark-reads-at t) mark-reads.Post
+mark-reads-mark-reads-requires-11 t c κs = (omega (arith, c .before .before .before .before .before .before .before .before .before .before .before .before .before .before .before .before .before .before .before .before .before .before .before .before .before .before .before .pre .0, c .before .before .before .before .before .before .before .before .before .before .before .before .before .before .before .before .before .before .before .before .before .before .if1 .left), can-mark _ _ _ _ _ _ _ _ (c .before .before .before .before .before .before .before .before .before .before .before .before .before .before .before .before .before .before .before .before .before .before .before .before .before .before .before .pre .1) (c .before .before .before .before .before .before .before .before .before .before .before .before .before .before .before .before .before .before .before .before .before .before .if1 .left) (c .before .before .before .mark-reads10 .ensures .long ∙ c .before .before .before .before .before .before .before .mark-reads9 .ensures .long ∙ c .before .before .before .before .before .before .before .before .before .before .before .mark-reads8 .ensures .long ∙ c .before .before .before .before .before .before .before .before .before .before .before .before .before .before .before .mark-reads7 .ensures .long))
+
+mark-reads-returns-2 : (t : ℕ) → mark-reads-lts.Need-returns-2 (R-mark-reads t) (mark-reads-at t) mark-reads.Post
+mark-reads-returns-2 t c = read-leaf _ _ _ _ _ (c .before .before .before .before .before .before .before .before .pre .1 .tables .within .nodes (c .before .before .before .before .before .before .before .before .args .i)) (c .before .before .before .before .before .before .before .before .pre .1 .below) (c .before .before .before .if1 .left) _ (c .before .node-at .ensures) (c .match .keys1) _
+
+mark-reads-same-length : (t : ℕ) → mark-reads-lts.Need-same-length (R-mark-reads t) (mark-reads-at t) mark-reads.Post
+mark-reads-same-length t c = search needs
+
+mark-reads-returns-3 : (t : ℕ) → mark-reads-lts.Need-returns-3 (R-mark-reads t) (mark-reads-at t) mark-reads.Post
+mark-reads-returns-3 t c = read-all _ _ _ _ _ (c .before .before .before .before .before .before .before .before .before .before .before .before .before .before .pre .1 .tables .within .nodes (c .before .before .before .before .before .before .before .before .before .before .before .before .before .before .args .i)) (c .before .before .before .before .before .before .before .before .before .before .before .before .before .before .pre .1 .below) (c .before .before .before .before .before .before .before .before .before .if1 .left) _ (sym (c .before .before .before .before .before .x .given .1) ∙ c .before .before .before .before .before .before .before .node-at .ensures) _ _ _ (c .before .before .mark .ensures) (each-none _ _)
+
+mark-reads-same-length-2 : (t : ℕ) → mark-reads-lts.Need-same-length-2 (R-mark-reads t) (mark-reads-at t) mark-reads.Post
+mark-reads-same-length-2 t c = search needs
+
+mark-reads-returns-4 : (t : ℕ) → mark-reads-lts.Need-returns-4 (R-mark-reads t) (mark-reads-at t) mark-reads.Post
+mark-reads-returns-4 t c = read-all _ _ _ _ _ (c .before .before .before .before .before .before .before .before .before .before .before .before .before .before .pre .1 .tables .within .nodes (c .before .before .before .before .before .before .before .before .before .before .before .before .before .before .args .i)) (c .before .before .before .before .before .before .before .before .before .before .before .before .before .before .pre .1 .below) (c .before .before .before .before .before .before .before .before .before .if1 .left) _ (sym (c .before .before .before .before .before .k .given .1) ∙ c .before .before .before .before .before .before .before .node-at .ensures) _ _ _ (rw (← c .before .before .before .before .before .before .before .before .variable-count .ensures) (c .before .before .mark2 .ensures)) (each-none _ _)
+
+mark-reads-same-length-3 : (t : ℕ) → mark-reads-lts.Need-same-length-3 (R-mark-reads t) (mark-reads-at t) mark-reads.Post
+mark-reads-same-length-3 t c = search needs
+
+mark-reads-returns-5 : (t : ℕ) → mark-reads-lts.Need-returns-5 (R-mark-reads t) (mark-reads-at t) mark-reads.Post
+mark-reads-returns-5 t c = read-operands _ _ _ _ _ (c .before .before .before .before .before .before .before .before .before .before .before .before .before .before .pre .1 .tables .within .nodes (c .before .before .before .before .before .before .before .before .before .before .before .before .before .before .args .i)) (c .before .before .before .before .before .before .before .before .before .before .before .before .before .before .pre .1 .below) (c .before .before .before .before .before .before .before .before .before .if1 .left) _ (sym (c .before .before .before .before .before .a .given .1) ∙ c .before .before .before .before .before .before .before .node-at .ensures) _ _ refl (each-more _ _ _ _ _ _ (c .before .before .mark-reads .ensures) (each-none _ _))
+
+mark-reads-same-length-4 : (t : ℕ) → mark-reads-lts.Need-same-length-4 (R-mark-reads t) (mark-reads-at t) mark-reads.Post
+mark-reads-same-length-4 t c = search needs
+
+mark-reads-returns-6 : (t : ℕ) → mark-reads-lts.Need-returns-6 (R-mark-reads t) (mark-reads-at t) mark-reads.Post
+mark-reads-returns-6 t c = read-operands _ _ _ _ _ (c .before .before .before .before .before .before .before .before .before .before .before .before .before .before .before .before .before .before .pre .1 .tables .within .nodes (c .before .before .before .before .before .before .before .before .before .before .before .before .before .before .before .before .before .before .args .i)) (c .before .before .before .before .before .before .before .before .before .before .before .before .before .before .before .before .before .before .pre .1 .below) (c .before .before .before .before .before .before .before .before .before .before .before .before .before .if1 .left) _ (sym (c .before .before .before .before .before .before .before .before .before .a2 .given .1) ∙ c .before .before .before .before .before .before .before .before .before .before .before .node-at .ensures) _ _ refl (each-more _ _ _ _ _ _ (c .before .before .before .before .before .before .mark-reads2 .ensures) (each-more _ _ _ _ _ _ (c .before .before .mark-reads3 .ensures) (each-none _ _)))
+
+mark-reads-same-length-5 : (t : ℕ) → mark-reads-lts.Need-same-length-5 (R-mark-reads t) (mark-reads-at t) mark-reads.Post
+mark-reads-same-length-5 t c = search needs
+
+mark-reads-returns-7 : (t : ℕ) → mark-reads-lts.Need-returns-7 (R-mark-reads t) (mark-reads-at t) mark-reads.Post
+mark-reads-returns-7 t c = read-operands _ _ _ _ _ (c .before .before .before .before .before .before .before .before .before .before .before .before .before .before .before .before .before .before .before .before .before .before .pre .1 .tables .within .nodes (c .before .before .before .before .before .before .before .before .before .before .before .before .before .before .before .before .before .before .before .before .before .before .args .i)) (c .before .before .before .before .before .before .before .before .before .before .before .before .before .before .before .before .before .before .before .before .before .before .pre .1 .below) (c .before .before .before .before .before .before .before .before .before .before .before .before .before .before .before .before .before .if1 .left) _ (sym (c .before .before .before .before .before .before .before .before .before .before .before .before .before .c .given .1) ∙ c .before .before .before .before .before .before .before .before .before .before .before .before .before .before .before .node-at .ensures) _ _ refl (each-more _ _ _ _ _ _ (c .before .before .before .before .before .before .before .before .before .before .mark-reads4 .ensures) (each-more _ _ _ _ _ _ (c .before .before .before .before .before .before .mark-reads5 .ensures) (each-more _ _ _ _ _ _ (c .before .before .mark-reads6 .ensures) (each-none _ _))))
+
+mark-reads-same-length-6 : (t : ℕ) → mark-reads-lts.Need-same-length-6 (R-mark-reads t) (mark-reads-at t) mark-reads.Post
+mark-reads-same-length-6 t c = search needs
+
+mark-reads-returns-8 : (t : ℕ) → mark-reads-lts.Need-returns-8 (R-mark-reads t) (mark-reads-at t) mark-reads.Post
+mark-reads-returns-8 t c = read-operands _ _ _ _ _ (c .before .before .before .before .before .before .before .before .before .before .before .before .before .before .before .before .before .before .before .before .before .before .before .before .before .before .before .before .before .before .pre .1 .tables .within .nodes (c .before .before .before .before .before .before .before .before .before .before .before .before .before .before .before .before .before .before .before .before .before .before .before .before .before .before .before .before .before .before .args .i)) (c .before .before .before .before .before .before .before .before .before .before .before .before .before .before .before .before .before .before .before .before .before .before .before .before .before .before .before .before .before .before .pre .1 .below) (c .before .before .before .before .before .before .before .before .before .before .before .before .before .before .before .before .before .before .before .before .before .before .before .before .before .if1 .left) _ (sym (c .before .before .before .before .before .before .before .before .before .before .before .before .before .before .before .before .before .before .before .before .before .x2 .given .1) ∙ c .before .before .before .before .before .before .before .before .before .before .before .before .before .before .before .before .before .before .before .before .before .before .before .node-at .ensures) _ _ refl (each-more _ _ _ _ _ _ (c .before .before .before .before .before .before .before .before .before .before .before .before .before .before .before .before .before .before .mark-reads7 .ensures) (each-more _ _ _ _ _ _ (c .before .before .before .before .before .before .before .before .before .before .before .before .before .before .mark-reads8 .ensures) (each-more _ _ _ _ _ _ (c .before .before .before .before .before .before .before .before .before .before .mark-reads9 .ensures) (each-more _ _ _ _ _ _ (c .before .before .before .before .before .before .mark-reads10 .ensures) (each-more _ _ _ _ _ _ (c .before .before .mark-reads11 .ensures) (each-none _ _))))))
 
 pub +mark-reads-spec : {M : Type 1} → statement M
 +mark-reads-spec = close μ-mark-reads λ t. mark-reads-lts.spec (R-mark-reads t)
     (mark-reads-at t)
     mark-reads.Post
-    mark-reads-Inv-loop
-    mark-reads-μ-loop
     (mark-reads-returns t)
-    (mark-reads-node-at-requires t)
     (mark-reads-variable-count-requires t)
-    (mark-reads-read-by-requires t)
+    (mark-reads-node-at-requires t)
+    (mark-reads-enum-known-x t)
+    (mark-reads-cast-mark t)
     (mark-reads-mark-requires t)
-    (mark-reads-operands-of-requires t)
-    (mark-reads-loop-holds t)
-    (mark-reads-array-read-operand t)
-    (mark-reads-cast-if2 t)
+    (mark-reads-enum-known-k t)
+    (mark-reads-cast-mark-2 t)
+    (mark-reads-add-mark t)
+    (mark-reads-mark-requires-2 t)
+    (mark-reads-enum-known-a t)
     (mark-reads-mark-reads-requires t)
-    (mark-reads-add-k t)
-    (mark-reads-loop-less t)
-    (mark-reads-loop-again t)
-    (mark-reads-same-length t)
+    (mark-reads-enum-known-a-2 t)
+    (mark-reads-mark-reads-requires-2 t)
+    (mark-reads-mark-reads-requires-3 t)
+    (mark-reads-enum-known-c t)
+    (mark-reads-mark-reads-requires-4 t)
+    (mark-reads-mark-reads-requires-5 t)
+    (mark-reads-mark-reads-requires-6 t)
+    (mark-reads-enum-known-x-2 t)
+    (mark-reads-mark-reads-requires-7 t)
+    (mark-reads-mark-reads-requires-8 t)
+    (mark-reads-mark-reads-requires-9 t)
+    (mark-reads-mark-reads-requires-10 t)
+    (mark-reads-mark-reads-requires-11 t)
     (mark-reads-returns-2 t)
+    (mark-reads-same-length t)
+    (mark-reads-returns-3 t)
+    (mark-reads-same-length-2 t)
+    (mark-reads-returns-4 t)
+    (mark-reads-same-length-3 t)
+    (mark-reads-returns-5 t)
+    (mark-reads-same-length-4 t)
+    (mark-reads-returns-6 t)
+    (mark-reads-same-length-5 t)
+    (mark-reads-returns-7 t)
+    (mark-reads-same-length-6 t)
+    (mark-reads-returns-8 t)
