@@ -1,4 +1,5 @@
 mod Places
+mod Bodies
 pub mod Searches
 pub mod Naming
 pub mod Terms

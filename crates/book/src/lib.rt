@@ -1,16 +1,14 @@
 // The syntax of a book, decoded from its records, and the tables by which its scopes, variables, nodes and clauses are found.
 use calculus::Binary;
 use calculus::Unary;
-use record::byte_at;
 use record::number_at;
-use record::rest_after;
 ghost use mathlib.Core.Path.{_≡_};
-ghost use Prim.Native.Nat.{_+_};
-ghost use lib.ListN.{length};
-ghost use Rattle.book.specs.Syntax.{typeOf, sameType, nodeOf, clauseOf};
+ghost use Prim.Native.Nat.{_+_, _<_};
+ghost use lib.ListN.{length, getD};
+ghost use Rattle.book.specs.Syntax.{typeOf, sameType};
 ghost use Rattle.book.specs.Decode.{scopesOf};
 ghost use Rattle.book.specs.References.{scopeAt};
-ghost use Rattle.book.specs.Tables.{countAt, placeAt, Laid, variableAt, subScopeAt, nodeAt, clauseAt};
+ghost use Rattle.book.specs.Tables.{countAt, placeAt, nodeFrom, clauseFrom, nodeLength, Laid, variableAt, subScopeAt, nodeAt, clauseAt};
 
 // "type: 1 yes/no, 2 number"
 pub enum ValueType {
@@ -121,44 +119,44 @@ pub fn same_type(a: ValueType, b: ValueType) -> bool
     }
 }
 
-// The node of a kind and a body.
-pub fn node_of(kind: u8, body: &[u8]) -> Node
-    ensures { λ r. ⌜ r ≡ nodeOf kind (now (body .entry)) ⌝ }
+// The node whose record begins at a position.
+fn node_of(book: &[u8], at: usize) -> Node
+    requires { ⌜ at + nodeLength (getD (now book) at 0) < length (now book) ⌝ }
+    ensures { λ r. ⌜ r ≡ nodeFrom (now (book .entry)) at ⌝ }
 {
-    let a = byte_at(body, 0);
-    let b = byte_at(body, 1);
-    let c = byte_at(body, 2);
-    match kind {
+    let a = book[at + 1];
+    match book[at] {
         4 => Node::Constant(a == 1),
-        5 => Node::Number(number_at(body, 0)),
+        5 => Node::Number(number_at(book, at + 1)),
         6 => Node::Own(a),
-        7 => Node::Called(a, b),
+        7 => Node::Called(a, book[at + 2]),
         8 => Node::Empty(type_of(a)),
         9 => Node::Conflict(type_of(a)),
         10 => Node::Unary(Unary::Not, a),
         11 => Node::Unary(Unary::Negate, a),
-        12 => Node::Binary(Binary::And, a, b),
-        13 => Node::Binary(Binary::Add, a, b),
-        14 => Node::Binary(Binary::Subtract, a, b),
-        15 => Node::Binary(Binary::Equal, a, b),
-        16 => Node::Binary(Binary::Less, a, b),
-        17 => Node::Choice(a, b, c),
-        _ => Node::Default(a, b, c, byte_at(body, 3), byte_at(body, 4)),
+        12 => Node::Binary(Binary::And, a, book[at + 2]),
+        13 => Node::Binary(Binary::Add, a, book[at + 2]),
+        14 => Node::Binary(Binary::Subtract, a, book[at + 2]),
+        15 => Node::Binary(Binary::Equal, a, book[at + 2]),
+        16 => Node::Binary(Binary::Less, a, book[at + 2]),
+        17 => Node::Choice(a, book[at + 2], book[at + 3]),
+        _ => Node::Default(a, book[at + 2], book[at + 3], book[at + 4], book[at + 5]),
     }
 }
 
-// The clause of a kind and a body.
-pub fn clause_of(kind: u8, body: &[u8]) -> Clause
-    ensures { λ r. ⌜ r ≡ clauseOf kind (now (body .entry)) ⌝ }
+// The clause whose record begins at a position.
+fn clause_of(book: &[u8], at: usize) -> Clause
+    requires { ⌜ at + 5 < length (now book) ⌝ }
+    ensures { λ r. ⌜ r ≡ clauseFrom (now (book .entry)) at ⌝ }
 {
-    let last = byte_at(body, 4);
+    let last = book[at + 5];
     let target = Target {
-        sub: byte_at(body, 0),
-        variable: byte_at(body, 1),
+        sub: book[at + 1],
+        variable: book[at + 2],
     };
-    let parent = byte_at(body, 2);
-    let condition = byte_at(body, 3);
-    let consequence = if kind == 19 {
+    let parent = book[at + 3];
+    let condition = book[at + 4];
+    let consequence = if book[at] == 19 {
         Consequence::Of(last)
     } else {
         Consequence::Fixed(last == 1)
@@ -173,36 +171,21 @@ pub fn clause_of(kind: u8, body: &[u8]) -> Clause
 
 // How many records of a sort scope i has: 0 variables, 1 sub-scopes, 2 nodes, 3 clauses.
 fn count_at(counts: &[u8], i: usize, sort: usize) -> usize
+    requires { ⌜ (length (now counts) ≡ 128) × (sort < 4) ⌝ }
     ensures { λ r. ⌜ r ≡ countAt (now (counts .entry)) i sort ⌝ }
 {
     if 32 <= i {
         return 0;
     }
-    if 4 <= sort {
-        return 0;
-    }
-    byte_at(counts, i * 4 + sort) as usize
+    counts[i * 4 + sort] as usize
 }
 
-// Where record n of a sort begins in scope i, the sort's places starting at base.
-fn place_at(places: &[u16], i: usize, base: usize, n: usize) -> usize
-    ensures { λ r. ⌜ r ≡ placeAt (now (places .entry)) i (base + n) ⌝ }
+// Where record k of scope i begins.
+fn place_at(places: &[u16], i: usize, k: usize) -> usize
+    requires { ⌜ (length (now places) ≡ 13376) × (i < 32) × (k < 418) ⌝ }
+    ensures { λ r. ⌜ r ≡ placeAt (now (places .entry)) i k ⌝ }
 {
-    if 32 <= i {
-        return 0;
-    }
-    if 418 <= base {
-        return 0;
-    }
-    if 418 - base <= n {
-        return 0;
-    }
-    let at = i * 418 + (base + n);
-    if at < places.len() {
-        places[at] as usize
-    } else {
-        0
-    }
+    places[i * 418 + k] as usize
 }
 
 // How many variables scope i has.
@@ -243,9 +226,9 @@ pub fn variable_at(book: &[u8], places: &[u16], counts: &[u8], i: usize, v: usiz
     ensures { λ r. ⌜ r ≡ variableAt (scopesOf (now (book .entry))) i v ⌝ }
 {
     if v < count_at(counts, i, 0) {
-        let body = rest_after(book, place_at(places, i, 0, v));
+        let at = place_at(places, i, v);
         Variable {
-            holds: type_of(byte_at(body, 0)),
+            holds: type_of(book[at + 1]),
         }
     } else {
         Variable {
@@ -260,8 +243,8 @@ pub fn sub_scope_at(book: &[u8], places: &[u16], counts: &[u8], i: usize, k: usi
     ensures { λ r. ⌜ r ≡ subScopeAt (scopesOf (now (book .entry))) i k ⌝ }
 {
     if k < count_at(counts, i, 1) {
-        let body = rest_after(book, place_at(places, i, 32, k));
-        byte_at(body, 0) as usize
+        let at = place_at(places, i, 32 + k);
+        book[at + 1] as usize
     } else {
         0
     }
@@ -273,9 +256,8 @@ pub fn node_at(book: &[u8], places: &[u16], counts: &[u8], i: usize, n: usize) -
     ensures { λ r. ⌜ r ≡ nodeAt (scopesOf (now (book .entry))) i n ⌝ }
 {
     if n < count_at(counts, i, 2) {
-        let at = place_at(places, i, 40, n);
-        let body = rest_after(book, at);
-        node_of(byte_at(book, at), body)
+        let at = place_at(places, i, 40 + n);
+        node_of(book, at)
     } else {
         Node::Constant(false)
     }
@@ -287,9 +269,8 @@ pub fn clause_at(book: &[u8], places: &[u16], counts: &[u8], i: usize, c: usize)
     ensures { λ r. ⌜ r ≡ clauseAt (scopesOf (now (book .entry))) i c ⌝ }
 {
     if c < count_at(counts, i, 3) {
-        let at = place_at(places, i, 290, c);
-        let body = rest_after(book, at);
-        clause_of(byte_at(book, at), body)
+        let at = place_at(places, i, 290 + c);
+        clause_of(book, at)
     } else {
         let target = Target {
             sub: 255,

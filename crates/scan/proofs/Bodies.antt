@@ -1,5 +1,6 @@
 -- A record looks at no byte past its body, so it may be read from all bytes after its kind.
 --     stage-below    every kind has a stage of at most 5
+--     variable-long, sub-long, clause-long    the length of a body, for a stage whose kinds all have one
 --     variable-body, sub-body, node-body, clause-body    a variable, a sub-scope, a node and a clause
 -- Assumes nothing.
 use Prim.Native.Nat.{ℕ, zero, suc, _<_, _≤_}
@@ -37,15 +38,15 @@ long-here st n s h e = go (rw (eq-eqb (s .stage) st e) at h)
     go : T (eqb (s .length) n) → s .length ≡ n
     go t = eqb-true (s .length) n (told (eqb (s .length) n) t)
 
-variable-long : (k : ℕ) → shapeIn Book k .stage ≡ 2 → shapeIn Book k .length ≡ 1
+pub variable-long : (k : ℕ) → shapeIn Book k .stage ≡ 2 → shapeIn Book k .length ≡ 1
 unfolding shapeIn shapesOf kinds every long
 variable-long k e = long-here 2 1 (shapeIn Book k) (at-every (λ s. long 2 1 (pickShape Book s)) kinds _ tt tt k) e
 
-sub-long : (k : ℕ) → shapeIn Book k .stage ≡ 3 → shapeIn Book k .length ≡ 1
+pub sub-long : (k : ℕ) → shapeIn Book k .stage ≡ 3 → shapeIn Book k .length ≡ 1
 unfolding shapeIn shapesOf kinds every long
 sub-long k e = long-here 3 1 (shapeIn Book k) (at-every (λ s. long 3 1 (pickShape Book s)) kinds _ tt tt k) e
 
-clause-long : (k : ℕ) → shapeIn Book k .stage ≡ 5 → shapeIn Book k .length ≡ 5
+pub clause-long : (k : ℕ) → shapeIn Book k .stage ≡ 5 → shapeIn Book k .length ≡ 5
 unfolding shapeIn shapesOf kinds every long
 clause-long k e = long-here 5 5 (shapeIn Book k) (at-every (λ s. long 5 5 (pickShape Book s)) kinds _ tt tt k) e
 

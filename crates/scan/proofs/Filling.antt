@@ -16,14 +16,14 @@ use Rattle.book.specs.Records.{Met, stageOf, counted, start, follows, recordsFr
 use Rattle.book.specs.Decode.{Parsed, inFront, parse, scopesOf}
 use Rattle.book.specs.References.{scopeAt}
 use Rattle.book.specs.Judge.{scan}
-use Rattle.book.specs.Tables.{countAt, placeAt}
+use Rattle.book.specs.Tables.{countAt, Placed}
 use Rattle.scan.specs.Counting.{slotOf, numberOf, scopesWith, tallyOf, InLimits, Counts, Counting}
 use Rattle.scan.specs.Step.{metAt, stepAt}
 use Rattle.scan.specs.Filling.{storedPlaces, storedCounts, Room, Stored, Blank, Filled, Recorded}
 use Rattle.scan.specs.declared.Step.the-variants.{Stop, Next}
 use Rattle.scan.specs.declared.Reading.the-variants.{Faulty, Complete}
 use Rattle.scan.proofs.Steps.{Clean, Read, read, room, within, records-at, scan-next, scan-stop, scan-end}
-use Rattle.scan.proofs.Sorts.{Sort, variable, subScope, node, clause, number, stage, base, limit, count, Item, itemsOf, from, Staged, begins, has, staged, base-below, limit-below, stage-two, count-in-limits, scopes-new, scopes-turn, count-turn, begun, scopes-behind}
+use Rattle.scan.proofs.Sorts.{Sort, variable, subScope, node, clause, number, stage, base, limit, count, itemsOf, from, long, Staged, begins, has, staged, base-below, limit-below, stage-two, count-in-limits, scopes-new, scopes-turn, count-turn, begun, scopes-behind}
 use Rattle.scan.proofs.Bodies.{stage-below}
 use Rattle.scan.proofs.Positions.{item-here}
 use Rattle.scan.proofs.Shapes.{either, in-order}
@@ -72,17 +72,22 @@ going-start bytes places counts b =
           });
     }
 
-fill-end : (bytes places counts : List ℕ) (t : Tally) (at : ℕ) → length bytes ≤ at → Filling bytes places counts t at → Filled bytes places counts (t .scopes)
+fill-end : (bytes places counts : List ℕ) (t : Tally) (at : ℕ) → length bytes ≤ at → length places ≡ 13376 → length counts ≡ 128 → Filling bytes places counts t at → Filled bytes places counts (t .scopes)
 unfolding recordsFrom parse
-fill-end bytes places counts t at h f =
+fill-end bytes places counts t at h lp lc f =
     let q : recordsFrom (drop at bytes) 0 t ≡ [] = rw (drop-of-length-le bytes h) in
     let total : length (scopesOf bytes) ≡ t .scopes + 0 = rw q at (f .total) in
     let parts : Parts bytes (scopesOf bytes) places counts t (parse []) = rw q at (f .parts) in
     let n : (s : Sort) (i : ℕ) → countAt counts i (number s) ≡ length (itemsOf s (scopeAt (scopesOf bytes) i)) = λ s i. count-end bytes (scopesOf bytes) places counts t s i (parts s i) in
-    let x : (s : Sort) (i : ℕ) (k : ℕ) (d : Item s) → k < length (itemsOf s (scopeAt (scopesOf bytes) i)) → from s bytes (placeAt places i (base s + k)) ≡ getD (itemsOf s (scopeAt (scopesOf bytes) i)) k d = λ s i. placed-end bytes (scopesOf bytes) places counts t s i (parts s i) in
+    let x : (s : Sort) (i : ℕ) → Placed (from s) (long s) bytes places i (base s) (itemsOf s (scopeAt (scopesOf bytes) i)) = λ s i k d l.
+    let b = base-below s in
+    let few = f .few s i in
+    (omega arith, placed-end bytes (scopesOf bytes) places counts t s i (parts s i) k d l) in
     record {
       laid =
           record {
+            placesLength = lp;
+            countsLength = lc;
             variableCount = n variable;
             subScopeCount = n subScope;
             nodeCount = n node;
@@ -103,7 +108,7 @@ going-end bytes places counts last scopes at h g =
       answer = sound;
       tables = λ n e.
           let q : scopes ≡ n = cc e in
-          rw (← q) (rw (scopes-of counts last scopes) at (fill-end bytes places counts (tallyOf counts last scopes) at h (g .filling (sym sound))));
+          rw (← q) (rw (scopes-of counts last scopes) at (fill-end bytes places counts (tallyOf counts last scopes) at h (g .placesLength) (g .counting .size) (g .filling (sym sound))));
     }
 
 pub going-stop : (bytes places counts : List ℕ) (last scopes at : ℕ) → Going bytes places counts last scopes at → at < length bytes → (f : Fault)

@@ -20,9 +20,9 @@ use Rattle.book.specs.Syntax.{Scope, emptyScope}
 use Rattle.book.specs.Records.{Met, stageOf, counted, start}
 use Rattle.book.specs.Decode.{Parsed, inFront}
 use Rattle.book.specs.References.{scopeAt}
-use Rattle.book.specs.Tables.{countAt, placeAt}
+use Rattle.book.specs.Tables.{countAt, placeAt, Found}
 use Rattle.scan.proofs.Cells.{count-cell, place-cell, apart-counts, apart-places, cell-same, cell-other, cell-zero}
-use Rattle.scan.proofs.Sorts.{Sort, number, stage, base, limit, count, Item, itemsOf, item, from, same-sort, number-below, base-below, bases-apart, count-new, scopes-new, scopes-turn, count-turn, items-none, begun, scopes-behind, items-turn}
+use Rattle.scan.proofs.Sorts.{Sort, number, stage, base, limit, count, Item, itemsOf, item, from, long, same-sort, number-below, base-below, bases-apart, count-new, scopes-new, scopes-turn, count-turn, items-none, begun, scopes-behind, items-turn}
 
 -- What is left of a scope
 
@@ -84,7 +84,7 @@ rest-new p c i =
 -- One sort of records of one scope, of the scopes of a book
 
 pub record Part (bytes : List ℕ) (book : List Scope) (places counts : List ℕ) (t : Tally) (p : Parsed) (s : Sort) (i : ℕ) : Type 0 where
-  pub placed : (n : ℕ) (d : Item s) → n < countAt counts i (number s) → from s bytes (placeAt places i (base s + n)) ≡ getD (itemsOf s (scopeAt book i)) n d
+  pub placed : (n : ℕ) (d : Item s) → n < countAt counts i (number s) → Found (from s) (long s) bytes (placeAt places i (base s + n)) (getD (itemsOf s (scopeAt book i)) n d)
   pub left : drop (countAt counts i (number s)) (itemsOf s (scopeAt book i)) ≡ itemsOf s (rest (t .scopes) p i)
   pub most : countAt counts i (number s) ≤ length (itemsOf s (scopeAt book i))
   pub current : suc i ≡ t .scopes → countAt counts i (number s) ≡ count s t
@@ -117,7 +117,7 @@ module _ (bytes : List ℕ) (book : List Scope) (places counts : List ℕ) (t : 
       let d = length-drop (countAt counts i (number s)) (itemsOf s (scopeAt book i)) in
       omega (arith, part .most)
 
-  pub placed-end : (n : ℕ) (d : Item s) → n < length (itemsOf s (scopeAt book i)) → from s bytes (placeAt places i (base s + n)) ≡ getD (itemsOf s (scopeAt book i)) n d
+  pub placed-end : (n : ℕ) (d : Item s) → n < length (itemsOf s (scopeAt book i)) → Found (from s) (long s) bytes (placeAt places i (base s + n)) (getD (itemsOf s (scopeAt book i)) n d)
   placed-end n d h = part .placed n d (rw count-end h)
 
 -- a record that begins a scope
@@ -135,7 +135,7 @@ parts-new bytes book places counts t m p e old s i =
 
 -- a record of a sort, placed
 module _ (bytes : List ℕ) (book : List Scope) (places counts : List ℕ) (at : ℕ) (t : Tally) (m : Met) (p : Parsed) (s' : Sort)
-    (e : stageOf m ≡ stage s') (says : from s' bytes at ≡ item s' m) (j : ℕ) (here : suc j ≡ t .scopes) (row : j < 32)
+    (e : stageOf m ≡ stage s') (says : Found (from s') (long s') bytes at (item s' m)) (j : ℕ) (here : suc j ≡ t .scopes) (row : j < 32)
     (fits : count s' t < limit s') (lp : length places ≡ 13376) (lc : length counts ≡ 128)
     (few : (s : Sort) (i : ℕ) → length (itemsOf s (scopeAt book i)) ≤ limit s)
     (old : Parts bytes book places counts t (inFront m p)) where
@@ -211,11 +211,11 @@ module _ (bytes : List ℕ) (book : List Scope) (places counts : List ℕ) (at :
         later = λ h. absurd (omega arith);
       }
     where
-      at-own : (n : ℕ) (d : Item s') → n < count s' t + 1 → from s' bytes (placeAt newPlaces j (base s' + n)) ≡ getD (itemsOf s' (scopeAt book j)) n d
+      at-own : (n : ℕ) (d : Item s') → n < count s' t + 1 → Found (from s') (long s') bytes (placeAt newPlaces j (base s' + n)) (getD (itemsOf s' (scopeAt book j)) n d)
       at-own n d h =
           ⊎-elim
           (λ (q : eqb n (count s' t) ≡ true).
-          rw (eqb-true n (count s' t) q, place-own) (says ∙ sym (next-own d .0)))
+          rw (eqb-true n (count s' t) q, place-own, next-own d .0) says)
           (λ (q : eqb n (count s' t) ≡ false).
           let ne = eqb-false n (count s' t) q in
           let c = old s' j .current here in

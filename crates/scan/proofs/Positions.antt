@@ -1,31 +1,50 @@
 -- Records by their positions.
---     item-here      what is read at the position of a record is what the record says
+--     item-here      what is found at the position of a record is what the record says, and its body is whole
 -- Assumes nothing.
 use Prim.Native.Nat.{ℕ, zero, suc, _+_, _-_, _≤_, _<_}
 use mathlib.Core.Path.{_≡_, refl, sym}
 use mathlib.Core.Bool.{Bool, true, false, _&&_}
 use mathlib.Core.List.{List, [], _∷_}
 use lib.ListN.{length, getD, drop, length-drop}
+use native.Mathlib.Omega.{arith}
 use lib.Dec.{T, leb, leb→le, ltb}
+use borrow.Author.Tests.{eq-eqb, ltb-false}
 use Rattle.record.proofs.Decision.{and-l, and-r}
 use Rattle.record.specs.Kinds.{kinds, shapesOf, pickShape, shapeIn}
 use Rattle.record.specs.declared.Medium.the-variants.{Book}
 use Rattle.book.specs.declared.Tally.{Tally}
 use Rattle.book.specs.Records.{bodyOf, stageOf}
-use Rattle.book.specs.Tables.{variableFrom, subScopeFrom, nodeFrom, clauseFrom}
+use Rattle.book.specs.Tables.{variableFrom, subScopeFrom, nodeFrom, clauseFrom, nodeLength, Found}
 use Rattle.scan.specs.Step.{metAt}
 use Rattle.scan.proofs.Steps.{Clean}
-use Rattle.scan.proofs.Bodies.{variable-body, sub-body, node-body, clause-body}
-use Rattle.scan.proofs.Sorts.{Sort, variable, subScope, node, clause, stage, item, from}
+use Rattle.scan.proofs.Bodies.{variable-long, sub-long, clause-long, variable-body, sub-body, node-body, clause-body}
+use Rattle.scan.proofs.Sorts.{Sort, variable, subScope, node, clause, stage, item, from, long}
 
 module _ (bytes : List ℕ) (at : ℕ) (t : Tally) (inside : at < length bytes) (clean : Clean (metAt bytes at t)) where
   kind-here : metAt bytes at t .kind ≡ getD bytes at 0
   unfolding metAt
   kind-here = refl
 
-  pub item-here : (s : Sort) → stageOf (metAt bytes at t) ≡ stage s → from s bytes at ≡ item s (metAt bytes at t)
+  says : (s : Sort) → stageOf (metAt bytes at t) ≡ stage s → from s bytes at ≡ item s (metAt bytes at t)
   unfolding variableFrom subScopeFrom nodeFrom clauseFrom metAt
-  item-here variable e = rw (variable-body (getD bytes at 0) (drop (at + 1) bytes) e)
-  item-here subScope e = sym (sub-body (getD bytes at 0) (drop (at + 1) bytes) e)
-  item-here node e = sym (node-body (drop (at + 1) bytes) (getD bytes at 0) e)
-  item-here clause e = sym (clause-body (getD bytes at 0) (drop (at + 1) bytes) e)
+  says variable e = rw (variable-body (getD bytes at 0) (drop (at + 1) bytes) e)
+  says subScope e = sym (sub-body (getD bytes at 0) (drop (at + 1) bytes) e)
+  says node e = sym (node-body (drop (at + 1) bytes) (getD bytes at 0) e)
+  says clause e = sym (clause-body (getD bytes at 0) (drop (at + 1) bytes) e)
+
+  body-long : (s : Sort) → stageOf (metAt bytes at t) ≡ stage s → long s (getD bytes at 0) ≡ shapeIn Book (getD bytes at 0) .length
+  unfolding metAt nodeLength
+  body-long variable e = sym (variable-long (getD bytes at 0) e)
+  body-long subScope e = sym (sub-long (getD bytes at 0) e)
+  body-long node e = rw (eq-eqb (shapeIn Book (getD bytes at 0) .stage) 4 e)
+  body-long clause e = sym (clause-long (getD bytes at 0) e)
+
+  fits : shapeIn Book (getD bytes at 0) .length ≤ length bytes - (at + 1)
+  unfolding metAt
+  fits = rw length-drop at (ltb-false (length (drop (at + 1) bytes)) (shapeIn Book (getD bytes at 0) .length) (clean .whole))
+
+  pub item-here : (s : Sort) → stageOf (metAt bytes at t) ≡ stage s → Found (from s) (long s) bytes at (item s (metAt bytes at t))
+  item-here s e =
+      let l = body-long s e in
+      let f = fits in
+      record { is = says s e; whole = omega arith }

@@ -19,7 +19,7 @@ use Rattle.book.specs.declared.Clause.{Clause}
 use Rattle.book.specs.Syntax.{Scope, emptyScope, variableOf, nodeOf, clauseOf}
 use Rattle.book.specs.Records.{Met, stageOf, bodyOf, counted}
 use Rattle.book.specs.Decode.{Parsed, inFront}
-use Rattle.book.specs.Tables.{variableFrom, subScopeFrom, nodeFrom, clauseFrom}
+use Rattle.book.specs.Tables.{variableFrom, subScopeFrom, nodeFrom, clauseFrom, nodeLength}
 use Rattle.scan.specs.Counting.{InLimits}
 
 pub data Sort : Type 0 where
@@ -82,6 +82,13 @@ from variable = variableFrom
 from subScope = subScopeFrom
 from node = nodeFrom
 from clause = clauseFrom
+
+-- how many bytes the body of a record of a sort has, by its kind
+abbrev pub long : Sort → ℕ → ℕ
+long variable = λ k. 1
+long subScope = λ k. 1
+long node = nodeLength
+long clause = λ k. 5
 
 pub data Staged (n : ℕ) : Type 0 where
   begins : n ≡ 1 → Staged n

@@ -1,13 +1,7 @@
 -- `book::node_at` meets its contract.
 -- Assumes nothing.
-use Rattle.book.specs.Syntax.{noNode}
-use Rattle.book.specs.Tables.{nodeAt, nodeFrom}
-use Rattle.book.specs.References.{scopeAt}
-use Rattle.book.specs.Decode.{scopesOf}
-use lib.ListN.{length, List·getD-eq-default}
-use denote.Ref.{now}
-use Prim.Native.Nat.{_<_, _≤_}
-use mathlib.Core.Path.{sym}
+use native.Mathlib.Omega.{arith}
+use Rattle.book.proofs.Places.{node-here, node-past}
 use borrow.Author.Needs.{needs}
 use Rattle.book.proofs.node_at.Statement.{statement}
 use Rattle.book.proofs.node_at.Tie as tie
@@ -15,44 +9,22 @@ use Rattle.book.proofs.node_at.Tie as tie
 count-at-requires : tie.Need-count-at-requires
 count-at-requires c κs = search needs
 
+add-place-at : tie.Need-add-place-at
+add-place-at c = omega (arith, (node-here _ _ _ (c .before .before .before .before .before .pre) _ (c .before .before .before .before .before .args .n) _ (c .before .count-at .ensures) (c .if1 .taken)) .column)
+
 place-at-requires : tie.Need-place-at-requires
-place-at-requires c κs = search needs
-
-rest-after-requires : tie.Need-rest-after-requires
-rest-after-requires c κs = search needs
-
-byte-at-requires : tie.Need-byte-at-requires
-byte-at-requires c κs = search needs
+place-at-requires c κs = let h = node-here _ _ _ (c .before .before .before .before .before .pre) _ (c .before .before .before .before .before .args .n) _ (c .before .count-at .ensures) (c .if1 .taken) in (c .before .before .before .before .before .pre .placesLength, h .row, h .column)
 
 node-of-requires : tie.Need-node-of-requires
-node-of-requires c κs = search needs
+node-of-requires c κs = rw (c .place-at .ensures) ((node-here _ _ _ (c .before .before .before .before .before .before .pre) _ (c .before .before .before .before .before .before .args .n) _ (c .before .before .count-at .ensures) (c .before .if1 .taken)) .found .whole)
 
 returns : tie.Need-returns
-unfolding nodeAt nodeFrom
-returns c =
-    let laid = c .before .before .before .before .before .before .before .before .before .pre in
-    let i = c .before .before .before .before .before .before .before .before .before .args .i in
-    let n = c .before .before .before .before .before .before .before .before .before .args .n in
-    let few : n < length (scopeAt (scopesOf (now (c .before .before .before .before .before .before .before .before .before .args .book))) i .nodes) = rw (← laid .nodeCount i, ← c .before .before .before .before .before .count-at .ensures) (c .before .before .before .before .if1 .taken) in
-    rw (c .node-of .ensures, c .before .byte-at .ensures, c .before .before .rest-after .ensures, c .before .before .before .place-at .ensures) (laid .nodes i n noNode few)
+returns c = rw (c .node-of .ensures, c .before .place-at .ensures) ((node-here _ _ _ (c .before .before .before .before .before .before .before .pre) _ (c .before .before .before .before .before .before .before .args .n) _ (c .before .before .before .count-at .ensures) (c .before .before .if1 .taken)) .found .is)
 
 returns-2 : tie.Need-returns-2
-unfolding nodeAt
-returns-2 c =
-    let laid = c .before .before .before .before .before .pre in
-    let i = c .before .before .before .before .before .args .i in
-    let n = c .before .before .before .before .before .args .n in
-    let many : length (scopeAt (scopesOf (now (c .before .before .before .before .before .args .book))) i .nodes) ≤ n = rw (← laid .nodeCount i, ← c .before .count-at .ensures) (c .if1 .left) in
-    sym (List·getD-eq-default (scopeAt (scopesOf (now (c .before .before .before .before .before .args .book))) i .nodes) noNode many)
+returns-2 c = node-past _ _ _ (c .before .before .before .before .before .pre) _ (c .before .before .before .before .before .args .n) _ (c .before .count-at .ensures) (c .if1 .left)
 
 pub node-at-spec : {M : Type 1} → statement M
 node-at-spec =
     tie.close
-    (tie.spec
-    count-at-requires
-    place-at-requires
-    rest-after-requires
-    byte-at-requires
-    node-of-requires
-    returns
-    returns-2)
+    (tie.spec count-at-requires add-place-at place-at-requires node-of-requires returns returns-2)

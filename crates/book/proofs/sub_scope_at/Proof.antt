@@ -1,12 +1,11 @@
 -- `book::sub_scope_at` meets its contract.
 -- Assumes nothing.
-use Rattle.book.specs.Tables.{subScopeAt, subScopeFrom}
-use Rattle.book.specs.References.{scopeAt}
-use Rattle.book.specs.Decode.{scopesOf}
-use lib.ListN.{length, List·getD-eq-default}
+use native.Mathlib.Omega.{arith}
 use denote.Ref.{now}
-use Prim.Native.Nat.{_<_, _≤_}
-use mathlib.Core.Path.{sym}
+use Prim.Native.Nat.{_+_}
+use Rattle.book.proofs.Bodies.{after}
+use Rattle.book.proofs.Places.{sub-scope-here, sub-scope-past}
+use Rattle.book.specs.Tables.{subScopeFrom}
 use borrow.Author.Needs.{needs}
 use Rattle.book.proofs.sub_scope_at.Statement.{statement}
 use Rattle.book.proofs.sub_scope_at.Tie as tie
@@ -14,44 +13,37 @@ use Rattle.book.proofs.sub_scope_at.Tie as tie
 count-at-requires : tie.Need-count-at-requires
 count-at-requires c κs = search needs
 
+add-place-at : tie.Need-add-place-at
+add-place-at c = omega (arith, (sub-scope-here _ _ _ (c .before .before .before .before .before .pre) _ (c .before .before .before .before .before .args .k) _ (c .before .count-at .ensures) (c .if1 .taken)) .column)
+
 place-at-requires : tie.Need-place-at-requires
-place-at-requires c κs = search needs
+place-at-requires c κs = let h = sub-scope-here _ _ _ (c .before .before .before .before .before .pre) _ (c .before .before .before .before .before .args .k) _ (c .before .count-at .ensures) (c .if1 .taken) in (c .before .before .before .before .before .pre .placesLength, h .row, h .column)
 
-rest-after-requires : tie.Need-rest-after-requires
-rest-after-requires c κs = search needs
+add-result : tie.Need-add-result
+add-result c = let w = (sub-scope-here _ _ _ (c .before .before .before .before .before .before .pre) _ (c .before .before .before .before .before .before .args .k) _ (c .before .before .count-at .ensures) (c .before .if1 .taken)) .found .whole in omega (arith, c .place-at .ensures)
 
-byte-at-requires : tie.Need-byte-at-requires
-byte-at-requires c κs = search needs
+shared-slice-read-result : tie.Need-shared-slice-read-result
+shared-slice-read-result c = rw (c .before .place-at .ensures) ((sub-scope-here _ _ _ (c .before .before .before .before .before .before .before .pre) _ (c .before .before .before .before .before .before .before .args .k) _ (c .before .before .before .count-at .ensures) (c .before .before .if1 .taken)) .found .whole)
 
 cast-result : tie.Need-cast-result
-cast-result c = search needs
+cast-result c = omega (arith, c .shared-slice-known4 .given (c .before .place-at .result + 1))
 
 returns : tie.Need-returns
-unfolding subScopeAt subScopeFrom
-returns c =
-    let laid = c .before .before .before .before .before .before .before .before .pre in
-    let i = c .before .before .before .before .before .before .before .before .args .i in
-    let n = c .before .before .before .before .before .before .before .before .args .k in
-    let few : n < length (scopeAt (scopesOf (now (c .before .before .before .before .before .before .before .before .args .book))) i .subScopes) = rw (← laid .subScopeCount i, ← c .before .before .before .before .count-at .ensures) (c .before .before .before .if1 .taken) in
-    rw (c .byte-at .ensures, c .before .rest-after .ensures, c .before .before .place-at .ensures) (laid .subScopes i n (0) few)
+unfolding subScopeFrom
+returns c = rw (c .before .place-at .ensures, ← after (now (c .before .before .before .before .before .before .before .args .book)) _ 0) ((sub-scope-here _ _ _ (c .before .before .before .before .before .before .before .pre) _ (c .before .before .before .before .before .before .before .args .k) _ (c .before .before .before .count-at .ensures) (c .before .before .if1 .taken)) .found .is)
 
 returns-2 : tie.Need-returns-2
-unfolding subScopeAt
-returns-2 c =
-    let laid = c .before .before .before .before .before .pre in
-    let i = c .before .before .before .before .before .args .i in
-    let n = c .before .before .before .before .before .args .k in
-    let many : length (scopeAt (scopesOf (now (c .before .before .before .before .before .args .book))) i .subScopes) ≤ n = rw (← laid .subScopeCount i, ← c .before .count-at .ensures) (c .if1 .left) in
-    sym (List·getD-eq-default (scopeAt (scopesOf (now (c .before .before .before .before .before .args .book))) i .subScopes) (0) many)
+returns-2 c = sub-scope-past _ _ _ (c .before .before .before .before .before .pre) _ (c .before .before .before .before .before .args .k) _ (c .before .count-at .ensures) (c .if1 .left)
 
 pub sub-scope-at-spec : {M : Type 1} → statement M
 sub-scope-at-spec =
     tie.close
     (tie.spec
     count-at-requires
+    add-place-at
     place-at-requires
-    rest-after-requires
-    byte-at-requires
+    add-result
+    shared-slice-read-result
     cast-result
     returns
     returns-2)

@@ -1,13 +1,10 @@
 -- `book::variable_at` meets its contract.
 -- Assumes nothing.
-use Rattle.book.specs.declared.ValueType.the-variants.{YesNo}
-use Rattle.book.specs.Tables.{variableAt, variableFrom}
-use Rattle.book.specs.References.{scopeAt}
-use Rattle.book.specs.Decode.{scopesOf}
-use lib.ListN.{length, List·getD-eq-default}
+use native.Mathlib.Omega.{arith}
 use denote.Ref.{now}
-use Prim.Native.Nat.{_<_, _≤_}
-use mathlib.Core.Path.{sym}
+use Rattle.book.proofs.Bodies.{after}
+use Rattle.book.proofs.Places.{variable-here, variable-past}
+use Rattle.book.specs.Tables.{variableFrom}
 use borrow.Author.Needs.{needs}
 use Rattle.book.proofs.variable_at.Statement.{statement}
 use Rattle.book.proofs.variable_at.Tie as tie
@@ -16,34 +13,23 @@ count-at-requires : tie.Need-count-at-requires
 count-at-requires c κs = search needs
 
 place-at-requires : tie.Need-place-at-requires
-place-at-requires c κs = search needs
+place-at-requires c κs = let h = variable-here _ _ _ (c .before .before .before .before .before .pre) _ (c .before .before .before .before .before .args .v) _ (c .before .count-at .ensures) (c .if1 .taken) in (c .before .before .before .before .before .pre .placesLength, h .row, h .column)
 
-rest-after-requires : tie.Need-rest-after-requires
-rest-after-requires c κs = search needs
+add-type-of : tie.Need-add-type-of
+add-type-of c = let w = (variable-here _ _ _ (c .before .before .before .before .before .before .pre) _ (c .before .before .before .before .before .before .args .v) _ (c .before .before .count-at .ensures) (c .before .if1 .taken)) .found .whole in omega (arith, c .place-at .ensures)
 
-byte-at-requires : tie.Need-byte-at-requires
-byte-at-requires c κs = search needs
+shared-slice-read-type-of : tie.Need-shared-slice-read-type-of
+shared-slice-read-type-of c = rw (c .before .place-at .ensures) ((variable-here _ _ _ (c .before .before .before .before .before .before .before .pre) _ (c .before .before .before .before .before .before .before .args .v) _ (c .before .before .before .count-at .ensures) (c .before .before .if1 .taken)) .found .whole)
 
 type-of-requires : tie.Need-type-of-requires
 type-of-requires c κs = search needs
 
 returns : tie.Need-returns
-unfolding variableAt variableFrom
-returns c =
-    let laid = c .before .before .before .before .before .before .before .before .before .pre in
-    let i = c .before .before .before .before .before .before .before .before .before .args .i in
-    let n = c .before .before .before .before .before .before .before .before .before .args .v in
-    let few : n < length (scopeAt (scopesOf (now (c .before .before .before .before .before .before .before .before .before .args .book))) i .variables) = rw (← laid .variableCount i, ← c .before .before .before .before .before .count-at .ensures) (c .before .before .before .before .if1 .taken) in
-    rw (c .type-of .ensures, c .before .byte-at .ensures, c .before .before .rest-after .ensures, c .before .before .before .place-at .ensures) (laid .variables i n (record { holds = YesNo }) few)
+unfolding variableFrom
+returns c = rw (c .type-of .ensures, c .before .before .place-at .ensures, ← after (now (c .before .before .before .before .before .before .before .before .args .book)) _ 0) ((variable-here _ _ _ (c .before .before .before .before .before .before .before .before .pre) _ (c .before .before .before .before .before .before .before .before .args .v) _ (c .before .before .before .before .count-at .ensures) (c .before .before .before .if1 .taken)) .found .is)
 
 returns-2 : tie.Need-returns-2
-unfolding variableAt
-returns-2 c =
-    let laid = c .before .before .before .before .before .pre in
-    let i = c .before .before .before .before .before .args .i in
-    let n = c .before .before .before .before .before .args .v in
-    let many : length (scopeAt (scopesOf (now (c .before .before .before .before .before .args .book))) i .variables) ≤ n = rw (← laid .variableCount i, ← c .before .count-at .ensures) (c .if1 .left) in
-    sym (List·getD-eq-default (scopeAt (scopesOf (now (c .before .before .before .before .before .args .book))) i .variables) (record { holds = YesNo }) many)
+returns-2 c = variable-past _ _ _ (c .before .before .before .before .before .pre) _ (c .before .before .before .before .before .args .v) _ (c .before .count-at .ensures) (c .if1 .left)
 
 pub variable-at-spec : {M : Type 1} → statement M
 variable-at-spec =
@@ -51,8 +37,8 @@ variable-at-spec =
     (tie.spec
     count-at-requires
     place-at-requires
-    rest-after-requires
-    byte-at-requires
+    add-type-of
+    shared-slice-read-type-of
     type-of-requires
     returns
     returns-2)
