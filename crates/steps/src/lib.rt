@@ -12,7 +12,7 @@ use book::variable_count;
 use order::Ordered;
 use order::fill_order;
 ghost use mathlib.Core.Path.{_≡_};
-ghost use Prim.Native.Nat.{_≤_};
+ghost use Prim.Native.Nat.{_+_, _≤_};
 ghost use lib.ListN.{length};
 ghost use Rattle.order.specs.Order.{order};
 ghost use Rattle.order.specs.Matrix.{edgeOf};
@@ -148,6 +148,14 @@ pub fn fill_weights(
     false
 }
 
+// The step of the call of sub-scope k of scope i.
+fn call_step(book: &[u8], places: &[u16], counts: &[u8], i: usize, k: u8) -> usize
+    requires { ⌜ Tabled (now book) (now places) (now counts) ⌝ }
+    ensures { λ r. ⌜ r ≡ length (scopeAt (scopesOf (now (book .entry))) i .variables) + k ⌝ }
+{
+    variable_count(book, places, counts, i) + k as usize
+}
+
 // Marks, in a row, what node n reads, with the nodes under it. Only nodes below the limit count.
 fn mark_reads(
     book: &[u8],
@@ -166,11 +174,10 @@ fn mark_reads(
     if limit <= at {
         return;
     }
-    let variables = variable_count(book, places, counts, i);
     match node_at(book, places, counts, i, at) {
         Node::Constant(_) | Node::Number(_) | Node::Empty(_) | Node::Conflict(_) => {}
         Node::Own(x) => mark(deps, row, x as usize),
-        Node::Called(k, _) => mark(deps, row, variables + k as usize),
+        Node::Called(k, _) => mark(deps, row, call_step(book, places, counts, i, k)),
         Node::Unary(_, a) => mark_reads(book, places, counts, i, row, at, a, deps),
         Node::Binary(_, a, b) => {
             mark_reads(book, places, counts, i, row, at, a, deps);
