@@ -3,7 +3,7 @@ use Prim.Native.Nat.{ℕ}
 use mathlib.Core.Path.{_≡_, refl}
 use mathlib.Core.List.{List, [], _∷_}
 use Rattle.record.specs.Kinds.{shapeIn, shapesOf, kinds}
-use Rattle.record.specs.Bytes.{bigEndian, bytesOf, numberAt, numberBytes}
+use Rattle.slices.specs.Bytes.{bigEndian, bytesOf, numberAt, numberBytes}
 use Rattle.order.specs.Order.{unmet, ready, next, among, taken, order}
 use Rattle.order.specs.Search.{lowestFrom, lowest, none}
 use Rattle.book.specs.Lists.{any, anyFrom}

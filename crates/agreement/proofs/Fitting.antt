@@ -12,7 +12,7 @@ use native.Mathlib.Omega.{arith}
 use lib.ListN.{length, getD}
 use lib.Dec.{ltb}
 use borrow.Author.Tests.{lt-ltb, ltb-true, ltb-false}
-use Rattle.record.specs.Bytes.{bytesOf}
+use Rattle.slices.specs.Bytes.{bytesOf}
 use Rattle.calculus.specs.Terms as terms
 use Rattle.calculus.specs.Terms.{Term, Terms, literal, own, called, error, choice, default, none, also}
 use Rattle.calculus.specs.declared.Value.the-variants.{Truth, Number}

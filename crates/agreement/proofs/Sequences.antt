@@ -17,7 +17,7 @@ use lib.ListN.{length, length-append}
 use lib.Seq.{take-append-seam, drop-append-seam}
 use lib.Dec.{eqb}
 use lib.IntN.{ℤ}
-use Rattle.record.specs.Bytes.{bytesOf, numberBytes}
+use Rattle.slices.specs.Bytes.{bytesOf, numberBytes}
 use Rattle.record.specs.Kinds.{shapeIn, shapesOf, kinds}
 use Rattle.calculus.specs.declared.Cause.{Cause}
 use Rattle.calculus.specs.declared.Cause.the-variants.{Empty, Conflict, OutOfRange}

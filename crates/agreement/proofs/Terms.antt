@@ -10,7 +10,7 @@ use native.Mathlib.Omega.{arith}
 use lib.ListN.{length}
 use lib.IntN.{ℤ, negℤ, _+ℤ_, _-ℤ_}
 use lib.Signed.{ltZ}
-use Rattle.record.specs.Bytes.{bytesOf}
+use Rattle.slices.specs.Bytes.{bytesOf}
 use Rattle.calculus.specs.Values.{numberOf, lowest, highest, ranged}
 use Rattle.calculus.specs.Operators.{unaryOf, binaryOf}
 use Rattle.calculus.specs.Outcomes.{unaryOn, binaryOn, choose}

@@ -44,7 +44,7 @@ use Rattle.instructions.specs.Effects.{Room, Ample, Moves, Bounded, Sized, Step
 use Rattle.blocks.specs.Entries.{back, runAt, variablesAt, Enough, Shows, Ending, Finished, Entry, Came, Advances}
 use Rattle.instructions.proofs.Memory.{tab-length, tab-at, tab-same, tab-set, tab-map}
 use Rattle.machine.proofs.Landing.{lands-here}
-use Rattle.record.proofs.Parts.{all-left, part-room, lent-length}
+use Rattle.slices.proofs.Parts.{all-left, part-room, lent-length}
 use Rattle.blocks.specs.declared.Place.{Place}
 use Rattle.blocks.specs.declared.Went as went-type
 use Rattle.blocks.specs.declared.Went.the-variants as went

@@ -11,7 +11,7 @@ use lib.ListN.{length, getD, drop}
 use lib.Seq.{getD-drop}
 use lib.Dec.{T, eqb, leb, leb→le, eqb→eq}
 use borrow.Author.Tests.{leb-true}
-use Rattle.record.specs.Bytes.{bigEndian, numberAt}
+use Rattle.slices.specs.Bytes.{bigEndian, numberAt}
 use Rattle.record.specs.Kinds.{kinds, shapesOf, shapeIn}
 use Rattle.record.proofs.Decision.{NoneOf, by-range, over, isAny}
 use Rattle.book.specs.Tables.{nodeLength}

@@ -1,7 +1,7 @@
 // The syntax of a book, decoded from its records, and the tables by which its scopes, variables, nodes and clauses are found.
 use calculus::Binary;
 use calculus::Unary;
-use record::number_at;
+use slices::number_at;
 ghost use mathlib.Core.Path.{_≡_};
 ghost use Prim.Native.Nat.{_+_, _<_};
 ghost use lib.ListN.{length, getD};

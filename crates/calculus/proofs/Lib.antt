@@ -1,7 +1,6 @@
 -- Laws that the proofs of several functions use, and those that other crates cite.
 pub mod Numbers
 pub mod Exceptions
-mod Sign
 mod ReductionExceptions
 mod ReductionHalts
 pub mod Reduction

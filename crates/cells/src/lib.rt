@@ -1,8 +1,8 @@
 // What a variable holds, as one number: slices of numbers hold the variables of a scope.
 use calculus::Given;
 use calculus::Value;
-use record::bits_of;
-use record::number_of;
+use slices::bits_of;
+use slices::number_of;
 ghost use mathlib.Core.Path.{_≡_};
 ghost use Rattle.cells.specs.Cells.{cellOf, givenOf, givenAt};
 ghost use Rattle.cells.specs.Rows.{Copying, Copied, Ungiven, RowRoom, Recalled, Remembered};

@@ -1,3 +1,1 @@
 pub mod Compile
-pub mod Emission
-pub mod Pieces

@@ -7,7 +7,7 @@ pub use compiler::Compiled;
 pub use evaluation::Answer;
 pub use evaluation::Refusal;
 pub use judge::fault_number;
-use record::part_of;
+use slices::part_of;
 ghost use mathlib.Core.Path.{_≡_};
 ghost use Rattle.book.specs.Judge.{judge as Judge·judge};
 ghost use Rattle.evaluation.specs.Evaluate.{refusalNumber};

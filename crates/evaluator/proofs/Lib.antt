@@ -1,6 +1,1 @@
-mod Cells
-mod Hands
-mod Known
-mod Running
-mod Entering
 mod Service

@@ -43,12 +43,12 @@ use Rattle.book.proofs.Same.{same-self}
 use Rattle.evaluation.specs.declared.Answer.the-variants.{Values, Ended, Refused}
 use Rattle.evaluation.proofs.Replies.{same-reply, refuses}
 use Rattle.evaluation.proofs.Types.{inputs-fitting, values-typed, values-length}
-use Rattle.evaluator.specs.Steps.{givensFrom, enteredAt, ranView, Came}
-use Rattle.evaluator.specs.Known.{Known, Entry}
+use Rattle.scopes.specs.Steps.{givensFrom, enteredAt, ranView, Came}
+use Rattle.scopes.specs.Known.{Known, Entry}
 use Rattle.evaluator.specs.Service.{Asked, Replied, Evaluated}
-use Rattle.evaluator.specs.declared.Ran.{Ran}
-use Rattle.evaluator.specs.declared.Ran.the-variants as ran
-use Rattle.evaluator.proofs.Cells.{givens-list}
+use Rattle.scopes.specs.declared.Ran.{Ran}
+use Rattle.scopes.specs.declared.Ran.the-variants as ran
+use Rattle.scopes.proofs.Cells.{givens-list}
 
 pub refused-book : (bytes : List ℕ) (i : ℕ) (list : List ℕ) {memory : List ℕ} {f : Fault} → judge bytes ≡ judged.Refused f
     → Evaluated bytes i list memory (Refused (Book f)) memory

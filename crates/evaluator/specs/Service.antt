@@ -13,7 +13,7 @@ use Rattle.lists.specs.Writing.{resultLengthAt}
 use Rattle.evaluation.specs.Types.{Fitting}
 use Rattle.evaluation.specs.Evaluate.{replyOf, evaluate, Replies}
 use Rattle.evaluation.specs.declared.Answer.{Answer}
-use Rattle.evaluator.specs.Steps.{givensFrom, enteredAt}
+use Rattle.scopes.specs.Steps.{givensFrom, enteredAt}
 
 -- the tables of an accepted book of n scopes
 pub record Tabled (bytes places counts orders : List ℕ) (n : ℕ) : Type 0 where

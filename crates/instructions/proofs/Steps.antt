@@ -12,7 +12,7 @@ use lib.ListN.{length, getD, set, drop, length-drop}
 use lib.Dec.{eqb}
 use borrow.Author.Tests.{ne-eqb}
 use Rattle.record.specs.Kinds.{kinds, shapesOf, shapeIn}
-use Rattle.record.specs.Bytes.{bigEndian, numberAt}
+use Rattle.slices.specs.Bytes.{bigEndian, numberAt}
 use Rattle.calculus.specs.declared.Cause.the-variants.{Conflict}
 use Rattle.machine.specs.Instructions.{Instruction, unknown, instructionOf}
 use Rattle.machine.specs.Blocks.{bodyLength}

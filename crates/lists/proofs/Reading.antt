@@ -21,7 +21,7 @@ use borrow.Author.Tests.{ltb-true, ltb-false, eqb-true, eqb-false, not-false}
 use Rattle.calculus.specs.Values.{numberOf}
 use Rattle.calculus.specs.declared.Given.{Given}
 use Rattle.calculus.specs.declared.Given.the-variants.{Absent, Present}
-use Rattle.record.specs.Bytes.{bigEndian, numberAt}
+use Rattle.slices.specs.Bytes.{bigEndian, numberAt}
 use Rattle.order.proofs.Booleans.{decide, neither}
 use Rattle.order.proofs.Matrix.{zeros}
 use Rattle.cells.specs.Cells.{cellOf, givenOf, givenAt}

@@ -8,8 +8,8 @@ use mathlib.Core.List.{List, [], _∷_, _++_}
 use native.Mathlib.Omega.{arith}
 use native.Mathlib.Numerals.{add-one}
 use lib.ListN.{length, drop, length-append, take-append-drop}
-use Rattle.record.specs.Bytes.{overwrite}
-use Rattle.record.proofs.Overwrite.{chain, split, length-same}
+use Rattle.slices.specs.Bytes.{overwrite}
+use Rattle.slices.proofs.Overwrite.{chain, split, length-same}
 use Rattle.cells.specs.Cells.{givenAt, held}
 use Rattle.lists.specs.Results.{resultRecord, resultsFrom, results}
 use Rattle.lists.specs.Writing.{valuesFrom, valuesOf, Put}

@@ -4,7 +4,7 @@ use mathlib.Core.Bool.{Bool, true, false}
 use mathlib.Core.List.{List, [], _∷_, _++_}
 use Rattle.calculus.specs.declared.Value.{Value}
 use Rattle.calculus.specs.declared.Value.the-variants.{Truth, Number}
-use Rattle.record.specs.Bytes.{numberBytes}
+use Rattle.slices.specs.Bytes.{numberBytes}
 use Rattle.book.specs.declared.ValueType.{ValueType}
 use Rattle.book.specs.declared.ValueType.the-variants.{YesNo, Numeric}
 use Rattle.book.specs.declared.Variable.{Variable}

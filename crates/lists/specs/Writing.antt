@@ -9,7 +9,7 @@ use Rattle.calculus.specs.declared.Value.the-variants.{Truth, Number}
 use Rattle.calculus.specs.declared.Given.{Given}
 use Rattle.calculus.specs.declared.Given.the-variants.{Absent, Present}
 use Rattle.cells.specs.Cells.{givenAt, held}
-use Rattle.record.specs.Bytes.{overwrite}
+use Rattle.slices.specs.Bytes.{overwrite}
 use Rattle.book.specs.Syntax.{Scope, sameType}
 use Rattle.book.specs.References.{scopeAt}
 use Rattle.book.specs.declared.ValueType.{ValueType}

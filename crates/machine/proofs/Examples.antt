@@ -3,7 +3,7 @@ use Prim.Native.Nat.{ℕ}
 use mathlib.Core.Path.{_≡_, refl}
 use mathlib.Core.List.{List, [], _∷_}
 use lib.ListN.{length}
-use Rattle.record.specs.Bytes.{bigEndian, bytesOf, numberAt, numberBytes}
+use Rattle.slices.specs.Bytes.{bigEndian, bytesOf, numberAt, numberBytes}
 use Rattle.record.specs.Kinds.{shapeIn, shapesOf, kinds}
 use Rattle.calculus.specs.declared.Cause.{Cause}
 use Rattle.calculus.specs.declared.Cause.the-variants.{Empty, Conflict, OutOfRange}

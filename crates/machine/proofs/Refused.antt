@@ -6,7 +6,7 @@ use Prim.Native.Nat.{ℕ}
 use mathlib.Core.Path.{_≡_, refl}
 use mathlib.Core.Bool.{false, not}
 use mathlib.Core.List.{List, [], _∷_}
-use Rattle.record.specs.Bytes.{bigEndian}
+use Rattle.slices.specs.Bytes.{bigEndian}
 use Rattle.record.specs.Kinds.{shapeIn, shapesOf, kinds}
 use Rattle.book.specs.Lists.{any}
 use Rattle.book.specs.Records.{follows, invalid}

@@ -19,7 +19,7 @@ use mir.Syntax.{w32}
 use mir.Val.{SFits, toZ, ofZ}
 use mir.Facts.{toZ-ofZ, fits-ofZ}
 use borrow.Author.Tests.{lt-ltb, le-ltb, le-leb}
-use Rattle.record.specs.Bytes.{bigEndian, bytesOf, numberAt, numberBytes}
+use Rattle.slices.specs.Bytes.{bigEndian, bytesOf, numberAt, numberBytes}
 use Rattle.record.specs.Kinds.{shapeIn, shapesOf, kinds}
 use Rattle.calculus.specs.Operators.{unaryOf, binaryOf}
 use Rattle.calculus.specs.Defaults as defaults

@@ -4,7 +4,7 @@ use mathlib.Core.Bool.{cond}
 use mathlib.Core.List.{List}
 use lib.ListN.{getD}
 use lib.Dec.{eqb}
-use Rattle.record.specs.Bytes.{bigEndian, numberAt}
+use Rattle.slices.specs.Bytes.{bigEndian, numberAt}
 use Rattle.calculus.specs.declared.Value.{Value}
 use Rattle.calculus.specs.declared.Value.the-variants.{Truth, Number}
 use Rattle.calculus.specs.declared.Cause.{Cause}

@@ -1,7 +1,2 @@
 pub mod Decision
 mod Same
-mod Signs
-pub mod Endian
-pub mod Overwrite
-pub mod Parts
-pub mod RoundTrip

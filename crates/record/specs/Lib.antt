@@ -1,3 +1,2 @@
 pub mod Kinds
 pub mod Record
-pub mod Bytes

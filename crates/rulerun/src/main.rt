@@ -1,16 +1,16 @@
 // Evaluates standard input: book length (2 bytes, high first), book, scope byte, inputs. Prints the outcome and the count of scopes
 // entered, then number and value of each variable.
-use calculus::magnitude;
 use engine::Answer;
 use engine::Cause;
 use engine::evaluate;
 use engine::refusal_number;
 use libc::STDIN_FILENO;
 use libc::STDOUT_FILENO;
-use record::byte_at;
-use record::distance_at;
-use record::number_at;
-use record::part_of;
+use operators::magnitude;
+use slices::byte_at;
+use slices::distance_at;
+use slices::number_at;
+use slices::part_of;
 
 fn write(text: &[u8]) {
     io::write_all(STDOUT_FILENO, text);

@@ -12,7 +12,7 @@ use lib.ListN.{getD, take, drop}
 use lib.Seq.{getD-take}
 use lib.Dec.{T, eqb, leb, leb→le}
 use borrow.Author.Tests.{eqb-true, eq-eqb}
-use Rattle.record.specs.Bytes.{bigEndian, numberAt}
+use Rattle.slices.specs.Bytes.{bigEndian, numberAt}
 use Rattle.record.specs.Kinds.{kinds, shapesOf, pickShape, shapeIn}
 use Rattle.record.specs.declared.Medium.the-variants.{Book}
 use Rattle.record.specs.declared.Shape.{Shape}

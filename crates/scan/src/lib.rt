@@ -2,9 +2,9 @@
 use book::Fault;
 use record::Medium;
 use record::Record;
-use record::byte_at;
-use record::part_of;
 use record::record_at;
+use slices::byte_at;
+use slices::part_of;
 ghost use mathlib.Core.Path.{_≡_};
 ghost use mathlib.Core.Bool.{_||_};
 ghost use Prim.Native.Nat.{_<_, _≤_};

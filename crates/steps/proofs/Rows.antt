@@ -12,7 +12,7 @@ use native.Mathlib.Numerals.{add-one}
 use lib.ListN.{length, take, drop, drop-of-length-le}
 use lib.Seq.{take-at, drop-at, drop-cons, length-take-le}
 use borrow.Author.Tests.{eq-eqb, ne-eqb}
-use Rattle.record.proofs.Parts.{part-room, before-kept, lent-length}
+use Rattle.slices.proofs.Parts.{part-room, before-kept, lent-length}
 use Rattle.book.specs.Lists.{any}
 use Rattle.book.specs.Syntax.{Scope, emptyScope}
 use Rattle.book.specs.References.{scopeAt}

@@ -7,14 +7,14 @@ use calculus::Joined;
 use calculus::Outcome;
 use calculus::Unary;
 use calculus::Value;
-use calculus::choose;
-use calculus::eval_binary;
-use calculus::eval_unary;
-use calculus::gather;
-use calculus::magnitude;
-use calculus::settle;
-use calculus::step;
 use libc::STDOUT_FILENO;
+use operators::choose;
+use operators::eval_binary;
+use operators::eval_unary;
+use operators::gather;
+use operators::magnitude;
+use operators::settle;
+use operators::step;
 
 const BIG: i32 = 2147483647;
 

@@ -5,7 +5,7 @@ use mathlib.Core.Bool.{false}
 use mathlib.Core.List.{List, [], _∷_, map}
 use lib.IntN.{pos, negsuc}
 use Rattle.record.specs.Kinds.{shapeIn, shapesOf, kinds}
-use Rattle.record.specs.Bytes.{bigEndian, bytesOf, numberAt, numberBytes}
+use Rattle.slices.specs.Bytes.{bigEndian, bytesOf, numberAt, numberBytes}
 use Rattle.calculus.specs.Terms.{Term, literal, own, called, error, unary, binary, choice}
 use Rattle.calculus.specs.declared.Value.the-variants.{Truth, Number}
 use Rattle.calculus.specs.declared.Cause.the-variants.{Conflict}

@@ -15,7 +15,7 @@ use lib.IntN.{pos, negsuc}
 use borrow.Author.Tests.{ltb-true, ltb-false}
 use mir.Syntax.{w32}
 use mir.Val.{SFits, toZ, sel}
-use Rattle.record.specs.Bytes.{bigEndian, numberAt}
+use Rattle.slices.specs.Bytes.{bigEndian, numberAt}
 use Rattle.calculus.specs.Terms.{Term, Terms, none, also}
 use Rattle.calculus.specs.declared.Unary.{Unary}
 use Rattle.calculus.specs.declared.Binary.{Binary}

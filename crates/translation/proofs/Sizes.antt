@@ -9,7 +9,7 @@ use mathlib.Core.List.{List, [], _∷_, _++_}
 use native.Mathlib.Omega.{arith}
 use lib.ListN.{length, drop}
 use lib.IntN.{ℤ}
-use Rattle.record.specs.Bytes.{bytesOf, numberBytes}
+use Rattle.slices.specs.Bytes.{bytesOf, numberBytes}
 use Rattle.calculus.specs.Terms.{Term, Terms, literal, own, called, error, unary, binary, choice, default, none, also}
 use Rattle.calculus.specs.declared.Value.the-variants.{Truth, Number}
 use Rattle.translation.specs.Code.{unaryKind, binaryKind, raiseKind, far, size, sizes, code, codes}

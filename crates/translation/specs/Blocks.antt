@@ -4,7 +4,7 @@ use mathlib.Core.Bool.{cond}
 use mathlib.Core.List.{List, [], _∷_, _++_}
 use lib.ListN.{length, getD}
 use lib.Dec.{ltb}
-use Rattle.record.specs.Bytes.{bytesOf}
+use Rattle.slices.specs.Bytes.{bytesOf}
 use Rattle.book.specs.Syntax.{Scope}
 use Rattle.book.specs.References.{scopeAt}
 use Rattle.book.specs.Trees.{tree, hasClause, ownTarget, calledTarget}

@@ -11,7 +11,7 @@ use native.Mathlib.Omega.{arith}
 use native.Mathlib.Nat.{eq-or-lt-of-le}
 use lib.ListN.{length, getD, take, drop, replicate, length-append, length-replicate, getD-replicate}
 use lib.Seq.{take-at, drop-at, length-take-le, getD-take, getD-drop, drop-drop}
-use Rattle.record.proofs.Parts.{part-room, before-kept, lent-length}
+use Rattle.slices.proofs.Parts.{part-room, before-kept, lent-length}
 use Rattle.trees.specs.Links.{Linked, Sound, Blank, Blanks, AllLinked, row}
 
 pub record Filling (bytes : List ℕ) (scopes : ℕ) (from links : List ℕ) (i : ℕ) : Type 0 where

@@ -13,7 +13,7 @@ use book::sub_scope_at;
 use book::variable_at;
 use calculus::Binary;
 use calculus::Unary;
-use record::byte_at;
+use slices::byte_at;
 ghost use mathlib.Core.Path.{_≡_};
 ghost use mathlib.Core.Bool.{false};
 ghost use lib.ListN.{length};

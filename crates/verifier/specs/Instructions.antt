@@ -3,7 +3,7 @@ use Prim.Native.Nat.{ℕ, _-_}
 use mathlib.Core.Bool.{Bool, true, cond, _&&_, _||_}
 use mathlib.Core.List.{List}
 use lib.Dec.{eqb, ltb}
-use Rattle.record.specs.Bytes.{bigEndian}
+use Rattle.slices.specs.Bytes.{bigEndian}
 use Rattle.record.specs.Kinds.{shapeIn}
 use Rattle.record.specs.declared.Medium.the-variants.{Code}
 use Rattle.verifier.specs.declared.Numbers.{Numbers}

@@ -6,7 +6,7 @@ use lib.ListN.{length}
 use denote.Ref.{now}
 use native.Mathlib.Omega.{arith}
 use Rattle.order.proofs.Matrix.{zeros}
-use Rattle.record.proofs.Parts.{part-room}
+use Rattle.slices.proofs.Parts.{part-room}
 use Rattle.blocks.specs.Entries.{runAt, variablesAt, Known}
 use Rattle.blocks.specs.Running.{Running}
 use Rattle.instructions.specs.Views.{givensAt}
@@ -42,7 +42,7 @@ use Rattle.cells.proofs.recall.Reads as recall-reads
 use Rattle.cells.proofs.remember.Reads as remember-reads
 use Rattle.instructions.proofs.block_of.Reads as block-of-reads
 use Rattle.instructions.proofs.first.Reads as first-reads
-use Rattle.record.proofs.part_of.Reads as part-of-reads
+use Rattle.slices.proofs.part_of.Reads as part-of-reads
 use Rattle.blocks.proofs.+act+enter+enter_sub+run_block.{statement}
 use Rattle.blocks.proofs.+act+enter+enter_sub+run_block.Tie.{close}
 

@@ -1,6 +1,6 @@
 -- `compiler::compile` meets its contract.
 -- Assumes nothing.
-use Rattle.compiler.proofs.Book.{refused}
+use Rattle.compiler.proofs.Answers.{refused}
 use mathlib.Core.Path.{refl, sym, _∙_}
 use borrow.Author.Needs.{needs}
 use Rattle.compiler.proofs.compile.Statement.{statement}

@@ -2,7 +2,7 @@
 -- Assumes nothing.
 use mathlib.Core.Path.{refl}
 use Rattle.acceptance.proofs.Limits.{accepted-within}
-use Rattle.evaluator.proofs.Known.{nothing-known}
+use Rattle.scopes.proofs.Known.{nothing-known}
 use Rattle.evaluator.proofs.Service.{entry, typed, values-so, ends-so}
 use borrow.Author.Needs.{needs}
 use Rattle.evaluator.proofs.run_in.Statement.{statement}

@@ -2,7 +2,7 @@
 -- Assumes nothing.
 use Prim.Native.Nat.{_+_}
 use native.Mathlib.Omega.{arith}
-use Rattle.record.specs.Bytes.{bigEndian}
+use Rattle.slices.specs.Bytes.{bigEndian}
 use borrow.Author.Needs.{needs}
 use Rattle.instructions.proofs.distance.Statement.{statement}
 use Rattle.instructions.proofs.distance.Tie as tie

@@ -5,7 +5,7 @@ use mir.Val.{SFits}
 use mir.Syntax.{w32}
 use Rattle.lists.proofs.Lengths.{number-length}
 use Rattle.lists.proofs.Writing.{put-bytes}
-use Rattle.record.specs.Bytes.{numberBytes}
+use Rattle.slices.specs.Bytes.{numberBytes}
 use denote.Ref.{now}
 use native.Mathlib.Omega.{arith}
 use mathlib.Core.Path.{refl}

@@ -4,7 +4,7 @@ use Rattle.lists.specs.Inputs.{badRecord}
 use Rattle.lists.specs.Reading.{typed}
 use Rattle.lists.proofs.Reading.{Read, start, stop, fault, room, cell, turn}
 use Rattle.lists.proofs.Types.{typed-count}
-use Rattle.record.proofs.Parts.{all-left}
+use Rattle.slices.proofs.Parts.{all-left}
 use Rattle.cells.specs.Cells.{givenOf}
 use lib.ListN.{length, getD, drop}
 use denote.Ref.{now}

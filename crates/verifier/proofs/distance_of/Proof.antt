@@ -1,7 +1,7 @@
 -- `verifier::distance_of` meets its contract.
 -- Assumes nothing.
 use Rattle.verifier.specs.Instructions.{distanceOf}
-use Rattle.record.specs.Bytes.{bigEndian}
+use Rattle.slices.specs.Bytes.{bigEndian}
 use borrow.Author.Tests.{eq-eqb, ne-eqb}
 use native.Mathlib.Omega.{arith}
 use borrow.Author.Needs.{needs}

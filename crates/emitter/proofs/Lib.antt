@@ -1,0 +1,5 @@
+pub mod Emission
+pub mod Terms
+pub mod Chains
+pub mod Pieces
+pub mod Book

@@ -1,0 +1,217 @@
+-- Entering a scope: the laws of `Running`, over the numbers that the code reads from its tables.
+--     earlier, callee                     a scope that is called has its block before the caller's, and can be entered
+--     turn-variable, end-variable, end-hand, turn-call, end-call    a turn of the loop
+-- Assumes nothing.
+use Prim.Native.Nat.{ℕ, zero, suc, _+_, _-_, _*_, _<_, _≤_}
+use mathlib.Core.Path.{_≡_, refl, sym, ap, subst, _∙_}
+use mathlib.Core.Bool.{Bool, true, false, false≢true, cond}
+use mathlib.Core.List.{List, [], _∷_, _++_}
+use mathlib.Core.Logic.{⊎-elim}
+use native.Mathlib.Omega.{arith}
+use lib.ListN.{length, getD, take, drop, replicate}
+use lib.Seq.{take-all, getD-take, getD-drop}
+use lib.Dec.{eqb}
+use borrow.Author.Tests.{eqb-true}
+use Rattle.calculus.specs.declared.Value.{Value}
+use Rattle.calculus.specs.declared.Cause.{Cause}
+use Rattle.calculus.specs.declared.Outcome.{Outcome}
+use Rattle.calculus.specs.declared.Outcome.the-variants.{Gives, Ends}
+use Rattle.order.specs.Order.{among}
+use Rattle.book.specs.Syntax.{Scope}
+use Rattle.book.specs.Decode.{scopesOf}
+use Rattle.book.specs.References.{scopeAt}
+use Rattle.book.specs.Scopes.{blocks}
+use Rattle.book.specs.Steps.{stepCount, stepOrder}
+use Rattle.book.specs.Tables.{subScopeAt}
+use Rattle.acceptance.specs.Accepted.{AcceptedBook}
+use Rattle.order.proofs.Among.{among-none}
+use Rattle.order.proofs.Booleans.{decide}
+use Rattle.acceptance.proofs.Orders.{accepted-book, blocks-after}
+use Rattle.trees.specs.Chains.{Ready}
+use Rattle.evaluation.specs.Run.{ended}
+use Rattle.evaluation.proofs.Entering.{accepted-complete, accepted-formed}
+use Rattle.scopes.specs.Steps.{stepOutcome, Stored, Assigned, HandedAll, enteredAt, Came}
+use Rattle.scopes.specs.Known.{Known, Noting, Entry}
+use Rattle.scopes.specs.declared.Ran.{Ran}
+use Rattle.scopes.specs.declared.Ran.the-variants.{Values, Ended}
+use Rattle.scopes.proofs.Running.{Running, call-below, start, variable-ends, variable-turn, call-stops, call-ends, ends-few, values-few, call-turn, stop}
+
+abbrev hasValues : Ran → Bool
+hasValues (Values m) = true
+hasValues (Ended c m) = false
+
+pub ended-came : {bytes : List ℕ} {i : ℕ} {given own : List ℕ} {c : Cause} {m : ℕ} → length own ≡ 32 → enteredAt bytes i given ≡ ended c m
+    → Came bytes i given (Ended c m) own
+ended-came size e = record { size = size; same = sym e; present = λ m q x l. absurd (false≢true (ap hasValues q)) }
+
+-- a value is in its variable's cell; an end changes no cell
+pub assigns : {bytes given own called : List ℕ} {i x : ℕ} {o : Outcome} {v : Value} {after : List ℕ} → o ≡ stepOutcome bytes given own called i x → o ≡ Gives v
+    → Stored own x v after → Assigned bytes given own called i x (Gives v) after
+assigns e g put = record { outcome = sym g ∙ e; stored = put }
+
+pub assigns-none : {bytes given own called : List ℕ} {i x : ℕ} {o : Outcome} {c : Cause} → o ≡ stepOutcome bytes given own called i x → o ≡ Ends c
+    → Assigned bytes given own called i x o own
+assigns-none e g = record { outcome = e; stored = rw g refl }
+
+-- the place of a number in a list
+unfoldable pub placeOf : List ℕ → ℕ → ℕ
+placeOf [] w = 0
+placeOf (x ∷ xs) w = cond (eqb w x) 0 (suc (placeOf xs w))
+
+place-first : (xs : List ℕ) (p w : ℕ) → among (take p xs) w ≡ true → placeOf xs w < p
+unfolding placeOf among
+place-first xs zero w h = among-none w h
+place-first [] (suc p) w h = among-none w h
+place-first (x ∷ xs) (suc p) w h =
+    ⊎-elim
+    (λ (q : eqb w x ≡ true). rw q (omega arith))
+    (λ (q : eqb w x ≡ false). let l = place-first xs p w (rw q at h) in rw q (omega (arith, l)))
+    (decide (eqb w x))
+
+place-at : (xs : List ℕ) (w : ℕ) → among xs w ≡ true → getD xs (placeOf xs w) 0 ≡ w
+unfolding placeOf among
+place-at [] w h = among-none w h
+place-at (x ∷ xs) w h =
+    ⊎-elim
+    (λ (q : eqb w x ≡ true). rw q (sym (eqb-true w x q)))
+    (λ (q : eqb w x ≡ false). rw q (place-at xs w (rw q at h)))
+    (decide (eqb w x))
+
+-- how many blocks of a book stand before that of scope i
+abbrev pub rank : List ℕ → ℕ → ℕ
+rank bytes i = placeOf (blocks (scopesOf bytes)) i
+
+module _ {bytes places counts links orders : List ℕ} {i : ℕ} {own₀ memo₀ : List ℕ} (e : Entry bytes places counts links orders i own₀ memo₀) where
+  abbrev book : List Scope
+  book = scopesOf bytes
+
+  abbrev s : Scope
+  s = scopeAt book i
+
+  accepted : AcceptedBook bytes (length book)
+  accepted = accepted-book bytes (length book) (e .world .accepted)
+
+  pub scope-few : i < 32
+  scope-few = omega (arith, e .scope, accepted .scopes)
+
+  pub row-ready : Ready bytes places counts (take 834 (drop (i * 834) links)) i
+  row-ready = record { sound = e .world .sound; linked = e .world .linked .rows i (e .scope) }
+
+  step-at : (n : ℕ) → n < stepCount s → getD orders (i * 40 + n) 0 ≡ getD (stepOrder s) n 0
+  step-at n l =
+      sym (getD-drop (i * 40) orders n 0)
+      ∙ sym (getD-take (stepCount s) (drop (i * 40) orders) n 0 l)
+      ∙ ap (λ (xs : List ℕ). getD xs n 0) (e .world .stepOrders i (e .scope))
+
+  pub earlier : (k j : ℕ) → k < length (s .subScopes) → j ≡ subScopeAt book i k → rank bytes j < rank bytes i
+  unfolding subScopeAt
+  earlier k j l is =
+      let c = accepted-complete bytes (length book) (e .world .accepted) in
+      let f = accepted-formed bytes (length book) (e .world .accepted) in
+      let all : take (length book) (blocks book) ≡ blocks book = take-all (length book) (blocks book) (omega (arith, c .count)) in
+      let there : among (blocks book) i ≡ true = c .every i (e .scope) in
+      let low : rank bytes i < length book = place-first (blocks book) (length book) i (ap (λ (xs : List ℕ). among xs i) all ∙ there) in
+      let here : getD (blocks book) (rank bytes i) 0 ≡ i = place-at (blocks book) i there in
+      let long : length (scopeAt book (getD (blocks book) (rank bytes i) 0) .subScopes) ≡ length (s .subScopes) = ap (λ (b : ℕ). length (scopeAt book b .subScopes)) here in
+      let first : among (take (rank bytes i) (blocks book)) (getD (s .subScopes) k 0) ≡ true =
+      ap (λ (b : ℕ). among (take (rank bytes i) (blocks book)) (getD (scopeAt book b .subScopes) k 0)) (sym here)
+      ∙ blocks-after book c f (rank bytes i) low k (omega (arith, long)) in
+      subst (λ (z : ℕ). rank bytes z < rank bytes i) (sym is) (place-first (blocks book) (rank bytes i) (getD (s .subScopes) k 0) first)
+
+  pub callee : (k j : ℕ) (part memo : List ℕ) → k < length (s .subScopes) → j ≡ subScopeAt book i k → length part ≡ 32 → Known bytes memo
+      → Entry bytes places counts links orders j part memo
+  unfolding subScopeAt
+  callee k j part memo l is room known =
+      let f = accepted-formed bytes (length book) (e .world .accepted) in
+      record {
+        world = e .world;
+        scope = subst (λ (z : ℕ). z < length book) (sym is) (f i (e .scope) .subScopesNamed k l);
+        room = room;
+        known = known;
+      }
+
+  -- what is known can be read and written
+  pub noting : {own memo : List ℕ} → length own ≡ 32 → Known bytes memo → Noting bytes places counts i own memo
+  noting room known = record { laid = e .world .sound .laid; scope = scope-few; room = room; known = known }
+
+  pub begins : (given own : List ℕ) → length own ≡ 32 → Running bytes i given own (replicate 256 0) (replicate 32 0) 1 0
+  begins given own room = start bytes i given (e .world .accepted) (e .scope) own room
+
+  pub ends : {given own called handed : List ℕ} {count n a b : ℕ} → Running bytes i given own called handed count n
+      → a ≡ length (s .variables) → b ≡ length (s .subScopes) → a + b ≤ n → Came bytes i given (Values count) own
+  unfolding stepCount
+  ends {given} r va vb l = stop bytes i given (e .world .accepted) (e .scope) r (omega arith)
+
+  module _ {given own called handed : List ℕ} {count n a b x : ℕ} (r : Running bytes i given own called handed count n)
+      (va : a ≡ length (s .variables)) (vb : b ≡ length (s .subScopes)) (more : n < a + b) (at : x ≡ getD orders (i * 40 + n) 0) where
+    inside : n < stepCount s
+    unfolding stepCount
+    inside = omega arith
+
+    is : x ≡ getD (stepOrder s) n 0
+    is = at ∙ step-at n inside
+
+    pub step-few : n < 40
+    step-few = omega (arith, va, vb, more, accepted .within i .variables, accepted .within i .subScopes)
+
+    module _ (l : x < a) where
+      low : getD (stepOrder s) n 0 < length (s .variables)
+      low = subst (λ (z : ℕ). z < length (s .variables)) is (omega arith)
+
+      pub put-room : x < length own
+      put-room = omega (arith, l, va, r .ownRoom, accepted .within i .variables)
+
+      module _ {o : Outcome} {own' : List ℕ} (h : Assigned bytes given own called i x o own') where
+        outcome : o ≡ stepOutcome bytes given own called i (getD (stepOrder s) n 0)
+        outcome = h .outcome ∙ ap (stepOutcome bytes given own called i) is
+
+        pub turn-variable : {v : Value} → o ≡ Gives v → Running bytes i given own' called handed count (n + 1)
+        turn-variable {v} g =
+            let z : n + 1 ≡ suc n = omega arith in
+            rw z
+            (variable-turn bytes i given (e .world .accepted) (e .scope) r inside low o v own' outcome g
+            (subst (λ (y : ℕ). Stored own y v own') is (rw g at (h .stored))))
+
+        pub kept-room : {c : Cause} → o ≡ Ends c → length own' ≡ 32
+        kept-room g = ap length (rw g at (h .stored)) ∙ r .ownRoom
+
+        pub end-variable : {c : Cause} → o ≡ Ends c → Came bytes i given (Ended c count) own'
+        end-variable {c} g = ended-came (kept-room g) (variable-ends bytes i given (e .world .accepted) (e .scope) r inside low o c outcome g)
+
+    module _ (l : a ≤ x) where
+      call : length (s .variables) + (x - a) ≡ getD (stepOrder s) n 0
+      call = let q : length (s .variables) + (x - a) ≡ x = omega arith in q ∙ is
+
+      pub number-below : x - a < length (s .subScopes)
+      number-below = call-below bytes i given (e .world .accepted) (e .scope) r inside (x - a) call
+
+      pub number-few : x - a < 8
+      number-few = omega (arith, number-below, accepted .within i .subScopes)
+
+      pub called-room : (x - a) * 32 + 32 ≤ length called
+      called-room = let f = number-few in omega (arith, f, r .calledRoom)
+
+      module _ {o : Outcome} {handed' : List ℕ} (h : HandedAll bytes own called i (x - a) o handed') where
+        pub end-hand : {c : Cause} → o ≡ Ends c → Came bytes i given (Ended c count) own
+        end-hand {c} g = ended-came (r .ownRoom) (call-stops bytes i given (e .world .accepted) (e .scope) r inside (x - a) call h c g)
+
+        module _ {y : Value} (g : o ≡ Gives y) {j : ℕ} (ji : j ≡ subScopeAt book i (x - a)) {q : Ran} {part : List ℕ} (came : Came bytes j handed' q part) where
+          came' : Came bytes (getD (s .subScopes) (x - a) 0) handed' q part
+          unfolding subScopeAt
+          came' = subst (λ (z : ℕ). Came bytes z handed' q part) ji came
+
+          pub few-ended : {c : Cause} {m : ℕ} → q ≡ Ended c m → count + m ≤ 4096
+          few-ended {c} {m} f = ends-few bytes i given (e .world .accepted) (e .scope) r inside (x - a) call h y g came' c m f
+
+          pub few-values : {m : ℕ} → q ≡ Values m → count + m ≤ 4096
+          few-values {m} f = values-few bytes i given (e .world .accepted) (e .scope) r inside (x - a) call h y g came' m f
+
+          pub end-call : {c : Cause} {m : ℕ} → q ≡ Ended c m → Came bytes i given (Ended c (count + m)) own
+          end-call {c} {m} f =
+              ended-came (r .ownRoom) (call-ends bytes i given (e .world .accepted) (e .scope) r inside (x - a) call h y g came' c m f)
+
+          pub turn-call : {m : ℕ} (w : ℕ) → w ≡ 32 → q ≡ Values m
+              → Running bytes i given own (take ((x - a) * 32) called ++ (part ++ drop w (drop ((x - a) * 32) called))) handed' (count + m) (n + 1)
+          turn-call {m} w wide f =
+              let z : n + 1 ≡ suc n = omega arith in
+              rw (z, wide) (call-turn bytes i given (e .world .accepted) (e .scope) r inside (x - a) call h y g came' m f)

@@ -1,0 +1,78 @@
+-- What is known of scopes entered with nothing given.
+--     recalled, noted                     a row that is read, and one that is written
+--     nothing-known                       before the first scope
+-- Assumes nothing.
+use Prim.Native.Nat.{ℕ, zero, suc, _+_, _*_, _<_, _≤_}
+use mathlib.Core.Path.{_≡_, refl, sym, ap, subst, _∙_}
+use mathlib.Core.Bool.{Bool, true, false, false≢true}
+use mathlib.Core.List.{List, []}
+use mathlib.Core.Logic.{⊎-elim}
+use native.Mathlib.Omega.{arith}
+use lib.ListN.{length, getD, set, take, drop, replicate, length-set, length-take, length-drop, length-replicate, getD-replicate}
+use lib.Seq.{ext-getD, getD-set-same, getD-set-other, getD-take, getD-drop}
+use lib.Dec.{eqb, ltb}
+use borrow.Author.Tests.{eqb-true, eqb-false, ltb-true, ltb-false}
+use Rattle.calculus.specs.declared.Given.{Given}
+use Rattle.calculus.specs.declared.Given.the-variants.{Absent}
+use Rattle.order.proofs.Booleans.{decide}
+use Rattle.cells.specs.Cells.{givenOf, givenAt}
+use Rattle.book.specs.Decode.{scopesOf}
+use Rattle.book.specs.References.{scopeAt}
+use Rattle.evaluation.specs.Run.{Entered, enter}
+use Rattle.scopes.specs.Steps.{givensFrom, enteredAt, Came}
+use Rattle.cells.specs.Rows.{NoneGiven, Ungiven, RowRoom, Remembered}
+use Rattle.cells.specs.Rows as cells
+use Rattle.cells.proofs.Rows.{nothing-kept, kept-found, kept-noted}
+use Rattle.scopes.specs.Known.{Known, Noting, Recalled}
+use Rattle.scopes.specs.declared.Ran.{Ran}
+use Rattle.scopes.specs.declared.Ran.the-variants.{Values}
+
+-- where nothing is given, it does not matter in which cells
+givens-none : (given : List ℕ) (v n : ℕ) → ((u : ℕ) → u < v + n → givenAt given u ≡ Absent) → givensFrom given v n ≡ givensFrom [] v n
+unfolding givensFrom
+givens-none given v zero h = refl
+givens-none given v (suc n) h =
+    rw (h v (omega arith) ∙ sym (empty v), givens-none given (suc v) n (λ u l. h u (omega arith))) refl
+  where
+    empty : (v : ℕ) → givenAt [] v ≡ Absent
+    empty v = unfold givenAt givenOf in refl
+
+entered-none : (bytes : List ℕ) (i : ℕ) (given : List ℕ) → NoneGiven given (length (scopeAt (scopesOf bytes) i .variables))
+    → enteredAt bytes i given ≡ enteredAt bytes i []
+unfolding enteredAt
+entered-none bytes i given h =
+    let vars = length (scopeAt (scopesOf bytes) i .variables) in
+    let e : givensFrom given 0 vars ≡ givensFrom [] 0 vars = givens-none given 0 vars (λ u l. h u (omega arith)) in
+    rw e refl
+
+came-none : (bytes : List ℕ) (i : ℕ) (given : List ℕ) (r : Ran) (own : List ℕ) → NoneGiven given (length (scopeAt (scopesOf bytes) i .variables))
+    → Came bytes i given r own → Came bytes i [] r own
+came-none bytes i given r own h c = record { size = c .size; same = c .same ∙ entered-none bytes i given h; present = c .present }
+
+none-came : (bytes : List ℕ) (i : ℕ) (given : List ℕ) (r : Ran) (own : List ℕ) → NoneGiven given (length (scopeAt (scopesOf bytes) i .variables))
+    → Came bytes i [] r own → Came bytes i given r own
+none-came bytes i given r own h c = record { size = c .size; same = c .same ∙ sym (entered-none bytes i given h); present = c .present }
+
+-- Rows
+
+module _ {bytes places counts : List ℕ} {i : ℕ} {own memo : List ℕ} (n : Noting bytes places counts i own memo) where
+  pub row-room : RowRoom i own memo
+  row-room = record { row = n .scope; room = n .room; size = n .known .size }
+
+  module _ {given : List ℕ} {count : ℕ} {b : Bool} (u : Ungiven given count b) (v : count ≡ length (scopeAt (scopesOf bytes) i .variables)) where
+    bare : b ≡ true → NoneGiven given (length (scopeAt (scopesOf bytes) i .variables))
+    bare t x l = u .none t x (omega (arith, v))
+
+    pub recalled : {own' : List ℕ} {r : ℕ} → length own' ≡ 32 → cells.Recalled memo i b own r own' → Recalled bytes i given r own'
+    recalled {own'} {r} s f =
+        record {
+          size = s;
+          found = λ ne. none-came bytes i given (Values r) own' (bare (f .found ne .0)) (kept-found _ (n .known) (n .scope) f ne);
+        }
+
+    pub noted : {memo' : List ℕ} {m : ℕ} → Came bytes i given (Values m) own → length memo' ≡ 1056 → Remembered own m i b memo memo' → Known bytes memo'
+    noted {memo'} {m} came s w =
+        kept-noted _ (n .known) (n .scope) w s (λ t. came-none bytes i given (Values m) own (bare t) came)
+
+pub nothing-known : (bytes : List ℕ) → Known bytes (replicate 1056 0)
+nothing-known bytes = nothing-kept _

@@ -1,0 +1,5 @@
+pub mod Cells
+mod Hands
+pub mod Known
+mod Running
+mod Entering

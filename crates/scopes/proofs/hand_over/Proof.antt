@@ -1,0 +1,85 @@
+-- `scopes::hand_over` meets its contract. The invariant: the cells hold what the variables so far are handed.
+-- Assumes nothing.
+use Prim.Native.Nat.{_-_}
+use borrow.Author.Needs.{needs}
+use native.Mathlib.Omega.{arith}
+use Rattle.book.specs.Tables.{subScopeAt}
+use Rattle.scopes.proofs.Hands.{Passed, none-passed, pass, halt, end}
+use Rattle.scopes.proofs.hand_over.Statement.{statement}
+use Rattle.scopes.proofs.hand_over.Tie as tie
+
+abbrev Inv-loop : tie.InvT-loop
+Inv-loop book places counts links own called i k handed₀ j count v₀ handed v = Passed book own called i k handed v
+
+abbrev μ-loop : tie.MeasureT-loop
+μ-loop book places counts links own called i k handed₀ j count v₀ handed v = count - v
+
+sub-scope-at-requires : tie.Need-sub-scope-at-requires Inv-loop μ-loop
+sub-scope-at-requires c κs = search needs
+
+variable-count-requires : tie.Need-variable-count-requires Inv-loop μ-loop
+variable-count-requires c κs = search needs
+
+loop-holds : tie.Need-loop-holds Inv-loop μ-loop
+loop-holds c = none-passed (c .before .before .before .before .before .before .before .before .before .pre .room)
+
+cast-hand-one : tie.Need-cast-hand-one Inv-loop μ-loop
+cast-hand-one c = search needs
+
+cast-hand-one-2 : tie.Need-cast-hand-one-2 Inv-loop μ-loop
+cast-hand-one-2 c = omega (arith, c .loop-test .taken, c .before .before .variable-count .ensures, c .before .before .before .before .before .before .before .before .before .before .before .pre .ready .sound .variables (c .before .before .before .sub-scope-at .result))
+
+hand-one-requires : tie.Need-hand-one-requires Inv-loop μ-loop
+hand-one-requires c κs = record { ready = c .before .before .before .before .before .before .before .before .before .before .before .before .pre .ready; room = omega (arith, c .before .before .loop .inv .size, c .before .loop-test .taken, c .before .before .before .variable-count .ensures, c .before .before .before .before .before .before .before .before .before .before .before .before .pre .ready .sound .variables (c .before .before .before .before .sub-scope-at .result)) }
+
+enum-told : tie.Need-enum-told Inv-loop μ-loop
+enum-told c = search needs
+
+enum-told-2 : tie.Need-enum-told-2 Inv-loop μ-loop
+enum-told-2 c = search needs
+
+same-length : tie.Need-same-length Inv-loop μ-loop
+same-length c = search needs
+
+returns : tie.Need-returns Inv-loop μ-loop
+unfolding subScopeAt
+returns c = halt (c .before .before .before .before .before .before .before .loop .inv) (rw (← c .before .before .before .before .before .before .before .before .before .sub-scope-at .ensures, ← c .before .before .before .before .before .before .before .before .variable-count .ensures) (c .before .before .before .before .before .before .loop-test .taken)) (c .before .before .before .before .hand-one .ensures) _ (c .enum-told2 .given .1)
+
+add-v : tie.Need-add-v Inv-loop μ-loop
+add-v c = search needs
+
+loop-less : tie.Need-loop-less Inv-loop μ-loop
+loop-less c = search needs
+
+loop-again : tie.Need-loop-again Inv-loop μ-loop
+unfolding subScopeAt
+loop-again c = pass (c .before .before .before .before .before .before .before .loop .inv) (rw (← c .before .before .before .before .before .before .before .before .before .sub-scope-at .ensures, ← c .before .before .before .before .before .before .before .before .variable-count .ensures) (c .before .before .before .before .before .before .loop-test .taken)) (c .before .before .before .before .hand-one .ensures) _ (c .enum-told .given .1)
+
+same-length-2 : tie.Need-same-length-2 Inv-loop μ-loop
+same-length-2 c = search needs
+
+returns-2 : tie.Need-returns-2 Inv-loop μ-loop
+unfolding subScopeAt
+returns-2 c = end (c .before .loop .inv) (rw (← c .before .before .before .sub-scope-at .ensures, ← c .before .before .variable-count .ensures) (c .loop-test .left)) _
+
+pub hand-over-spec : {M : Type 1} → statement M
+hand-over-spec =
+    tie.close
+    (tie.spec
+    Inv-loop
+    μ-loop
+    sub-scope-at-requires
+    variable-count-requires
+    loop-holds
+    cast-hand-one
+    cast-hand-one-2
+    hand-one-requires
+    enum-told
+    enum-told-2
+    same-length
+    returns
+    add-v
+    loop-less
+    loop-again
+    same-length-2
+    returns-2)

@@ -1,0 +1,34 @@
+-- What is known of a scope that was entered with nothing given: it comes to the same each time. A row for each scope: the count of scopes
+-- entered, then the cells of its variables.
+use Prim.Native.Nat.{ℕ, _<_}
+use mathlib.Core.Path.{_≡_}
+use mathlib.Core.List.{List, []}
+use lib.ListN.{length}
+use Rattle.cells.specs.Rows.{Kept}
+use Rattle.book.specs.Decode.{scopesOf}
+use Rattle.book.specs.Tables.{Laid}
+use Rattle.scopes.specs.Steps.{World, Came}
+use Rattle.scopes.specs.declared.Ran.the-variants.{Values}
+
+-- every row that has a count is what entering its scope with nothing given comes to
+abbrev pub Known : List ℕ → List ℕ → Type 0
+Known bytes memo = Kept (λ i count cells. Came bytes i [] (Values count) cells) memo
+
+-- the row of scope i can be read and written
+pub record Noting (bytes places counts : List ℕ) (i : ℕ) (own memo : List ℕ) : Type 0 where
+  pub laid : Laid bytes places counts
+  pub scope : i < 32
+  pub room : length own ≡ 32
+  pub known : Known bytes memo
+
+-- where the answer is not 0, it is the count of scopes entered, and the cells hold the values
+pub record Recalled (bytes : List ℕ) (i : ℕ) (given : List ℕ) (r : ℕ) (own : List ℕ) : Type 0 where
+  pub size : length own ≡ 32
+  pub found : (r ≡ 0 → ⊥) → Came bytes i given (Values r) own
+
+-- scope i can be entered
+pub record Entry (bytes places counts links orders : List ℕ) (i : ℕ) (own memo : List ℕ) : Type 0 where
+  pub world : World bytes places counts links orders
+  pub scope : i < length (scopesOf bytes)
+  pub room : length own ≡ 32
+  pub known : Known bytes memo
