@@ -29,7 +29,7 @@ def files():
     missing = ""
     for document in ["README.md"] + sorted(glob.glob("docs/*.md")):
         for name in re.findall(r"`(\w+/[\w./+]+)`", read(document)):
-            places = [name, f"crates/{name}", f"crates/{name}.edit"]
+            places = [name, f"crates/{name}", f"crates/{name}.edit", "crates/" + name.replace("/", "/must-fail/", 1) + ".edit"]
             if not name.startswith(("target/", "src/")) and not any(map(os.path.exists, places)):
                 missing += f"{document}: {name}\n"
     return missing

@@ -8,7 +8,6 @@ use slices::byte_at;
 ghost use mathlib.Core.Path.{_≡_};
 ghost use Prim.Native.Nat.{_+_, _<_, _≤_, _*_};
 ghost use lib.ListN.{length, getD, replicate};
-ghost use Rattle.machine.specs.Acceptance.{accepted};
 ghost use Rattle.verifier.specs.Tables.{Room};
 ghost use Rattle.verifier.specs.Instructions.{numbersOf, rowOf, named, distanceOf, farthest};
 ghost use Rattle.verifier.specs.Pass.{faultyAt, exceedsWith, Limited, namesAt, RingRoom, Passed, nothingRead, Reading};
@@ -524,17 +523,4 @@ pub fn verify(code: &[u8], spans: &mut [usize], heads: &mut [u8], places: &mut [
     }
     let mut ring = [0u8; 65536];
     judge_code(code, spans, heads, places, &mut sizes, &mut ring)
-}
-
-// Whether code is accepted.
-pub fn accepts(code: &[u8]) -> bool
-    ensures { λ r. ⌜ r ≡ accepted (now (code .entry)) ⌝ }
-{
-    let mut spans = [0usize; 64];
-    let mut heads = [0u8; 1536];
-    let mut places = [0u8; 32];
-    match verify(code, &mut spans, &mut heads, &mut places) {
-        Verdict::Refused => false,
-        Verdict::Accepted(_) => true,
-    }
 }

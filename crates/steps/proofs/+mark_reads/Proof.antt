@@ -114,7 +114,7 @@ mark-reads-same-length-2 : (t : ℕ) → mark-reads-lts.Need-same-length-2 (R-ma
 mark-reads-same-length-2 t c = search needs
 
 mark-reads-returns-4 : (t : ℕ) → mark-reads-lts.Need-returns-4 (R-mark-reads t) (mark-reads-at t) mark-reads.Post
-mark-reads-returns-4 t c = read-all _ _ _ _ _ (c .before .before .before .before .before .before .before .before .before .before .before .before .before .before .pre .1 .tables .within .nodes (c .before .before .before .before .before .before .before .before .before .before .before .before .before .before .args .i)) (c .before .before .before .before .before .before .before .before .before .before .before .before .before .before .pre .1 .below) (c .before .before .before .before .before .before .before .before .before .if1 .left) _ (sym (c .before .before .before .before .before .before .k .given .1) ∙ c .before .before .before .before .before .before .before .before .node-at .ensures) _ _ _ (rw (← c .before .before .before .call-step .ensures) (c .before .before .mark2 .ensures)) (each-none _ _)
+mark-reads-returns-4 t c = read-all _ _ _ _ _ (c .before .before .before .before .before .before .before .before .before .before .before .before .before .before .pre .1 .tables .within .nodes (c .before .before .before .before .before .before .before .before .before .before .before .before .before .before .args .i)) (c .before .before .before .before .before .before .before .before .before .before .before .before .before .before .pre .1 .below) (c .before .before .before .before .before .before .before .before .before .if1 .left) _ (sym (c .before .before .before .before .before .before .k .given .1) ∙ c .before .before .before .before .before .before .before .before .node-at .ensures) _ _ _ (rw (c .before .before .before .call-step .ensures) at (c .before .before .mark2 .ensures)) (each-none _ _)
 
 mark-reads-same-length-3 : (t : ℕ) → mark-reads-lts.Need-same-length-3 (R-mark-reads t) (mark-reads-at t) mark-reads.Post
 mark-reads-same-length-3 t c = search needs
