@@ -11,7 +11,7 @@ use instructions::step;
 use slices::byte_at;
 use slices::part_of;
 ghost use mathlib.Core.Path.{_≡_};
-ghost use Prim.Native.Nat.{_+_, _-_, _*_, _<_, _≤_};
+ghost use Prim.Native.Nat.{_+_, _*_, _<_, _≤_};
 ghost use lib.ListN.{length, getD};
 ghost use Rattle.blocks.specs.Entries.{nonzero, Ending, Finished, Entry, Known, Came, CameTo, Advances};
 ghost use Rattle.blocks.specs.Running.{StepsAt, SteppedAt, EntersAt, EnteredAt, Acting, Acted};

@@ -4,7 +4,6 @@ use emitter::emit_blocks;
 use evaluation::Refusal;
 use judge::judge_into;
 ghost use mathlib.Core.Path.{_≡_};
-ghost use Prim.Native.Nat.{_<_};
 ghost use lib.ListN.{length};
 ghost use Rattle.compiler.specs.Compile.{Compiles};
 ghost use Rattle.emitter.specs.Pieces.{Tabled};

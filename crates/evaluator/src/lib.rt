@@ -9,11 +9,8 @@ use lists::write_results;
 use scopes::Ran;
 use scopes::enter;
 use trees::fill_all_links;
-ghost use Prim.Native.Nat.{_<_};
-ghost use lib.ListN.{length};
 ghost use Rattle.trees.specs.Links.{Blanks};
 ghost use Rattle.evaluator.specs.Service.{Tabled, Asked, Replied, Evaluated};
-ghost use Rattle.scopes.specs.declared.Ran.the-variants.{Values};
 
 // Runs scope i of an accepted book of n scopes with what is given, and writes the results. No link is set yet.
 fn run_in(

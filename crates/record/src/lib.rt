@@ -1,8 +1,6 @@
 // Records: the shape of each kind, and the record at a position.
 use slices::part_of;
 ghost use mathlib.Core.Path.{_≡_};
-ghost use Prim.Native.Nat.{_+_};
-ghost use lib.ListN.{length};
 ghost use Rattle.record.specs.Kinds.{shapesOf, shapeIn};
 ghost use Rattle.record.specs.Record.{recordAt, bodyAt};
 

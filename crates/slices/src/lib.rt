@@ -6,7 +6,7 @@ ghost use lib.Dec.{leb};
 ghost use lib.ListN.{length, getD, take, drop};
 ghost use mir.Syntax.{w32};
 ghost use mir.Val.{toZ, ofZ};
-ghost use Rattle.slices.specs.Bytes.{bigEndian, bytesOf, numberAt, numberBytes, overwrite};
+ghost use Rattle.slices.specs.Bytes.{bigEndian, numberAt, numberBytes, overwrite};
 
 // The part of s from start on, at most length bytes of it.
 pub fn part_of(s: &[u8], start: usize, length: usize) -> &[u8]
@@ -19,16 +19,6 @@ pub fn part_of(s: &[u8], start: usize, length: usize) -> &[u8]
         return &s[start..];
     }
     &s[start..start + length]
-}
-
-// All of s after a position; nothing past the end.
-pub fn rest_after(s: &[u8], at: usize) -> &[u8]
-    ensures { λ r. ⌜ now r ≡ drop (at + 1) (now (s .entry)) ⌝ }
-{
-    if s.len() <= at {
-        return &s[..0];
-    }
-    &s[at + 1..]
 }
 
 // A byte, or 0 past the end.
@@ -119,16 +109,6 @@ pub fn put_byte(s: &mut [u8], at: usize, b: u8)
 {
     if fits(s.len(), at, 1) {
         s[at] = b;
-    }
-}
-
-// A distance written at a position; nothing where it does not fit.
-pub fn put_distance(s: &mut [u8], at: usize, d: usize)
-    ensures { λ _. ⌜ now (s .exit) ≡ overwrite (now (s .entry)) at (bytesOf 2 d) ⌝ }
-{
-    if fits(s.len(), at, 2) {
-        s[at] = (d / 256 % 256) as u8;
-        s[at + 1] = (d % 256) as u8;
     }
 }
 
