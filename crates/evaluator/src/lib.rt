@@ -1,4 +1,4 @@
-// Evaluating a scope of a book: its steps are run in their order, each call in cells of its own.
+// Evaluating a scope of a book: the service.
 use book::Judged;
 use evaluation::Answer;
 use evaluation::Refusal;
