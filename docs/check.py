@@ -17,7 +17,7 @@ SCRIPTS = [["docs/counts.py"], ["docs/promises.py"], ["docs/layers.py", "--check
 
 def script(words):
     run = subprocess.run([sys.executable, *words], capture_output=True, text=True)
-    return run.stdout + run.stderr if run.returncode else ""
+    return f"{run.stdout}{run.stderr}exit status {run.returncode}" if run.returncode else ""
 
 
 def read(path):

@@ -11,8 +11,8 @@ use native.Mathlib.Omega.{arith}
 use lib.ListN.{length, getD, replicate}
 use Rattle.calculus.specs.declared.Given.the-variants.{Absent}
 use Rattle.cells.specs.Cells.{givenOf, givenAt}
-use Rattle.cells.specs.Rows.{Ungiven, RowRoom, Recalled, Remembered}
-use Rattle.cells.proofs.Rows.{nothing-kept, kept-found, kept-noted}
+use Rattle.memo.specs.Rows.{Ungiven, RowRoom, Recalled, Remembered}
+use Rattle.memo.proofs.Rows.{nothing-kept, kept-found, kept-noted}
 use Rattle.instructions.specs.Effects.{variablesIn}
 use Rattle.instructions.specs.Views.{givensAt}
 use Rattle.instructions.proofs.Memory.{tab-same}

@@ -8,7 +8,7 @@ use mathlib.Core.List.{List}
 use native.Mathlib.Omega.{arith}
 use lib.ListN.{length, replicate, length-replicate}
 use lib.Seq.{ext-getD}
-use Rattle.cells.specs.Rows.{Copied}
+use Rattle.memo.specs.Rows.{Copied}
 use Rattle.blocks.specs.declared.Ran.{Ran}
 use Rattle.blocks.specs.declared.Ran.the-variants.{Values, Ended, Stuck, NoRoom}
 use Rattle.blocks.specs.Entries.{Enough, Came, CameTo}

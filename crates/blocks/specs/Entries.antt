@@ -19,7 +19,7 @@ use Rattle.blocks.specs.declared.Ran.{Ran}
 use Rattle.blocks.specs.declared.Ran.the-variants.{Values, Ended, Stuck, NoRoom}
 use Rattle.instructions.specs.Views.{tab, givensAt, valuesIn, memory}
 use Rattle.instructions.specs.Effects.{variablesIn, subScopesIn}
-use Rattle.cells.specs.Rows.{Kept}
+use Rattle.memo.specs.Rows.{Kept}
 
 -- n cells from v on are not 0
 unfoldable pub nonzero : List ℕ → ℕ → ℕ → Bool

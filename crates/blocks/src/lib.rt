@@ -1,13 +1,13 @@
 // The machine that runs accepted code: each entry of a block works on parts of a lent stack and of lent tries.
 use calculus::Cause;
-use cells::copy_cells;
-use cells::none_given;
-use cells::recall;
-use cells::remember;
 use instructions::Move;
 use instructions::block_of;
 use instructions::first;
 use instructions::step;
+use memo::copy_cells;
+use memo::none_given;
+use memo::recall;
+use memo::remember;
 use slices::byte_at;
 use slices::part_of;
 ghost use mathlib.Core.Path.{_≡_};

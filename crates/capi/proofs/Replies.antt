@@ -4,7 +4,7 @@ use mathlib.Core.Path.{_≡_, _∙_, ap}
 use mathlib.Core.List.{List}
 use Rattle.evaluation.specs.Evaluate.{Reply, Replies}
 use Rattle.evaluation.specs.declared.Answer.{Answer}
-use Rattle.capi.specs.Packed.{packedAnswer}
+use Rattle.numbers.specs.Packed.{packedAnswer}
 use Rattle.capi.specs.Replies.{PackedReply}
 
 pub packed : {reply : Reply} {before : List ℕ} {a : Answer} {r : ℕ} {after : List ℕ} → Replies reply before a after → r ≡ packedAnswer a

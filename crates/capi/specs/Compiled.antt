@@ -4,7 +4,7 @@ use mathlib.Core.Path.{_≡_}
 use mathlib.Core.List.{List, _++_}
 use lib.ListN.{length, drop}
 use Rattle.compiler.specs.Compile.{compile}
-use Rattle.capi.specs.Packed.{packedCompiled}
+use Rattle.numbers.specs.Packed.{packedCompiled}
 
 pub record PackedCompilation (bytes before : List ℕ) (r : ℕ) (after : List ℕ) : Type 0 where
   pub answer : r ≡ packedCompiled (compile bytes (length before) .answer)

@@ -5,7 +5,7 @@ use mathlib.Core.List.{List}
 use lib.ListN.{length}
 use Rattle.evaluation.specs.Evaluate.{Reply, evaluate, memoryAfter}
 use Rattle.machine.specs.Service.{run}
-use Rattle.capi.specs.Packed.{packedAnswer}
+use Rattle.numbers.specs.Packed.{packedAnswer}
 
 -- those of a reply, its answer as one number
 pub record PackedReply (reply : Reply) (before : List ℕ) (r : ℕ) (after : List ℕ) : Type 0 where

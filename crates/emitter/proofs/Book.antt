@@ -26,7 +26,7 @@ use Rattle.book.specs.declared.Variable.{Variable}
 use Rattle.acceptance.specs.Accepted.{AcceptedBook}
 use Rattle.acceptance.proofs.Acceptance.{accepted-faultless}
 use Rattle.acceptance.proofs.Orders.{accepted-book}
-use Rattle.trees.specs.Links.{Sound, Blank}
+use Rattle.links.specs.Links.{Sound, Blank}
 use Rattle.translation.specs.Code.{size, code}
 use Rattle.translation.specs.Blocks.{typeByte, variableCode, overridesCode, callCode, stepCode, stepsCode, variablesCode, subScopesCode, blockCode}
 use Rattle.translation.specs.Blocks.{blocksCode, codeOf}

@@ -20,9 +20,9 @@ use Rattle.book.specs.Tables.{clauseAt}
 use Rattle.book.specs.Trees.{bases, hasRule, withRules, withoutRules, tree, calledTarget}
 use Rattle.book.specs.declared.Target.{Target}
 use Rattle.book.specs.declared.Clause.{Clause}
-use Rattle.trees.specs.Links.{slotOf, headOf, inChain, firstFrom}
+use Rattle.links.specs.Links.{slotOf, headOf, inChain, firstFrom}
 use Rattle.trees.specs.Chains.{Ready, chainTerms}
-use Rattle.trees.proofs.Named.{Chained, sound-chained, chained-head}
+use Rattle.links.proofs.Named.{Chained, sound-chained, chained-head}
 use Rattle.trees.proofs.Chains.{found, clauseTerm, chainFrom, term-at, from-start, from-past, from-here, from-first, exceptions-chain, bases-chain}
 use Rattle.trees.proofs.Targets.{rule-first, rule-link, slot-few}
 use Rattle.translation.specs.Code.{size}

@@ -18,7 +18,7 @@ use Rattle.book.specs.Scopes.{blocks}
 use Rattle.book.specs.Tables.{Laid, variableAt, subScopeAt, clauseAt}
 use Rattle.book.specs.declared.Consequence.{Consequence}
 use Rattle.book.specs.declared.Judged.the-variants.{Accepted}
-use Rattle.trees.specs.Links.{headOf, inChain, Sound}
+use Rattle.links.specs.Links.{headOf, inChain, Sound}
 use Rattle.translation.specs.Code.{far, ifAny, size, sizes, code, codes}
 use Rattle.translation.specs.Blocks.{typeByte}
 use Rattle.emitter.specs.Emission.{Emits, each, total}

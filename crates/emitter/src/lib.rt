@@ -3,21 +3,24 @@ use book::Consequence;
 use book::Node;
 use book::Target;
 use book::ValueType;
-use book::clause_at;
-use book::clause_count;
-use book::node_at;
-use book::node_count;
-use book::sub_scope_at;
-use book::sub_scope_count;
-use book::variable_at;
-use book::variable_count;
 use calculus::Binary;
 use calculus::Unary;
-use slices::bits_of;
+use integers::bits_of;
+use links::EXCEPTIONS;
+use links::RULES;
+use links::SIBLINGS;
+use links::fill_links;
+use links::slot_of;
 use slices::byte_at;
-use trees::fill_links;
+use tables::clause_at;
+use tables::clause_count;
+use tables::node_at;
+use tables::node_count;
+use tables::sub_scope_at;
+use tables::sub_scope_count;
+use tables::variable_at;
+use tables::variable_count;
 use trees::has_clause;
-use trees::slot_of;
 ghost use mathlib.Core.Path.{_≡_};
 ghost use Prim.Native.Nat.{_<_};
 ghost use lib.ListN.{length};
@@ -38,13 +41,7 @@ ghost use Rattle.emitter.specs.Pieces.{variablePiece, variableSize, over
 ghost use Rattle.emitter.specs.Pieces.{stepsPiece, stepsSize, headCount, headByte, headsPiece, headsSize};
 ghost use Rattle.emitter.specs.Pieces.{blockPiece, blockSize, bookPiece, bookSize, Ordered, Called, Block, Tabled};
 
-// The cells of a scope's links: first exceptions, next siblings, first rules.
-const EXCEPTIONS: usize = 289;
-
-const SIBLINGS: usize = 417;
-
-const RULES: usize = 545;
-
+// The most steps of a scope.
 const STEPS: usize = 40;
 
 // Writes a byte in front of the last `at` bytes; where the memory is too short, nothing. Each function that writes returns the next position.

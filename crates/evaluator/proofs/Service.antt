@@ -33,7 +33,7 @@ use Rattle.lists.specs.Reading.{Taken}
 use Rattle.lists.specs.Results.{resultLength, results}
 use Rattle.lists.specs.Writing.{valuesFrom, valuesOf, valueType, isOf, resultLengthAt, resultMemory}
 use Rattle.lists.specs.Writing as writing
-use Rattle.trees.specs.Links.{Sound, Blanks, AllLinked}
+use Rattle.links.specs.Links.{Sound, Blanks, AllLinked}
 use Rattle.evaluation.specs.Run.{values, ended, enter}
 use Rattle.evaluation.specs.Types.{Fitting, ValuesFit}
 use Rattle.evaluation.specs.Evaluate.{replyOf, evaluate, asked, memoryAfter, refuse, onJudged}

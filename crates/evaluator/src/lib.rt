@@ -2,14 +2,14 @@
 use book::Judged;
 use evaluation::Answer;
 use evaluation::Refusal;
+use inputs::read_inputs;
 use judge::judge_into;
-use lists::read_inputs;
-use lists::result_length;
-use lists::write_results;
+use links::fill_all_links;
+use results::result_length;
+use results::write_results;
 use scopes::Ran;
 use scopes::enter;
-use trees::fill_all_links;
-ghost use Rattle.trees.specs.Links.{Blanks};
+ghost use Rattle.links.specs.Links.{Blanks};
 ghost use Rattle.evaluator.specs.Service.{Tabled, Asked, Replied, Evaluated};
 
 // Runs scope i of an accepted book of n scopes with what is given, and writes the results. No link is set yet.

@@ -1,7 +1,5 @@
 // The instructions of accepted code other than the entry of a sub-scope, over parts of a lent stack and of lent tries.
 use book::ValueType;
-use book::same_type;
-use book::type_of;
 use calculus::Binary;
 use calculus::Cause;
 use calculus::Given;
@@ -10,14 +8,16 @@ use calculus::Unary;
 use calculus::Value;
 use cells::cell_of;
 use cells::given_of;
+use integers::distance_at;
+use integers::number_at;
 use operators::apply_binary;
 use operators::apply_unary;
 use operators::truth_of;
 use slices::byte_at;
-use slices::distance_at;
-use slices::number_at;
-use typing::operand_type;
-use typing::unary_type;
+use types::operand_type;
+use types::same_type;
+use types::type_of;
+use types::unary_type;
 ghost use mathlib.Core.Path.{_≡_};
 ghost use mathlib.Core.List.{List};
 ghost use Prim.Native.Nat.{ℕ, _+_, _-_, _*_, _<_, _≤_};

@@ -1,18 +1,17 @@
 // Judging a book: the first fault in the order written, or the number of its scopes; and the tables of an accepted book.
 use book::Fault;
 use book::Judged;
+use mixing::has_mixed;
 use references::find_naming;
 use scan::Reading;
 use scan::read_records;
 use steps::block_order;
 use steps::fill_steps;
-use steps::fill_weights;
 use typing::has_mismatch;
-use typing::has_mixed;
+use weights::fill_weights;
 ghost use mathlib.Core.Path.{_≡_};
-ghost use lib.ListN.{length};
 ghost use Rattle.book.specs.Decode.{scopesOf};
-ghost use Rattle.book.specs.Judge.{wholeBook, faultNumber};
+ghost use Rattle.book.specs.Judge.{wholeBook};
 ghost use Rattle.book.specs.Judge.{judge as Judge·judge};
 ghost use Rattle.judge.specs.Verdict.{Fresh, Room, SoundRecords, Checked, Judging, orderFaults};
 
@@ -111,24 +110,4 @@ pub fn judge(book: &[u8]) -> Judged
         &mut weights,
         &mut orders,
     )
-}
-
-// The paper's number of a fault.
-pub fn fault_number(f: Fault) -> u8
-    ensures { λ r. ⌜ r ≡ faultNumber f ⌝ }
-{
-    match f {
-        Fault::Truncated => 1,
-        Fault::UnknownKind => 2,
-        Fault::OutOfOrder => 3,
-        Fault::LimitExceeded => 4,
-        Fault::InvalidByte => 5,
-        Fault::DanglingReference => 6,
-        Fault::SharedNode => 7,
-        Fault::TypeMismatch => 8,
-        Fault::MixedClauses => 9,
-        Fault::ScopeCycle => 10,
-        Fault::WeightExceeded => 11,
-        Fault::DependencyCycle => 12,
-    }
 }

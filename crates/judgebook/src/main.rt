@@ -1,9 +1,9 @@
 // Judges the book on standard input: prints `accepted N`, the number of its scopes, or `refused R`, the number of the first fault.
 use book::Judged;
-use judge::fault_number;
 use judge::judge;
 use libc::STDIN_FILENO;
 use libc::STDOUT_FILENO;
+use numbers::fault_number;
 
 fn write(text: &[u8]) {
     io::write_all(STDOUT_FILENO, text);

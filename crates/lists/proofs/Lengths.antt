@@ -17,7 +17,7 @@ use mir.Val.{ofZ}
 use Rattle.calculus.specs.declared.Value.{Value}
 use Rattle.calculus.specs.declared.Value.the-variants.{Truth, Number}
 use Rattle.slices.specs.Bytes.{numberBytes}
-use Rattle.slices.proofs.Endian.{length-bytes}
+use Rattle.integers.proofs.Endian.{length-bytes}
 use Rattle.book.specs.declared.ValueType.{ValueType}
 use Rattle.book.specs.declared.ValueType.the-variants.{YesNo, Numeric}
 use Rattle.book.specs.declared.Variable.{Variable}

@@ -1,6 +1,6 @@
 pub mod Lengths
-mod Reading
+pub mod Reading
 pub mod Givens
 pub mod Values
-mod Writing
+pub mod Writing
 pub mod Types

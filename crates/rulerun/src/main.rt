@@ -4,12 +4,12 @@ use engine::Answer;
 use engine::Cause;
 use engine::evaluate;
 use engine::refusal_number;
+use integers::distance_at;
+use integers::number_at;
 use libc::STDIN_FILENO;
 use libc::STDOUT_FILENO;
 use operators::magnitude;
 use slices::byte_at;
-use slices::distance_at;
-use slices::number_at;
 use slices::part_of;
 
 fn write(text: &[u8]) {

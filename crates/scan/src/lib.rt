@@ -3,14 +3,11 @@ use book::Fault;
 use record::Medium;
 use record::Record;
 use record::record_at;
-use slices::byte_at;
-use slices::part_of;
+use validity::is_invalid;
+use validity::may_follow;
 ghost use mathlib.Core.Path.{_≡_};
-ghost use mathlib.Core.Bool.{_||_};
 ghost use Prim.Native.Nat.{_<_, _≤_};
-ghost use lib.Dec.{eqb};
 ghost use lib.ListN.{length};
-ghost use Rattle.book.specs.Records.{follows, invalid};
 ghost use Rattle.scan.specs.Step.{bookRecordAt, stepAt, stepOver};
 ghost use Rattle.scan.specs.Counting.{slotOf, numberOf, scopesWith, tallyOf, Counts, Counting};
 ghost use Rattle.scan.specs.Filling.{Room, Stored, Blank, Recorded};
@@ -37,59 +34,6 @@ struct Reader<'a> {
 pub enum Reading {
     Faulty(Fault),
     Complete(usize),
-}
-
-// Whether a record of this stage may stand after one of the stage `last`; 0: there was none.
-pub fn may_follow(last: usize, stage: usize) -> bool
-    ensures { λ r. ⌜ r ≡ follows last stage ⌝ }
-{
-    if stage == 1 {
-        return true;
-    }
-    if last < 1 {
-        return false;
-    }
-    last <= stage
-}
-
-// Whether the first byte of the body is a type: 2 variable, 8 empty, 9 conflict.
-fn has_type(kind: u8) -> bool
-    ensures { λ r. ⌜ r ≡ (eqb kind 2 || (eqb kind 8 || eqb kind 9)) ⌝ }
-{
-    if kind == 2 {
-        return true;
-    }
-    if kind == 8 {
-        return true;
-    }
-    kind == 9
-}
-
-// "type: 1 yes/no, 2 number"
-fn is_type(b: u8) -> bool
-    ensures { λ r. ⌜ r ≡ (eqb b 1 || eqb b 2) ⌝ }
-{
-    if b == 1 {
-        return true;
-    }
-    b == 2
-}
-
-// Whether a type, constant or rule byte stands outside its values.
-pub fn is_invalid(kind: u8, body: &[u8]) -> bool
-    ensures { λ r. ⌜ r ≡ invalid kind (now (body .entry)) ⌝ }
-{
-    let first = byte_at(body, 0);
-    if has_type(kind) {
-        return !is_type(first);
-    }
-    if kind == 4 {
-        return 1 < first;
-    }
-    if kind == 20 {
-        return 1 < byte_at(body, 4);
-    }
-    false
 }
 
 // The slot of a stage; stage 1 has no places.

@@ -20,9 +20,9 @@ use Rattle.book.specs.Decode.{scopesOf}
 use Rattle.book.specs.References.{scopeAt}
 use Rattle.evaluation.specs.Run.{Entered, enter}
 use Rattle.scopes.specs.Steps.{givensFrom, enteredAt, Came}
-use Rattle.cells.specs.Rows.{NoneGiven, Ungiven, RowRoom, Remembered}
-use Rattle.cells.specs.Rows as cells
-use Rattle.cells.proofs.Rows.{nothing-kept, kept-found, kept-noted}
+use Rattle.memo.specs.Rows.{NoneGiven, Ungiven, RowRoom, Remembered}
+use Rattle.memo.specs.Rows as cells
+use Rattle.memo.proofs.Rows.{nothing-kept, kept-found, kept-noted}
 use Rattle.scopes.specs.Known.{Known, Noting, Recalled}
 use Rattle.scopes.specs.declared.Ran.{Ran}
 use Rattle.scopes.specs.declared.Ran.the-variants.{Values}

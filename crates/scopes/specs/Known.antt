@@ -4,7 +4,7 @@ use Prim.Native.Nat.{ℕ, _<_}
 use mathlib.Core.Path.{_≡_}
 use mathlib.Core.List.{List, []}
 use lib.ListN.{length}
-use Rattle.cells.specs.Rows.{Kept}
+use Rattle.memo.specs.Rows.{Kept}
 use Rattle.book.specs.Decode.{scopesOf}
 use Rattle.book.specs.Tables.{Laid}
 use Rattle.scopes.specs.Steps.{World, Came}

@@ -23,7 +23,7 @@ use Rattle.book.specs.declared.Judged.the-variants.{Accepted}
 use Rattle.terms.specs.Outcomes.{envOf}
 use Rattle.lists.specs.Inputs.{isGiven}
 use Rattle.lists.specs.Writing.{valuesOf}
-use Rattle.trees.specs.Links.{Sound, AllLinked}
+use Rattle.links.specs.Links.{Sound, AllLinked}
 use Rattle.trees.specs.Chains.{Ready}
 use Rattle.evaluation.specs.Run.{Entered, values, ended, enter}
 use Rattle.scopes.specs.declared.Ran.{Ran}

@@ -1,18 +1,18 @@
 // Entering a scope of a book: its steps are run in their order, each call in cells of its own.
-use book::sub_scope_at;
-use book::sub_scope_count;
-use book::variable_count;
 use calculus::Cause;
 use calculus::Given;
 use calculus::Outcome;
 use calculus::Value;
 use cells::cell_of;
 use cells::given_at;
-use cells::none_given;
-use cells::recall;
-use cells::remember;
+use memo::none_given;
+use memo::recall;
+use memo::remember;
 use slices::byte_at;
 use slices::part_of;
+use tables::sub_scope_at;
+use tables::sub_scope_count;
+use tables::variable_count;
 use trees::eval_tree;
 use trees::has_clause;
 ghost use mathlib.Core.Path.{_≡_};

@@ -1,5 +1,2 @@
-mod Signs
-pub mod Endian
 pub mod Overwrite
 pub mod Parts
-pub mod RoundTrip

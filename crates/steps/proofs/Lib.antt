@@ -1,8 +1,6 @@
 pub mod Marking
 pub mod Orders
 pub mod Calls
-pub mod Weights
-pub mod Weighing
 pub mod Reading
 pub mod Clauses
 pub mod Rows

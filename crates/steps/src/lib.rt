@@ -1,16 +1,16 @@
-// The order of a book's blocks, the weights of its scopes and the order of each scope's steps: faults 10, 11 and 12.
+// The order of a book's blocks and the order of each scope's steps: faults 10 and 12.
 use book::Clause;
 use book::Consequence;
 use book::Node;
-use book::clause_at;
-use book::clause_count;
-use book::node_at;
-use book::node_count;
-use book::sub_scope_at;
-use book::sub_scope_count;
-use book::variable_count;
 use order::Ordered;
 use order::fill_order;
+use tables::clause_at;
+use tables::clause_count;
+use tables::node_at;
+use tables::node_count;
+use tables::sub_scope_at;
+use tables::sub_scope_count;
+use tables::variable_count;
 ghost use mathlib.Core.Path.{_≡_};
 ghost use Prim.Native.Nat.{_+_, _≤_};
 ghost use lib.ListN.{length};
@@ -21,9 +21,9 @@ ghost use Rattle.book.specs.Scopes.{calls, blocks};
 ghost use Rattle.book.specs.References.{scopeAt};
 ghost use Rattle.book.specs.Steps.{stepCount, dependsOn, stepOrder};
 ghost use Rattle.book.specs.Tables.{Laid};
-ghost use Rattle.steps.specs.Limits.{Scoped, Tabled, WholeOrder};
+ghost use Rattle.steps.specs.Limits.{Scoped, Tabled};
 ghost use Rattle.steps.specs.Edges.{oneEdge, callEdges, readEdges, stepWith, clauseEdges, Marked, CanMark};
-ghost use Rattle.steps.specs.Answers.{Written, StepsFilled, Weight, weightBy, Weighed};
+ghost use Rattle.steps.specs.Answers.{Written, StepsFilled};
 
 // The most vertices of a graph, and the bytes of a matrix's row.
 const WIDTH: usize = 40;
@@ -94,58 +94,6 @@ pub fn block_order(
     let mut deps = [0u8; 1600];
     fill_calls(book, places, counts, scopes, &mut deps);
     write_order(&deps, scopes, out)
-}
-
-// The weight at j, 0 past the end.
-fn weight_at(weights: &[u16], j: usize) -> usize
-    ensures { λ r. ⌜ Weight (now (weights .entry)) j r ⌝ }
-{
-    if j < weights.len() {
-        weights[j] as usize
-    } else {
-        0
-    }
-}
-
-// The weight of scope i, by those of the sub-scopes that it calls.
-fn weigh(book: &[u8], places: &[u16], counts: &[u8], i: usize, weights: &[u16]) -> usize
-    requires { ⌜ Tabled (now book) (now places) (now counts) ⌝ }
-    ensures { λ r. ⌜ r ≡ weightBy (now (weights .entry)) (scopeAt (scopesOf (now (book .entry))) i) ⌝ }
-{
-    let count = sub_scope_count(book, places, counts, i);
-    let mut total: usize = 1;
-    let mut k: usize = 0;
-    while k < count {
-        let called = sub_scope_at(book, places, counts, i, k);
-        total += weight_at(weights, called);
-        k += 1;
-    }
-    total
-}
-
-// The weights of all scopes, by their numbers, for an order of all blocks. Answers whether one is above 4,096, and stops there.
-pub fn fill_weights(
-    book: &[u8],
-    places: &[u16],
-    counts: &[u8],
-    blocks: &[u8],
-    scopes: usize,
-    weights: &mut [u16],
-) -> bool
-    requires { ⌜ Tabled (now book) (now places) (now counts) × Scoped (now book) scopes × WholeOrder (now book) (now blocks) scopes × (32 ≤ length (now weights)) ⌝ }
-    ensures { λ r. ⌜ Weighed (scopesOf (now (book .entry))) r (now (weights .exit)) ⌝ }
-{
-    let mut k: usize = 0;
-    while k < scopes {
-        let i = blocks[k] as usize;
-        let w = weigh(book, places, counts, i, weights);
-        if 4096 < w {
-            return true;
-        }
-        weights[i] = w as u16;
-        k += 1;
-    }
-    false
 }
 
 // The step of the call of sub-scope k of scope i.

@@ -7,14 +7,14 @@ use calculus::Joined;
 use calculus::Outcome;
 use calculus::Unary;
 use calculus::Value;
+use defaults::choose;
+use defaults::gather;
+use defaults::settle;
+use defaults::step;
 use libc::STDOUT_FILENO;
-use operators::choose;
 use operators::eval_binary;
 use operators::eval_unary;
-use operators::gather;
 use operators::magnitude;
-use operators::settle;
-use operators::step;
 
 const BIG: i32 = 2147483647;
 

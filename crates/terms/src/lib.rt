@@ -2,8 +2,6 @@
 // justification where no exception gave one, the consequence where the justification is yes.
 use book::Consequence;
 use book::Node;
-use book::node_at;
-use book::node_count;
 use calculus::Cause;
 use calculus::Gathered;
 use calculus::Given;
@@ -11,11 +9,13 @@ use calculus::Joined;
 use calculus::Outcome;
 use calculus::Value;
 use cells::given_at;
+use defaults::gather;
+use defaults::settle;
 use operators::eval_binary;
 use operators::eval_unary;
-use operators::gather;
-use operators::settle;
 use operators::truth_of;
+use tables::node_at;
+use tables::node_count;
 ghost use mathlib.Core.Path.{_≡_};
 ghost use Rattle.book.specs.Tables.{Laid};
 ghost use Rattle.cells.specs.Cells.{givenAt, held};

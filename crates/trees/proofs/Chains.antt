@@ -23,11 +23,11 @@ use Rattle.book.specs.References.{noClause}
 use Rattle.book.specs.Trees.{conditionTerm, consequenceTerm, select, clauseTerms, bases}
 use Rattle.book.specs.declared.Target.{Target}
 use Rattle.book.specs.declared.Clause.{Clause}
-use Rattle.trees.specs.Links.{slotOf, headOf, inChain, firstFrom}
+use Rattle.links.specs.Links.{slotOf, headOf, inChain, firstFrom}
 use Rattle.trees.specs.Chains.{chainTerms}
-use Rattle.trees.proofs.Slots.{in-exceptions, in-bases}
-use Rattle.trees.proofs.Named.{Chained, chained-head}
-use Rattle.trees.proofs.Linking.{first-front}
+use Rattle.links.proofs.Slots.{in-exceptions, in-bases}
+use Rattle.links.proofs.Named.{Chained, chained-head}
+use Rattle.links.proofs.Linking.{first-front}
 
 -- Searches
 

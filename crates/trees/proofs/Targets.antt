@@ -30,10 +30,10 @@ use Rattle.book.specs.Trees.{hasTarget, isBase, bases, hasRule, withoutRules, t
 use Rattle.book.specs.declared.Target.{Target}
 use Rattle.book.specs.declared.Clause.{Clause}
 use Rattle.terms.specs.Outcomes.{envOf}
-use Rattle.trees.specs.Links.{slotOf, inChain, ruleOf, firstFrom}
+use Rattle.links.specs.Links.{slotOf, inChain, ruleOf, firstFrom}
 use Rattle.trees.specs.Chains.{chainOutcome, treeOutcome, clauseFor, Ready}
-use Rattle.trees.proofs.Slots.{slot-bound, slot-same, in-bases}
-use Rattle.trees.proofs.Named.{Chained, sound-chained}
+use Rattle.links.proofs.Slots.{slot-bound, slot-same, in-bases}
+use Rattle.links.proofs.Named.{Chained, sound-chained}
 use Rattle.trees.proofs.Chains.{any-first, bases-chain}
 
 -- Searches

@@ -26,9 +26,9 @@ use Rattle.book.specs.References.{scopeAt, noClause}
 use Rattle.book.specs.Tables.{clauseAt}
 use Rattle.book.specs.declared.Clause.{Clause}
 use Rattle.terms.specs.Outcomes.{envOf, conditionOutcome, consequenceOutcome}
-use Rattle.trees.specs.Links.{headOf, inChain, firstFrom}
+use Rattle.links.specs.Links.{headOf, inChain, firstFrom}
 use Rattle.trees.specs.Chains.{chainOutcome, restOutcome, settledClause, Walk}
-use Rattle.trees.proofs.Named.{Chained, sound-chained, chained-head}
+use Rattle.links.proofs.Named.{Chained, sound-chained, chained-head}
 use Rattle.trees.proofs.Chains.{found, clauseTerm, chainFrom, from-start, from-past, from-here, from-first, exceptions-chain}
 
 abbrev clausesOf : List ℕ → ℕ → List Clause

@@ -19,7 +19,7 @@ use Rattle.book.specs.References.{scopeAt}
 use Rattle.book.specs.Tables.{clauseAt}
 use Rattle.book.specs.Trees.{select, clauseTerms, hasTarget, tree, calledTarget}
 use Rattle.terms.specs.Outcomes.{envOf, conditionOutcome, consequenceOutcome}
-use Rattle.trees.specs.Links.{inChain, Sound, Linked}
+use Rattle.links.specs.Links.{inChain, Sound, Linked}
 
 -- the clauses of the chain that begins in cell k of scope i, as exceptions in their order
 unfoldable pub chainTerms : Scope → ℕ → Terms

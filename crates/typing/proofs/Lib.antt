@@ -1,4 +1,1 @@
 mod Table
-mod Targets
-mod Marking
-mod Scopes

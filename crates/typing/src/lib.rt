@@ -1,29 +1,28 @@
-// Faults 8 and 9: a type that does not fit, and a rule and a definition on one target.
+// Fault 8: a type that does not fit.
 use book::Clause;
 use book::Consequence;
 use book::Node;
 use book::Target;
 use book::ValueType;
-use book::clause_at;
-use book::clause_count;
-use book::node_at;
-use book::node_count;
-use book::same_type;
-use book::sub_scope_at;
-use book::variable_at;
 use calculus::Binary;
 use calculus::Unary;
 use slices::byte_at;
+use tables::clause_at;
+use tables::clause_count;
+use tables::node_at;
+use tables::node_count;
+use tables::sub_scope_at;
+use tables::variable_at;
+use types::operand_type;
+use types::same_type;
+use types::unary_type;
 ghost use mathlib.Core.Path.{_≡_};
 ghost use mathlib.Core.Bool.{false};
 ghost use lib.ListN.{length};
 ghost use Rattle.book.specs.Decode.{scopesOf};
-ghost use Rattle.book.specs.Typing.{unaryType, binaryType, operandType, mismatches};
+ghost use Rattle.book.specs.Typing.{binaryType, mismatches};
 ghost use Rattle.book.specs.References.{dangles};
-ghost use Rattle.book.specs.Mixing.{mixes};
 ghost use Rattle.book.specs.Tables.{Laid};
-ghost use Rattle.book.specs.Limits.{Within};
-ghost use Rattle.typing.specs.Marks.{slotOf, markOf, mixedAt};
 ghost use Rattle.typing.specs.Types.{byteOf, typeIn, ownType, calledType, typeOfTarget, typeOver, namedFits};
 ghost use Rattle.typing.specs.Types.{typeOfConsequence, nodeSuits, clauseSuits, clauseMisfits, mismatchAt};
 
@@ -48,16 +47,6 @@ fn type_in(types: &[u8], n: u8) -> ValueType
     }
 }
 
-// What a unary operator takes and gives.
-pub fn unary_type(op: Unary) -> ValueType
-    ensures { λ r. ⌜ r ≡ unaryType op ⌝ }
-{
-    match op {
-        Unary::Not => ValueType::YesNo,
-        Unary::Negate => ValueType::Numeric,
-    }
-}
-
 // What a binary operator gives.
 fn binary_type(op: Binary) -> ValueType
     ensures { λ r. ⌜ r ≡ binaryType op ⌝ }
@@ -68,19 +57,6 @@ fn binary_type(op: Binary) -> ValueType
         Binary::Subtract => ValueType::Numeric,
         Binary::Equal => ValueType::YesNo,
         Binary::Less => ValueType::YesNo,
-    }
-}
-
-// What a binary operator takes, its left operand's type given.
-pub fn operand_type(op: Binary, left: ValueType) -> ValueType
-    ensures { λ r. ⌜ r ≡ operandType op left ⌝ }
-{
-    match op {
-        Binary::And => ValueType::YesNo,
-        Binary::Add => ValueType::Numeric,
-        Binary::Subtract => ValueType::Numeric,
-        Binary::Equal => left,
-        Binary::Less => ValueType::Numeric,
     }
 }
 
@@ -265,74 +241,6 @@ pub fn has_mismatch(book: &[u8], places: &[u16], counts: &[u8], scopes: usize) -
     let mut i: usize = 0;
     while i < scopes {
         if mismatch_at(book, places, counts, i) {
-            return true;
-        }
-        i += 1;
-    }
-    false
-}
-
-// The place of a target's mark: 32 for the own variables, then 32 for each sub-scope.
-fn slot_of(target: Target) -> usize
-    ensures { λ r. ⌜ r ≡ slotOf target ⌝ }
-{
-    let sub = target.sub;
-    let variable = target.variable;
-    if sub == 255 {
-        variable as usize
-    } else {
-        sub as usize * 32 + variable as usize + 32
-    }
-}
-
-// A definition's mark, or a rule's.
-fn mark_of(consequence: Consequence) -> u8
-    ensures { λ r. ⌜ r ≡ markOf consequence ⌝ }
-{
-    match consequence {
-        Consequence::Of(_) => 1,
-        Consequence::Fixed(_) => 2,
-    }
-}
-
-// Whether a rule and a definition of scope i have one target: each clause marks its target, unless it finds the other mark there.
-fn mixed_at(book: &[u8], places: &[u16], counts: &[u8], i: usize) -> bool
-    requires { ⌜ Laid (now book) (now places) (now counts) ⌝
-        ∗ ⌜ dangles (scopesOf (now book)) ≡ false ⌝
-        ∗ ⌜ Within (scopesOf (now book)) ⌝ }
-    ensures { λ r. ⌜ r ≡ mixedAt (scopesOf (now (book .entry))) i ⌝ }
-{
-    let mut seen = [0u8; 288];
-    let count = clause_count(book, places, counts, i);
-    let mut n: usize = 0;
-    while n < count {
-        let clause = clause_at(book, places, counts, i, n);
-        let target = clause.target;
-        let consequence = clause.consequence;
-        let at = slot_of(target);
-        let mark = mark_of(consequence);
-        if seen[at] != 0 {
-            if seen[at] != mark {
-                return true;
-            }
-        }
-        seen[at] = mark;
-        n += 1;
-    }
-    false
-}
-
-// Fault 9: whether a rule and a definition have one target in a scope of a book of so many scopes.
-pub fn has_mixed(book: &[u8], places: &[u16], counts: &[u8], scopes: usize) -> bool
-    requires { ⌜ Laid (now book) (now places) (now counts) ⌝
-        ∗ ⌜ scopes ≡ length (scopesOf (now book)) ⌝
-        ∗ ⌜ dangles (scopesOf (now book)) ≡ false ⌝
-        ∗ ⌜ Within (scopesOf (now book)) ⌝ }
-    ensures { λ r. ⌜ r ≡ mixes (scopesOf (now (book .entry))) ⌝ }
-{
-    let mut i: usize = 0;
-    while i < scopes {
-        if mixed_at(book, places, counts, i) {
             return true;
         }
         i += 1;

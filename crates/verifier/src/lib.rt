@@ -2,9 +2,9 @@
 //   sizes   of each of 32 scopes the weight of its block, then the number of its variables; 0 where it has no block
 //   ring    the landings of distances that lie ahead: a mark for each position, by its remainder modulo 65,536; short code has no more
 //           positions than a ring of 8,192 marks
-use scan::is_invalid;
-use scan::may_follow;
 use slices::byte_at;
+use validity::is_invalid;
+use validity::may_follow;
 ghost use mathlib.Core.Path.{_≡_};
 ghost use Prim.Native.Nat.{_+_, _<_, _≤_, _*_};
 ghost use lib.ListN.{length, getD, replicate};

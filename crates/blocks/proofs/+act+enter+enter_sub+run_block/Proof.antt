@@ -37,9 +37,9 @@ use Rattle.blocks.proofs.finish.Reads as finish-reads
 use Rattle.blocks.proofs.head_at.Reads as head-at-reads
 use Rattle.blocks.proofs.one_step.Reads as one-step-reads
 use Rattle.blocks.proofs.stand.Reads as stand-reads
-use Rattle.cells.proofs.none_given.Reads as none-given-reads
-use Rattle.cells.proofs.recall.Reads as recall-reads
-use Rattle.cells.proofs.remember.Reads as remember-reads
+use Rattle.memo.proofs.none_given.Reads as none-given-reads
+use Rattle.memo.proofs.recall.Reads as recall-reads
+use Rattle.memo.proofs.remember.Reads as remember-reads
 use Rattle.instructions.proofs.block_of.Reads as block-of-reads
 use Rattle.instructions.proofs.first.Reads as first-reads
 use Rattle.slices.proofs.part_of.Reads as part-of-reads

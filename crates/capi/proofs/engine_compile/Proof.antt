@@ -1,7 +1,7 @@
 -- `capi::engine_compile` meets its contract.
 -- Assumes nothing.
 use mathlib.Core.Path.{_∙_, ap}
-use Rattle.capi.specs.Packed.{packedCompiled}
+use Rattle.numbers.specs.Packed.{packedCompiled}
 use borrow.Author.Needs.{needs}
 use Rattle.capi.proofs.engine_compile.Statement.{statement}
 use Rattle.capi.proofs.engine_compile.Tie as tie

@@ -16,7 +16,7 @@ use Rattle.emitter.proofs.+emit_around+emit_chain.Lts-emit_around as em
 use Rattle.emitter.proofs.emit_chain.Reads as emit-chain
 use Rattle.emitter.proofs.emit_chain.Kinds as emit-chain-kinds
 use Rattle.emitter.proofs.+emit_around+emit_chain.Lts-emit_chain as emit-chain-lts
-use Rattle.book.proofs.clause_count.Reads as clause-count-reads
+use Rattle.tables.proofs.clause_count.Reads as clause-count-reads
 use Rattle.emitter.proofs.emit_rest.Reads as emit-rest-reads
 use Rattle.emitter.proofs.put_caught.Reads as put-caught-reads
 use Rattle.emitter.proofs.put_far.Reads as put-far-reads

@@ -32,7 +32,7 @@ use Rattle.emitter.proofs.+emit_below+emit_branches+emit_default+emit_e
 use Rattle.emitter.proofs.emit_exception.Reads as emit-exception
 use Rattle.emitter.proofs.emit_exception.Kinds as emit-exception-kinds
 use Rattle.emitter.proofs.+emit_below+emit_branches+emit_default+emit_exception.Lts-emit_exception as emit-exception-lts
-use Rattle.book.proofs.node_at.Reads as node-at-reads
+use Rattle.tables.proofs.node_at.Reads as node-at-reads
 use Rattle.emitter.proofs.binary_kind.Reads as binary-kind-reads
 use Rattle.emitter.proofs.no_exception.Reads as no-exception-reads
 use Rattle.emitter.proofs.put_caught.Reads as put-caught-reads

@@ -16,9 +16,9 @@ use borrow.Fn.PlainCycle.{Measures, is, falls, and}
 use Rattle.scopes.proofs.enter.Reads as enter
 use Rattle.scopes.proofs.enter.Kinds as enter-kinds
 use Rattle.scopes.proofs.+enter.Lts-enter as enter-lts
-use Rattle.book.proofs.sub_scope_at.Reads as sub-scope-at-reads
-use Rattle.book.proofs.sub_scope_count.Reads as sub-scope-count-reads
-use Rattle.book.proofs.variable_count.Reads as variable-count-reads
+use Rattle.tables.proofs.sub_scope_at.Reads as sub-scope-at-reads
+use Rattle.tables.proofs.sub_scope_count.Reads as sub-scope-count-reads
+use Rattle.tables.proofs.variable_count.Reads as variable-count-reads
 use Rattle.scopes.proofs.hand_over.Reads as hand-over-reads
 use Rattle.scopes.proofs.recall_scope.Reads as recall-scope-reads
 use Rattle.scopes.proofs.remember_scope.Reads as remember-scope-reads

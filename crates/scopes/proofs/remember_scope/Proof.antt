@@ -5,9 +5,9 @@ use Rattle.scopes.proofs.remember_scope.Statement.{statement}
 use Rattle.scopes.proofs.remember_scope.Tie as tie
 use Rattle.scopes.proofs.remember_scope.Reads as reads
 use Rattle.scopes.proofs.remember_scope.Lts as lts
-use Rattle.book.proofs.variable_count.Reads as variable-count-reads
-use Rattle.cells.proofs.none_given.Reads as none-given-reads
-use Rattle.cells.proofs.remember.Reads as remember-reads
+use Rattle.tables.proofs.variable_count.Reads as variable-count-reads
+use Rattle.memo.proofs.none_given.Reads as none-given-reads
+use Rattle.memo.proofs.remember.Reads as remember-reads
 
 variable-count-requires : tie.Need-variable-count-requires
 variable-count-requires c κs = search needs

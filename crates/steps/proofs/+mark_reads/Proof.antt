@@ -11,7 +11,7 @@ use borrow.Fn.PlainCycle.{Measures, is, falls, and}
 use Rattle.steps.proofs.mark_reads.Reads as mark-reads
 use Rattle.steps.proofs.mark_reads.Kinds as mark-reads-kinds
 use Rattle.steps.proofs.+mark_reads.Lts-mark_reads as mark-reads-lts
-use Rattle.book.proofs.node_at.Reads as node-at-reads
+use Rattle.tables.proofs.node_at.Reads as node-at-reads
 use Rattle.steps.proofs.call_step.Reads as call-step-reads
 use Rattle.steps.proofs.mark.Reads as mark-reads′
 use Rattle.steps.proofs.+mark_reads.{statement}

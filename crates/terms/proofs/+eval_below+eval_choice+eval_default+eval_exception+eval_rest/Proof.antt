@@ -34,11 +34,11 @@ use Rattle.terms.proofs.+eval_below+eval_choice+eval_default+eval_excep
 use Rattle.terms.proofs.eval_rest.Reads as eval-rest
 use Rattle.terms.proofs.eval_rest.Kinds as eval-rest-kinds
 use Rattle.terms.proofs.+eval_below+eval_choice+eval_default+eval_exception+eval_rest.Lts-eval_rest as eval-rest-lts
-use Rattle.book.proofs.node_at.Reads as node-at-reads
+use Rattle.tables.proofs.node_at.Reads as node-at-reads
 use Rattle.operators.proofs.eval_binary.Reads as eval-binary-reads
 use Rattle.operators.proofs.eval_unary.Reads as eval-unary-reads
-use Rattle.operators.proofs.gather.Reads as gather-reads
-use Rattle.operators.proofs.settle.Reads as settle-reads
+use Rattle.defaults.proofs.gather.Reads as gather-reads
+use Rattle.defaults.proofs.settle.Reads as settle-reads
 use Rattle.operators.proofs.truth_of.Reads as truth-of-reads
 use Rattle.terms.proofs.is_nothing.Reads as is-nothing-reads
 use Rattle.terms.proofs.value_at.Reads as value-at-reads

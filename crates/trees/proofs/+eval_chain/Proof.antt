@@ -14,8 +14,8 @@ use borrow.Fn.PlainCycle.{Measures, is, falls, and}
 use Rattle.trees.proofs.eval_chain.Reads as eval-chain
 use Rattle.trees.proofs.eval_chain.Kinds as eval-chain-kinds
 use Rattle.trees.proofs.+eval_chain.Lts-eval_chain as eval-chain-lts
-use Rattle.book.proofs.clause_count.Reads as clause-count-reads
-use Rattle.operators.proofs.gather.Reads as gather-reads
+use Rattle.tables.proofs.clause_count.Reads as clause-count-reads
+use Rattle.defaults.proofs.gather.Reads as gather-reads
 use Rattle.slices.proofs.byte_at.Reads as byte-at-reads
 use Rattle.trees.proofs.settle_clause.Reads as settle-clause-reads
 use Rattle.trees.proofs.+eval_chain.{statement}

@@ -7,7 +7,7 @@ use Rattle.book.specs.Decode.{scopesOf}
 use Rattle.book.specs.Typing.{mismatchIn, mismatches}
 use Rattle.typing.specs.Types.{mismatchAt}
 use Rattle.book.proofs.Searches.{start}
-use Rattle.typing.proofs.Scopes.{Passed, stopped, next, finished}
+use Rattle.book.proofs.Scopes.{Passed, stopped, next, finished}
 use Rattle.typing.proofs.has_mismatch.Statement.{statement}
 use Rattle.typing.proofs.has_mismatch.Tie as tie
 

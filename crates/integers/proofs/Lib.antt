@@ -1,0 +1,3 @@
+mod Signs
+pub mod Endian
+pub mod RoundTrip

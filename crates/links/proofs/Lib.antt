@@ -1,0 +1,4 @@
+pub mod Slots
+pub mod Named
+pub mod Linking
+pub mod Rows

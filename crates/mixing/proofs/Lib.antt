@@ -1,0 +1,2 @@
+mod Targets
+mod Marking
