@@ -20,8 +20,8 @@ fn round(call: &mut impl FnMut()) -> f64 {
 
 /// Microseconds of one call of each: the best of many rounds, in turns, so that what
 /// else the machine does slows both alike.
-fn times(mut ours: impl FnMut(), mut theirs: impl FnMut()) -> (f64, f64) {
-    let best = |(a, b): (f64, f64), _| (a.min(round(&mut ours)), b.min(round(&mut theirs)));
+fn times(mut one: impl FnMut(), mut other: impl FnMut()) -> (f64, f64) {
+    let best = |(a, b): (f64, f64), _| (a.min(round(&mut one)), b.min(round(&mut other)));
     (0..300).fold((f64::INFINITY, f64::INFINITY), best)
 }
 
@@ -54,12 +54,10 @@ fn books() -> Vec<(String, Vec<u8>, usize)> {
     books
 }
 
-/// A service on a book: the engine's time and the second program's; hands back the
-/// engine's.
-fn compare(service: &str, name: &str, ours: impl FnMut(), theirs: impl FnMut()) -> f64 {
+/// A service on a book: the engine's time and the second program's.
+fn compare(service: &str, name: &str, ours: impl FnMut(), theirs: impl FnMut()) {
     let (engine, second) = times(ours, theirs);
     line(service, name, engine, second);
-    engine
 }
 
 /// The code of a book, as the engine writes it.
@@ -74,16 +72,15 @@ fn compiled(book: &[u8]) -> Vec<u8> {
 const ABSENT: usize = 32;
 
 /// Judging, evaluating and compiling a book, judging its code (a run that is refused for
-/// an absent scope) and running it; hands back the engine's times of evaluating and of
-/// running.
-fn services(name: &str, book: &[u8], scope: usize) -> (f64, f64) {
+/// an absent scope) and running it.
+fn services(name: &str, book: &[u8], scope: usize) {
     let judge = || _ = black_box(engine::judge(black_box(book)));
     let other = || _ = black_box(second::judge(black_box(book)));
     compare("judge", name, judge, other);
     let (mut ours, mut theirs) = ([0; 192], [0; 192]);
     let evaluate = || _ = black_box(engine::evaluate(black_box(book), scope, &[], &mut ours));
     let other = || _ = black_box(second::evaluate(black_box(book), scope, &[], &mut theirs));
-    let evaluated = compare("evaluate", name, evaluate, other);
+    compare("evaluate", name, evaluate, other);
     let code = compiled(book);
     let (mut ours, mut theirs) = (code.clone(), code.clone());
     let compile = || _ = black_box(engine::compile(black_box(book), &mut ours));
@@ -95,7 +92,15 @@ fn services(name: &str, book: &[u8], scope: usize) -> (f64, f64) {
     let (mut ours, mut theirs) = ([0; 192], [0; 192]);
     let run = || _ = black_box(engine::run(black_box(&code), scope, &[], &mut ours));
     let other = || _ = black_box(second::run(black_box(&code), scope, &[], &mut theirs));
-    (evaluated, compare("run", name, run, other))
+    compare("run", name, run, other);
+}
+
+/// The engine's times of evaluating a book and of running its code, in turns.
+fn evaluated_and_run(book: &[u8], scope: usize) -> (f64, f64) {
+    let (code, mut of_book, mut of_code) = (compiled(book), [0; 192], [0; 192]);
+    let evaluate = || _ = black_box(engine::evaluate(black_box(book), scope, &[], &mut of_book));
+    let run = || _ = black_box(engine::run(black_box(&code), scope, &[], &mut of_code));
+    times(evaluate, run)
 }
 
 /// The book's program in OCaml: its time, once its answer is found to be the engine's.
@@ -122,14 +127,15 @@ fn ending(book: &[u8], scope: usize) -> &'static str {
 }
 
 /// Evaluating, running and OCaml side by side.
-fn side_by_side(books: &[(String, Vec<u8>, usize)], times: &[(f64, f64)]) {
+fn side_by_side(books: &[(String, Vec<u8>, usize)]) {
     match ocaml::version() {
         Some(version) => println!("\nOCaml is ocamlopt {version}.\n"),
         None => println!("\nOCaml is not installed (no ocamlopt).\n"),
     }
     println!("| book | ends in | evaluate us | run us | run/evaluate | OCaml us | run/OCaml |");
     println!("|---|---|---|---|---|---|---|");
-    for ((name, book, scope), &(evaluated, ran)) in books.iter().zip(times) {
+    for (name, book, scope) in books {
+        let (evaluated, ran) = evaluated_and_run(book, *scope);
         let (ending, ratio) = (ending(book, *scope), ran / evaluated);
         print!("| {name} | {ending} | {evaluated:.2} | {ran:.2} | {ratio:.2} |");
         let ocaml = ocaml::version().and_then(|_| in_ocaml(name, book, *scope));
@@ -144,10 +150,9 @@ pub fn run() -> bool {
     println!("| service | book | engine us | second us | ratio |");
     println!("|---|---|---|---|---|");
     let books = books();
-    let services = books
-        .iter()
-        .map(|(name, book, scope)| services(name, book, *scope));
-    let times: Vec<(f64, f64)> = services.collect();
-    side_by_side(&books, &times);
+    for (name, book, scope) in &books {
+        services(name, book, *scope);
+    }
+    side_by_side(&books);
     true
 }

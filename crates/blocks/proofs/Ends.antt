@@ -24,7 +24,7 @@ use Rattle.blocks.specs.declared.Ran.{Ran}
 use Rattle.blocks.specs.declared.Ran.the-variants as coded
 use Rattle.instructions.specs.Views.{tab, cellWith, ownCell, givensAt, valuesIn, calleeWith, calleeAt, memory}
 use Rattle.blocks.specs.Entries.{nonzero, Ending, Finished}
-use Rattle.instructions.specs.Effects.{variablesIn, subScopesIn}
+use Rattle.heads.specs.Heads.{variablesIn, subScopesIn}
 use Rattle.instructions.proofs.Memory.{present, absent, tab-same}
 
 pub record Held (cells : List ℕ) (n v : ℕ) : Type 0 where
@@ -98,11 +98,7 @@ end-is : (v s : ℕ) (sizes : ℕ → ℕ) (own flags called marks : List ℕ) (
 unfolding memory
 end-is v s sizes own flags called marks count = rw (finals-tab own flags 0 v, entered-tab called marks sizes 0 s, values-tab own v)
 
-module _ (heads : List ℕ) (p : ℕ) (own marks : List ℕ) (v : ℕ) (is-v : v ≡ getD heads (p * 48 + 1) 0) where
-  variables-here : v ≡ variablesIn heads p
-  unfolding variablesIn
-  variables-here = is-v
-
+module _ (heads : List ℕ) (p : ℕ) (own marks : List ℕ) (v : ℕ) (variables-here : v ≡ variablesIn heads p) where
   pub own-room : Ending heads p own marks → v ≤ length own
   own-room e = rw variables-here (e .variables)
 
@@ -113,11 +109,7 @@ module _ (heads : List ℕ) (p : ℕ) (own marks : List ℕ) (v : ℕ) (is-v : v
             end-is (variablesIn heads p) (subScopesIn heads p) sizes own flags called marks count ∙ rw (← variables-here, ← e, not-true r n);
       }
 
-  module _ (s : ℕ) (is-s : s ≡ getD heads (p * 48 + 2) 0) where
-    subs-here : s ≡ subScopesIn heads p
-    unfolding subScopesIn
-    subs-here = is-s
-
+  module _ (s : ℕ) (subs-here : s ≡ subScopesIn heads p) where
     pub mark-room : Ending heads p own marks → s ≤ length marks
     mark-room e = rw subs-here (e .subScopes)
 

@@ -40,7 +40,8 @@ use Rattle.instructions.specs.declared.Move.the-variants as move
 use Rattle.blocks.specs.declared.Ran as coded-type
 use Rattle.blocks.specs.declared.Ran.the-variants as coded
 use Rattle.instructions.specs.Views.{entryOf, entries, opened, tab, cellWith, ownCell, givensAt, valuesIn, calleeWith, calleeAt, memory}
-use Rattle.instructions.specs.Effects.{Room, Ample, Moves, Bounded, Sized, Stepping, Stepped, Typing, variablesIn, subScopesIn, blockIn, sizeIn, memoryIn}
+use Rattle.heads.specs.Heads.{variablesIn, subScopesIn, blockIn, sizeIn}
+use Rattle.instructions.specs.Effects.{Room, Ample, Moves, Bounded, Sized, Stepping, Stepped, Typing, memoryIn}
 use Rattle.blocks.specs.Entries.{back, runAt, variablesAt, Enough, Shows, Ending, Finished, Entry, Came, Advances}
 use Rattle.instructions.proofs.Memory.{tab-length, tab-at, tab-same, tab-set, tab-map}
 use Rattle.machine.proofs.Landing.{lands-here}
@@ -48,14 +49,14 @@ use Rattle.slices.proofs.Parts.{all-left, part-room, lent-length}
 use Rattle.blocks.specs.declared.Place.{Place}
 use Rattle.blocks.specs.declared.Went as went-type
 use Rattle.blocks.specs.declared.Went.the-variants as went
-use Rattle.blocks.specs.Running.{Aligned, TriesGood, blk, before, envAt, weightAt, Held, runFrom, Running, Standing, Acts, Acted, restAt, Steps, SteppedAt}
+use Rattle.blocks.specs.Running.{Aligned, TriesGood, block, before, envAt, weightAt, Held, runFrom, Running, Standing, Acts, Acted, restAt, Steps, SteppedAt}
 use Rattle.blocks.proofs.Positions.{exec-past, exec-at, exec-to, fits-at}
 use Rattle.blocks.proofs.Invariant.{Within, MemGood, NextGood, Behind, step-good, begin-good, run-cons}
 use Rattle.blocks.proofs.Tables.{World, small, fit, heavy, below, variables-are, subs-are, bounded, typing, named, callee-below, callee-variables, callee-runs, size-is}
 
 -- the run of a block with nothing said of types
 abbrev Good : List ℕ → ℕ → Memory → Type 0
-Good code p m = MemGood (before code p) (blk code p) (envAt code p) ⊥ (weightIn (before code p)) (weightAt code p) m
+Good code p m = MemGood (before code p) (block code p) (envAt code p) ⊥ (weightIn (before code p)) (weightAt code p) m
 
 is-held : {code : List ℕ} {p : ℕ} {m : Memory} → Good code p m → Held code p m
 is-held g = record { many = g .many; counted = g .counted }
@@ -139,7 +140,7 @@ module _ {code spans heads places : List ℕ} (o : World code spans heads places
   unfolding variablesAt blockAt
   variables-same = variables-are o p l
 
-  subs-same : subScopesIn heads p ≡ length (blk code p .subScopes)
+  subs-same : subScopesIn heads p ≡ length (block code p .subScopes)
   subs-same = subs-are o p l
 
   module _ (own flags called marks : List ℕ) (zf : (i : ℕ) → getD flags i 0 ≡ 0) (zc : (i : ℕ) → getD called i 0 ≡ 0) (zm : (i : ℕ) → getD marks i 0 ≡ 0) where
@@ -151,28 +152,28 @@ module _ {code spans heads places : List ℕ} (o : World code spans heads places
         (λ i q. let z : 0 + (0 + i) ≡ 0 + i = omega arith in rw (zf (0 + i), z) (given-cell-is (givenOf (getD own (0 + i) 0))))
         ∙ sym (tab-map cellOf (λ x. givenOf (getD own (0 + x) 0)) 0 (variablesAt code p))
 
-    callee-begins : (k : ℕ) → k < length (blk code p .subScopes)
-        → calleeAt called marks (sizeIn heads places p k) k ≡ begins (before code p) (getD (blk code p .subScopes) k 0)
+    callee-begins : (k : ℕ) → k < length (block code p .subScopes)
+        → calleeAt called marks (sizeIn heads places p k) k ≡ begins (before code p) (getD (block code p .subScopes) k 0)
     unfolding calleeAt
     callee-begins k m =
         rw (zm k)
-        (ap waiting (ap (givensAt called (k * 32)) (size-is o p l k m) ∙ absent-tab called (k * 32) (variablesOf (before code p) (getD (blk code p .subScopes) k 0)) zc))
+        (ap waiting (ap (givensAt called (k * 32)) (size-is o p l k m) ∙ absent-tab called (k * 32) (variablesOf (before code p) (getD (block code p .subScopes) k 0)) zc))
 
-    callees-begin : tab (λ k. calleeAt called marks (sizeIn heads places p k) k) 0 (subScopesIn heads p) ≡ map (begins (before code p)) (blk code p .subScopes)
+    callees-begin : tab (λ k. calleeAt called marks (sizeIn heads places p k) k) 0 (subScopesIn heads p) ≡ map (begins (before code p)) (block code p .subScopes)
     callees-begin =
         ap (tab (λ k. calleeAt called marks (sizeIn heads places p k) k) 0) subs-same
-        ∙ map-tab (begins (before code p)) 0 (blk code p .subScopes) 0 (λ k. calleeAt called marks (sizeIn heads places p k) k)
+        ∙ map-tab (begins (before code p)) 0 (block code p .subScopes) 0 (λ k. calleeAt called marks (sizeIn heads places p k) k)
         (λ i q. let z : 0 + i ≡ i = omega arith in rw z (callee-begins i q))
 
-    begin-is : memoryIn heads places p own flags called marks 1 ≡ begin (before code p) (blk code p) (givensAt own 0 (variablesAt code p))
+    begin-is : memoryIn heads places p own flags called marks 1 ≡ begin (before code p) (block code p) (givensAt own 0 (variablesAt code p))
     unfolding memoryIn memory
     begin-is = rw (own-begins, callees-begin)
 
-    run-is : (gs : List Given) → runAt code p gs ≡ exec (envAt code p) (blk code p .body) 0 [] [] (begin (before code p) (blk code p) gs)
+    run-is : (gs : List Given) → runAt code p gs ≡ exec (envAt code p) (block code p .body) 0 [] [] (begin (before code p) (block code p) gs)
     unfolding runAt blockAt back
-    run-is gs = run-cons (blk code p) (before code p) (blk code p .scope) gs ∙ rw (eq-eqb (blk code p .scope) (blk code p .scope) refl)
+    run-is gs = run-cons (block code p) (before code p) (block code p .scope) gs ∙ rw (eq-eqb (block code p .scope) (block code p .scope) refl)
 
-    pub starts : (st tr body : List ℕ) (s : Place) → s .at ≡ 0 → s .height ≡ 0 → s .tries ≡ 0 → s .count ≡ 1 → body ≡ blk code p .body
+    pub starts : (st tr body : List ℕ) (s : Place) → s .at ≡ 0 → s .height ≡ 0 → s .tries ≡ 0 → s .count ≡ 1 → body ≡ block code p .body
         → length own ≡ 32 → length flags ≡ 32 → length called ≡ 256 → length marks ≡ 8
         → Running code heads places p st tr (runAt code p (givensAt own 0 (variablesAt code p))) body st tr own called marks flags s
     unfolding entries opened
@@ -181,9 +182,9 @@ module _ {code spans heads places : List ℕ} (o : World code spans heads places
         record {
           isBody = e;
           same = rw (at₀, height₀, tries₀, count₀, begin-is) (sym (run-is gs));
-          aligned = rw at₀ (λ q. lands-here (blk code p .body));
+          aligned = rw at₀ (λ q. lands-here (block code p .body));
           tries = rw tries₀ tt;
-          mem = rw (count₀, begin-is) (is-held (begin-good (before code p) (blk code p) ⊥ gs (λ x. absurd x)));
+          mem = rw (count₀, begin-is) (is-held (begin-good (before code p) (block code p) ⊥ gs (λ x. absurd x)));
           room = record { height = omega arith; stack = omega arith; tries = omega arith; pairs = omega arith };
           sized = record { ownSize = a; flagSize = b; calledSize = c; markSize = d };
           stack = refl;
@@ -207,7 +208,7 @@ module _ {code spans heads places : List ℕ} (o : World code spans heads places
     count = s .count
 
     abbrev code-body : List ℕ
-    code-body = blk code p .body
+    code-body = block code p .body
 
     abbrev kind : ℕ
     kind = getD code-body at 0
@@ -215,16 +216,16 @@ module _ {code spans heads places : List ℕ} (o : World code spans heads places
     inside : at < length code-body
     inside = rw (← r .isBody) in-body
 
-    fits-here : fits (before code p) (blk code p) (instructionOf kind (drop (suc at) code-body)) (drop (bodyLength kind) (drop (suc at) code-body)) ≡ true
-    fits-here = fits-at (before code p) (blk code p) code-body at (fit o p l) inside (r .aligned inside)
+    fits-here : fits (before code p) (block code p) (instructionOf kind (drop (suc at) code-body)) (drop (bodyLength kind) (drop (suc at) code-body)) ≡ true
+    fits-here = fits-at (before code p) (block code p) code-body at (fit o p l) inside (r .aligned inside)
 
-    next-good : NextGood (before code p) (blk code p) (envAt code p) ⊥ (weightIn (before code p)) (weightAt code p)
+    next-good : NextGood (before code p) (block code p) (envAt code p) ⊥ (weightIn (before code p)) (weightAt code p)
         (λ d. Aligned code-body (suc at + (bodyLength kind + d)))
         (effect (envAt code p) (instructionOf kind (drop (suc at) code-body)) (length (drop (bodyLength kind) (drop (suc at) code-body)))
         (entries st h) (opened tr t) (memoryIn heads places p own flags called marks count))
     next-good =
-        step-good (before code p) (blk code p) (envAt code p) ⊥ (weightIn (before code p)) (weightAt code p) (λ x. refl)
-        (λ k m hs. below o p l (getD (blk code p .subScopes) k 0) hs) (fit o p l) at inside (r .aligned inside)
+        step-good (before code p) (block code p) (envAt code p) ⊥ (weightIn (before code p)) (weightAt code p) (λ x. refl)
+        (λ k m hs. below o p l (getD (block code p .subScopes) k 0) hs) (fit o p l) at inside (r .aligned inside)
         (entries st h) (opened tr t) (memoryIn heads places p own flags called marks count) (r .tries) (is-good (r .mem))
 
     re-aligned : {x y : ℕ} → x ≡ y → Aligned code-body x → Aligned code-body y
@@ -248,7 +249,7 @@ module _ {code spans heads places : List ℕ} (o : World code spans heads places
         (adv .lands)
 
     next-is : {d : ℕ} {es : List Joined} {ts : List Try} {M : Memory} {X : Next} → X ≡ go d es ts M
-        → NextGood (before code p) (blk code p) (envAt code p) ⊥ (weightIn (before code p)) (weightAt code p)
+        → NextGood (before code p) (block code p) (envAt code p) ⊥ (weightIn (before code p)) (weightAt code p)
         (λ d. Aligned code-body (suc at + (bodyLength kind + d))) X
         → Aligned code-body (suc at + (bodyLength kind + d)) × TriesGood code-body ts × Held code p M
     next-is {d} {es} {ts} {M} x k =
@@ -353,7 +354,7 @@ module _ {code spans heads places : List ℕ} (o : World code spans heads places
       pub entry-named : sub < subScopesIn heads p
       entry-named = rw is-sub named-here
 
-      in-subs : sub < length (blk code p .subScopes)
+      in-subs : sub < length (block code p .subScopes)
       in-subs = rw (← subs-same) entry-named
 
       pub entry-small : (sub < 8) × (callee < p)
@@ -368,7 +369,7 @@ module _ {code spans heads places : List ℕ} (o : World code spans heads places
 
       entry-effect : effect (envAt code p) (instructionOf kind (drop (suc at) code-body)) (length (drop (bodyLength kind) (drop (suc at) code-body)))
           (entries st h) (opened tr t) (memoryIn heads places p own flags called marks count)
-          ≡ enteredWith (λ gs. runIn (before code p) (getD (blk code p .subScopes) sub 0) gs) (calleeAt called marks size sub) sub
+          ≡ enteredWith (λ gs. runIn (before code p) (getD (block code p .subScopes) sub 0) gs) (calleeAt called marks size sub) sub
           (entries st h) (opened tr t) (memoryIn heads places p own flags called marks count)
       unfolding effect instructionOf
       entry-effect = rw (entry-kind, entry-rest, ← is-sub) (rw at-sub)
@@ -545,14 +546,14 @@ module _ {code spans heads places : List ℕ} {p : ℕ} {own : List ℕ} (e : En
   pub world : World code spans heads places
   world = record { accepts = e .accepts; tabled = e .tabled }
 
-  pub body-of : take (getD spans (p * 2 + 1) 0 - getD spans (p * 2) 0) (drop (getD spans (p * 2) 0) code) ≡ blk code p .body
+  pub body-of : take (getD spans (p * 2 + 1) 0 - getD spans (p * 2) 0) (drop (getD spans (p * 2) 0) code) ≡ block code p .body
   unfolding blockAt
   body-of = e .tabled .blocks p (e .block) .body
 
   pub ordered : getD spans (p * 2) 0 ≤ getD spans (p * 2 + 1) 0
   ordered = e .tabled .blocks p (e .block) .ordered
 
-  pub at-small : {body : List ℕ} {at : ℕ} → body ≡ blk code p .body → at < length body → at + 1 ≤ getD spans (p * 2 + 1) 0
+  pub at-small : {body : List ℕ} {at : ℕ} → body ≡ block code p .body → at < length body → at + 1 ≤ getD spans (p * 2 + 1) 0
   at-small i q =
       let b = ap length (body-of ∙ sym i) in
       let u = length-take (getD spans (p * 2 + 1) 0 - getD spans (p * 2) 0) (drop (getD spans (p * 2) 0) code) in
@@ -572,7 +573,7 @@ module _ {code spans heads places : List ℕ} {p : ℕ} {own : List ℕ} (e : En
         → atEnd (memory (variablesIn heads p) (subScopesIn heads p) (sizeIn heads places p) own' flags called marks (s .count)) ≡ runAt code p (givensAt own 0 (variablesAt code p))
     unfolding memoryIn
     end-of q =
-        sym (exec-past (envAt code p) (blk code p .body) (s .at) (entries st (s .height)) (opened tr (s .tries))
+        sym (exec-past (envAt code p) (block code p .body) (s .at) (entries st (s .height)) (opened tr (s .tries))
         (memory (variablesIn heads p) (subScopesIn heads p) (sizeIn heads places p) own' flags called marks (s .count)) (rw (← r .isBody) q))
         ∙ r .same
 

@@ -13,7 +13,7 @@ use Rattle.calculus.specs.declared.Given.the-variants.{Absent}
 use Rattle.cells.specs.Cells.{givenOf, givenAt}
 use Rattle.memo.specs.Rows.{Ungiven, RowRoom, Recalled, Remembered}
 use Rattle.memo.proofs.Rows.{nothing-kept, kept-found, kept-noted}
-use Rattle.instructions.specs.Effects.{variablesIn}
+use Rattle.heads.specs.Heads.{variablesIn}
 use Rattle.instructions.specs.Views.{givensAt}
 use Rattle.instructions.proofs.Memory.{tab-same}
 use Rattle.blocks.specs.declared.Ran.{Ran}
@@ -53,9 +53,8 @@ module _ {code spans heads places : List ℕ} {p : ℕ} {own : List ℕ} (e : En
   pub row-room : {own' memo : List ℕ} → length own' ≡ 32 → Known code memo → RowRoom p own' memo
   row-room s k = record { row = few; room = s; size = k .size }
 
-  module _ {n : ℕ} {b : Bool} (v : n ≡ getD heads (p * 48 + 1) 0) (u : Ungiven own n b) where
+  module _ {n : ℕ} {b : Bool} (v : n ≡ variablesIn heads p) (u : Ungiven own n b) where
     variables-are : n ≡ variablesAt code p
-    unfolding variablesIn
     variables-are = v ∙ variables-same (world e) p (e .block)
 
     givens-are : b ≡ true → givensAt own 0 (variablesAt code p) ≡ givensAt [] 0 (variablesAt code p)

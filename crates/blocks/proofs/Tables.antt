@@ -23,7 +23,8 @@ use Rattle.machine.specs.Machine.{Ran, Surroundings}
 use Rattle.machine.specs.Run as run
 use Rattle.machine.specs.Run.{exec, begin, surroundings, runIn}
 use Rattle.verifier.specs.Tables.{blockAt, blockCount, Entered, Tabled}
-use Rattle.instructions.specs.Effects.{Typing, Bounded, Named, variablesIn, subScopesIn, typeIn, blockIn, sizeIn}
+use Rattle.heads.specs.Heads.{variablesIn, subScopesIn, typeIn, blockIn, sizeIn}
+use Rattle.instructions.specs.Effects.{Typing, Bounded, Named}
 use Rattle.blocks.specs.Entries.{back, runAt, variablesAt}
 use Rattle.blocks.proofs.Invariant.{run-cons, run-within, Within, weight-cons}
 use Rattle.blocks.proofs.Blocks.{back-all, formed-below, formed-at, has-place, found-at}

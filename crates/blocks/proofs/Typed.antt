@@ -17,14 +17,14 @@ use Rattle.verifier.specs.Tables.{blockAt, blockCount}
 use Rattle.blocks.specs.Entries.{back, runAt}
 use Rattle.blocks.proofs.Invariant.{GivensFit, RanGood, block-good, run-cons}
 use Rattle.blocks.proofs.Tables.{World, fit, below}
-use Rattle.blocks.specs.Running.{blk, before, envAt, weightAt}
+use Rattle.blocks.specs.Running.{block, before, envAt, weightAt}
 
-module _ {code spans heads places : List ℕ} (o : World code spans heads places) (p : ℕ) (l : p < blockCount code) (gs : List Given) (f : GivensFit (blk code p .variables) gs) where
-  run-good : RanGood (before code p) (blk code p) (envAt code p) (GivensFit (blk code p .variables) gs) (weightIn (before code p)) (weightAt code p) (runAt code p gs)
+module _ {code spans heads places : List ℕ} (o : World code spans heads places) (p : ℕ) (l : p < blockCount code) (gs : List Given) (f : GivensFit (block code p .variables) gs) where
+  run-good : RanGood (before code p) (block code p) (envAt code p) (GivensFit (block code p .variables) gs) (weightIn (before code p)) (weightAt code p) (runAt code p gs)
   unfolding runAt blockAt back
   run-good =
-      rw (run-cons (blk code p) (before code p) (blk code p .scope) gs, eq-eqb (blk code p .scope) (blk code p .scope) refl)
-      (block-good (before code p) (blk code p) (GivensFit (blk code p .variables) gs) gs (λ x. x) (below o p l) (fit o p l))
+      rw (run-cons (block code p) (before code p) (block code p .scope) gs, eq-eqb (block code p .scope) (block code p .scope) refl)
+      (block-good (before code p) (block code p) (GivensFit (block code p .variables) gs) gs (λ x. x) (below o p l) (fit o p l))
 
-  pub run-typed : (vs : List Value) (n : ℕ) → runAt code p gs ≡ ran (values vs n) → map valueType vs ≡ map (λ x. x .holds) (blk code p .variables)
+  pub run-typed : (vs : List Value) (n : ℕ) → runAt code p gs ≡ ran (values vs n) → map valueType vs ≡ map (λ x. x .holds) (block code p .variables)
   run-typed vs n e = let g = rw e at run-good in g .1 f

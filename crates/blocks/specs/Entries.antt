@@ -18,7 +18,7 @@ use Rattle.verifier.specs.Tables as tables
 use Rattle.blocks.specs.declared.Ran.{Ran}
 use Rattle.blocks.specs.declared.Ran.the-variants.{Values, Ended, Stuck, NoRoom}
 use Rattle.instructions.specs.Views.{tab, givensAt, valuesIn, memory}
-use Rattle.instructions.specs.Effects.{variablesIn, subScopesIn}
+use Rattle.heads.specs.Heads.{variablesIn, subScopesIn}
 use Rattle.memo.specs.Rows.{Kept}
 
 -- n cells from v on are not 0

@@ -37,34 +37,34 @@ pending w (i ∷ is) (waiting gs ∷ cs) = w i + pending w is cs
 pending w (i ∷ is) (entered vs ∷ cs) = pending w is cs
 
 -- block p, those before it, and what its weight is
-abbrev pub blk : List ℕ → ℕ → Block
-blk code p = getD (parse code 0 .blocks) p emptyBlock
+abbrev pub block : List ℕ → ℕ → Block
+block code p = getD (parse code 0 .blocks) p emptyBlock
 
 abbrev pub before : List ℕ → ℕ → List Block
 before code p = back (parse code 0 .blocks) p
 
 abbrev pub envAt : List ℕ → ℕ → Surroundings
-envAt code p = surroundings (before code p) (blk code p) (λ j handed. runIn (before code p) j handed)
+envAt code p = surroundings (before code p) (block code p) (λ j handed. runIn (before code p) j handed)
 
 abbrev pub weightAt : List ℕ → ℕ → ℕ
-weightAt code p = suc (sum (weightIn (before code p)) (blk code p .subScopes))
+weightAt code p = suc (sum (weightIn (before code p)) (block code p .subScopes))
 
 -- every sub-scope has its cells, and no more was counted than the block weighs
 pub record Held (code : List ℕ) (p : ℕ) (m : Memory) : Type 0 where
-  pub many : length (m .callees) ≡ length (blk code p .subScopes)
-  pub counted : m .count + pending (weightIn (before code p)) (blk code p .subScopes) (m .callees) ≤ weightAt code p
+  pub many : length (m .callees) ≡ length (block code p .subScopes)
+  pub counted : m .count + pending (weightIn (before code p)) (block code p .subScopes) (m .callees) ≤ weightAt code p
 
 -- what the rest of a run comes to
 abbrev pub runFrom : List ℕ → List ℕ → List ℕ → ℕ → List ℕ → List ℕ → List ℕ → List ℕ → List ℕ → List ℕ → Place → machine.Ran
 runFrom code heads places p st tr own called marks flags s =
-    exec (envAt code p) (blk code p .body) (s .at) (entries st (s .height)) (opened tr (s .tries)) (memoryIn heads places p own flags called marks (s .count))
+    exec (envAt code p) (block code p .body) (s .at) (entries st (s .height)) (opened tr (s .tries)) (memoryIn heads places p own flags called marks (s .count))
 
 -- the run of block p, which comes to `whole`, stands at a place
 pub record Running (code heads places : List ℕ) (p : ℕ) (st₀ tr₀ : List ℕ) (whole : machine.Ran) (body st tr own called marks flags : List ℕ) (s : Place) : Type 0 where
-  pub isBody : body ≡ blk code p .body
+  pub isBody : body ≡ block code p .body
   pub same : runFrom code heads places p st tr own called marks flags s ≡ whole
-  pub aligned : Aligned (blk code p .body) (s .at)
-  pub tries : TriesGood (blk code p .body) (opened tr (s .tries))
+  pub aligned : Aligned (block code p .body) (s .at)
+  pub tries : TriesGood (block code p .body) (opened tr (s .tries))
   pub mem : Held code p (memoryIn heads places p own flags called marks (s .count))
   pub room : Room (s .height) (s .tries) st tr
   pub sized : Sized own flags called marks

@@ -1,8 +1,9 @@
 // The machine that runs accepted code: each entry of a block works on parts of a lent stack and of lent tries.
 use calculus::Cause;
+use heads::block_of;
+use heads::sub_scopes_in;
+use heads::variables_in;
 use instructions::Move;
-use instructions::block_of;
-use instructions::first;
 use instructions::step;
 use memo::copy_cells;
 use memo::none_given;
@@ -15,11 +16,6 @@ ghost use Prim.Native.Nat.{_+_, _*_, _<_, _≤_};
 ghost use lib.ListN.{length, getD};
 ghost use Rattle.blocks.specs.Entries.{nonzero, Ending, Finished, Entry, Known, Came, CameTo, Advances};
 ghost use Rattle.blocks.specs.Running.{StepsAt, SteppedAt, EntersAt, EnteredAt, Acting, Acted};
-
-// Where the tables hold a block's numbers of variables and of sub-scopes.
-const VARIABLES: usize = 1;
-
-const SUB_SCOPES: usize = 2;
 
 // How the run of a block ended, with the count of scopes entered; or the lent slices were too short.
 pub enum Ran {
@@ -71,12 +67,10 @@ fn all_set(cells: &[u64], n: usize) -> bool
     true
 }
 
-// Byte i of what the tables hold of block p.
-fn head_at(heads: &[u8], p: usize, i: usize) -> usize
-    requires { ⌜ (p < 32) × (i < 48) ⌝ }
-    ensures { λ r. ⌜ r ≡ getD (now (heads .entry)) (p * 48 + i) 0 ⌝ }
+fn first(rest: &[u8]) -> usize
+    ensures { λ r. ⌜ r ≡ getD (now (rest .entry)) 0 0 ⌝ }
 {
-    byte_at(heads, p * 48 + i) as usize
+    byte_at(rest, 0) as usize
 }
 
 // The end of block p: every variable is set, every sub-scope entered.
@@ -84,10 +78,10 @@ fn finish(heads: &[u8], p: usize, own: &[u64], marks: &[u64], count: usize) -> R
     requires { ⌜ Ending (now heads) p (now own) (now marks) ⌝ }
     ensures { λ r. ⌜ Finished (now (heads .entry)) p (now (own .entry)) (now (marks .entry)) count r ⌝ }
 {
-    if !all_set(own, head_at(heads, p, VARIABLES)) {
+    if !all_set(own, variables_in(heads, p)) {
         return Ran::Stuck;
     }
-    if !all_set(marks, head_at(heads, p, SUB_SCOPES)) {
+    if !all_set(marks, sub_scopes_in(heads, p)) {
         return Ran::Stuck;
     }
     Ran::Values(count)
@@ -119,7 +113,7 @@ fn enter(
     requires { ⌜ Entry (now code) (now spans) (now heads) (now places) p (now own) × Known (now code) (now memo) ⌝ }
     ensures { λ r. ⌜ Came (now (code .entry)) p (now (own .entry)) r (now (own .exit)) (now (st .entry)) (now (tr .entry)) × Known (now (code .entry)) (now (memo .exit)) ⌝ }
 {
-    let bare = none_given(own, head_at(heads, p, VARIABLES));
+    let bare = none_given(own, variables_in(heads, p));
     let known = recall(memo, p, bare, own);
     if 0 < known {
         return Ran::Values(known);

@@ -22,7 +22,8 @@ use Rattle.book.specs.declared.ValueType.{ValueType}
 use Rattle.instructions.specs.declared.Move.{Move}
 use Rattle.instructions.specs.declared.Move.the-variants as move
 use Rattle.instructions.specs.Views.{entryOf, entries, opened, tab, ownCell, calleeAt, memory}
-use Rattle.instructions.specs.Effects.{Room, Moves, Storing, Handing, StoreAt, OverrideAt, Controls, Computes, Passed, Stepping, Stepped, Typing, Bounded, Sized, variablesIn, subScopesIn, typeIn, blockIn, sizeIn, memoryIn}
+use Rattle.heads.specs.Heads.{variablesIn, subScopesIn, typeIn, blockIn, sizeIn}
+use Rattle.instructions.specs.Effects.{Room, Moves, Storing, Handing, StoreAt, OverrideAt, Controls, Computes, Passed, Stepping, Stepped, Typing, Bounded, Sized, memoryIn}
 use Rattle.instructions.proofs.Memory.{tab-at}
 
 module _ {heads places : List ℕ} {p k : ℕ} {rest st : List ℕ} {h : ℕ} {tr : List ℕ} {t : ℕ} {own flags called marks : List ℕ}

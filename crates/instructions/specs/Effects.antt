@@ -11,7 +11,7 @@ use Rattle.calculus.specs.declared.Given.{Given}
 use Rattle.calculus.specs.declared.Given.the-variants.{Absent, Present}
 use Rattle.cells.specs.Cells.{givenOf, held}
 use Rattle.calculus.specs.declared.Binary.{Binary}
-use Rattle.book.specs.Syntax.{typeOf, sameType}
+use Rattle.book.specs.Syntax.{sameType}
 use Rattle.book.specs.Typing.{operandType}
 use Rattle.lists.specs.Writing.{valueType}
 use Rattle.book.specs.declared.ValueType.{ValueType}
@@ -19,6 +19,7 @@ use Rattle.evaluation.specs.Run.{values, ended}
 use Rattle.machine.specs.Instructions.{Instruction, push, readOwn, readCalled, unary, binary, raise, jump, jumpIfNo, beginTry, endTry, pushNothing, join, settle, store, override, enter, jumpIfGiven, unknown, instructionOf}
 use Rattle.machine.specs.Blocks.{bodyLength}
 use Rattle.machine.specs.Machine.{Cell, unset, Callee, waiting, Memory, Next, go, stop, ran, stuck, taking, wanting, storedTo, overridden, Surroundings, effect}
+use Rattle.heads.specs.Heads.{variablesIn, subScopesIn, typeIn, blockIn, sizeIn}
 use Rattle.instructions.specs.declared.Move.{Move}
 use Rattle.instructions.specs.declared.Move.the-variants.{Go, Ended, Stuck, NoRoom}
 use Rattle.instructions.specs.Views.{entryOf, entries, opened, tab, ownCell, calleeAt, memory}
@@ -55,23 +56,6 @@ pub record Takes (g : Given) (st : List ℕ) (h : ℕ) : Type 0 where
 -- two values have the types that an operator wants
 abbrev pub suitable : Binary → Value → Value → Bool
 suitable op v w = cond (sameType (operandType op (valueType v)) (valueType v)) (sameType (operandType op (valueType v)) (valueType w)) false
-
--- the tables' words on block p
-unfoldable pub variablesIn : List ℕ → ℕ → ℕ
-variablesIn heads p = getD heads (p * 48 + 1) 0
-
-unfoldable pub subScopesIn : List ℕ → ℕ → ℕ
-subScopesIn heads p = getD heads (p * 48 + 2) 0
-
-unfoldable pub typeIn : List ℕ → ℕ → ℕ → ValueType
-typeIn heads p x = typeOf (getD heads (p * 48 + 3 + x) 0)
-
--- the block of sub-scope k
-unfoldable pub blockIn : List ℕ → List ℕ → ℕ → ℕ → ℕ
-blockIn heads places p k = getD places (getD heads (p * 48 + 35 + k) 0) 0 - 1
-
-unfoldable pub sizeIn : List ℕ → List ℕ → ℕ → ℕ → ℕ
-sizeIn heads places p k = variablesIn heads (blockIn heads places p k)
 
 unfoldable pub memoryIn : List ℕ → List ℕ → ℕ → List ℕ → List ℕ → List ℕ → List ℕ → ℕ → Memory
 memoryIn heads places p own flags called marks c =

@@ -8,6 +8,8 @@ use calculus::Unary;
 use calculus::Value;
 use cells::cell_of;
 use cells::given_of;
+use heads::block_of;
+use heads::type_at;
 use integers::distance_at;
 use integers::number_at;
 use operators::apply_binary;
@@ -16,7 +18,6 @@ use operators::truth_of;
 use slices::byte_at;
 use types::operand_type;
 use types::same_type;
-use types::type_of;
 use types::unary_type;
 ghost use mathlib.Core.Path.{_≡_};
 ghost use mathlib.Core.List.{List};
@@ -32,7 +33,8 @@ ghost use Rattle.lists.specs.Writing.{valueType};
 ghost use Rattle.machine.specs.Instructions.{Instruction};
 ghost use Rattle.machine.specs.Machine.{Memory, answered, pushed, raised, tried, closed, readFrom, readIn, jumpedIfGiven, effect, Surroundings};
 ghost use Rattle.instructions.specs.Views.{entryOf, entries, opened, ownCell, calleeAt};
-ghost use Rattle.instructions.specs.Effects.{Room, Moves, Encodes, Takes, suitable, Storing, Handing, StoreAt, OverrideAt, Computes, Controls, Passed, Stepping, Stepped, typeIn, blockIn};
+ghost use Rattle.heads.specs.Heads.{typeIn, blockIn};
+ghost use Rattle.instructions.specs.Effects.{Room, Moves, Encodes, Takes, suitable, Storing, Handing, StoreAt, OverrideAt, Computes, Controls, Passed, Stepping, Stepped};
 
 // After an instruction: go on so many bytes behind its kind, with a height and so many open tries; or stop.
 pub enum Move {
@@ -318,7 +320,7 @@ fn value_cell(c: u64) -> u64
     (c - 3) % 4294967296 + 3
 }
 
-pub fn first(rest: &[u8]) -> usize
+fn first(rest: &[u8]) -> usize
     ensures { λ r. ⌜ r ≡ getD (now (rest .entry)) 0 0 ⌝ }
 {
     byte_at(rest, 0) as usize
@@ -462,26 +464,6 @@ fn jump_if_given(x: usize, d: usize, own: &[u64], flags: &[u8], h: usize, t: usi
         return Move::Go(3 + d, h, t);
     }
     Move::Go(3, h, t)
-}
-
-// The type of variable x of block p.
-fn type_at(heads: &[u8], p: usize, x: usize) -> ValueType
-    requires { ⌜ (p < 32) × (x < 32) ⌝ }
-    ensures { λ r. ⌜ r ≡ typeIn (now (heads .entry)) p x ⌝ }
-{
-    type_of(byte_at(heads, p * 48 + 3 + x))
-}
-
-// The block of sub-scope k of block p.
-pub fn block_of(heads: &[u8], places: &[u8], p: usize, k: usize) -> usize
-    requires { ⌜ (p < 32) × (k < 8) ⌝ }
-    ensures { λ r. ⌜ r ≡ blockIn (now (heads .entry)) (now (places .entry)) p k ⌝ }
-{
-    let place = byte_at(places, byte_at(heads, p * 48 + 35 + k) as usize) as usize;
-    if place == 0 {
-        return 0;
-    }
-    place - 1
 }
 
 // Hands over to the variable that an instruction names.

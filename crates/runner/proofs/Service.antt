@@ -44,7 +44,8 @@ use Rattle.blocks.specs.Entries.{runAt, variablesAt, Entry, CameTo}
 use Rattle.blocks.specs.declared.Ran.{Ran}
 use Rattle.blocks.specs.declared.Ran.the-variants as ran
 use Rattle.blocks.proofs.Scopes.{has-none, is-block, has-one, scope-variables, scope-runs, few-variables, givens-are, values-are, values-length}
-use Rattle.runner.specs.Service.{Runs, Ready, typesIn, Asked, Replied}
+use Rattle.heads.specs.Heads.{typesIn}
+use Rattle.runner.specs.Service.{Runs, Ready, Asked, Replied}
 use Rattle.runner.proofs.Types.{types-are}
 
 -- Judging

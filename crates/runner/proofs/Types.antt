@@ -13,7 +13,8 @@ use Rattle.lists.specs.Reading.{typed, Filled}
 use Rattle.lists.proofs.Types.{typed-count, Filling, stop}
 use Rattle.verifier.specs.Tables.{blockAt, blockCount, Entered}
 use Rattle.blocks.proofs.Scopes.{few-variables}
-use Rattle.runner.specs.Service.{Ready, typesIn}
+use Rattle.heads.specs.Heads.{variablesIn, typesIn}
+use Rattle.runner.specs.Service.{Ready}
 
 module _ {code spans heads places : List ℕ} (o : Ready code spans heads places) (p : ℕ) (l : p < blockCount code) where
   abbrev variables : List Variable
@@ -49,7 +50,7 @@ module _ {code spans heads places : List ℕ} (o : Ready code spans heads places
   filled = let v = entered .variables in stop filling v few (omega arith)
 
   pub types-are : typed (typesIn heads p) ≡ variables
-  unfolding typesIn
+  unfolding typesIn variablesIn
   types-are =
       let v = entered .variables in
       let f = few in

@@ -1,9 +1,9 @@
 -- The service, and the service over its tables.
-use Prim.Native.Nat.{ℕ, _+_, _*_, _<_, _≤_}
+use Prim.Native.Nat.{ℕ, _<_, _≤_}
 use mathlib.Core.Path.{_≡_}
 use mathlib.Core.Bool.{true}
 use mathlib.Core.List.{List}
-use lib.ListN.{length, getD, take, drop}
+use lib.ListN.{length}
 use Rattle.lists.specs.Reading.{typed}
 use Rattle.lists.specs.Results.{resultLength}
 use Rattle.evaluation.specs.Types.{Fitting}
@@ -24,10 +24,6 @@ pub record Ready (code spans heads places : List ℕ) : Type 0 where
   pub accepts : accepted code ≡ true
   pub tabled : Tabled code spans heads places (blockCount code)
   pub sizes : Room spans heads places
-
--- the type bytes of block p's variables
-unfoldable pub typesIn : List ℕ → ℕ → List ℕ
-typesIn heads p = take (getD heads (p * 48 + 1) 0) (drop (p * 48 + 3) heads)
 
 -- block p is there and its variables have these type bytes, what is given fits them, and its results have room
 pub record Asked (code spans heads places : List ℕ) (p : ℕ) (types given memory : List ℕ) : Type 0 where

@@ -3,25 +3,16 @@ use blocks::Ran;
 use blocks::run_cells;
 use evaluation::Answer;
 use evaluation::Refusal;
+use heads::types_in;
 use inputs::read_by;
 use results::length_by;
 use results::write_by;
 use slices::byte_at;
-use slices::part_of;
 use verifier::Verdict;
 use verifier::verify;
 ghost use mathlib.Core.Path.{_≡_};
 ghost use Prim.Native.Nat.{_<_};
-ghost use Rattle.runner.specs.Service.{typesIn, Ready, Asked, Replied, Runs};
-
-// The type bytes of block p's variables.
-fn types_of(heads: &[u8], p: usize) -> &[u8]
-    requires { ⌜ p < 32 ⌝ }
-    ensures { λ r. ⌜ now r ≡ typesIn (now (heads .entry)) p ⌝ }
-{
-    let head = p * 48;
-    part_of(heads, head + 3, byte_at(heads, head + 1) as usize)
-}
+ghost use Rattle.runner.specs.Service.{Ready, Asked, Replied, Runs};
 
 // Runs block p, whose variables have these type bytes, with what is given, and writes the results.
 fn run_block(
@@ -67,7 +58,7 @@ fn run_accepted(
         return Answer::Refused(Refusal::NoSuchScope);
     }
     let p = place - 1;
-    let types = types_of(heads, p);
+    let types = types_in(heads, p);
     let mut given = [0u64; 32];
     if !read_by(types, inputs, &mut given) {
         return Answer::Refused(Refusal::BadInput);

@@ -1,6 +1,7 @@
 -- The faults 1 to 5 of a record of code, each as the pass tests it.
 --     variable-more, sub-more, none-more                                  limits
---     fault-kind, fault-length, fault-order, fault-limit, fault-byte      one law for each way through `is_faulty`
+--     fault-kind, fault-length, fault-order, fault-limit, fault-byte,
+--     fault-none                                                          one law for each way through `is_faulty`
 -- Assumes nothing.
 use Prim.Native.Nat.{ℕ, suc, _+_, _-_, _<_, _≤_}
 use mathlib.Core.Path.{_≡_, refl, sym, ap, _∙_}
@@ -15,10 +16,11 @@ use borrow.Author.Tests.{eq-eqb, ne-eqb, lt-ltb, le-ltb, ltb-true, ltb-false}
 use Rattle.order.proofs.Booleans.{decide}
 use Rattle.book.specs.Records.{follows, invalid}
 use Rattle.machine.specs.Acceptance.{counted, faulty}
-use Rattle.verifier.specs.Instructions.{numbersOf, rowOf}
+use Rattle.record.specs.Kinds.{shapeIn, shapesOf, kinds}
+use Rattle.record.specs.declared.Shape.{Shape}
+use Rattle.record.specs.declared.Medium.the-variants.{Code}
 use Rattle.verifier.specs.Pass.{countOf, faultyAt, exceedsWith, Limited}
 use Rattle.verifier.specs.declared.Progress.{Progress}
-use Rattle.verifier.specs.declared.Row.{Row}
 
 shift : (a b : ℕ) → ltb (suc a) (b + 1) ≡ ltb a b
 shift a b =
@@ -45,8 +47,8 @@ module _ (s : ℕ) (u : Progress) where
       (λ (q : eqb s 1 ≡ false). rw (q, le-ltb 32 (u .variables) (l .variables), le-ltb 8 (u .subs) (l .subs)) refl)
       (decide (eqb s 1)))
 
--- the tests of a record of a row, in their order
-tests : List ℕ → ℕ → Progress → Row → Bool
+-- the tests of a record of a shape, in their order
+tests : List ℕ → ℕ → Progress → Shape → Bool
 tests code at u s =
     eqb (s .stage) 0
     || (ltb (length (drop (at + 1) code)) (s .length)
@@ -58,9 +60,20 @@ or-group : (a b d : Bool) → (a || (b || d)) ≡ ((a || b) || d)
 or-group true b d = refl
 or-group false b d = refl
 
-module _ (code : List ℕ) (at : ℕ) (u : Progress) (s : Row) (es : s ≡ rowOf (getD code at 0)) where
+valid : (k : ℕ) (body : List ℕ) → (shapeIn Code k .stage ≡ 0 → ⊥) → (shapeIn Code k .stage ≡ 2 → ⊥) → (k ≡ 4 → ⊥) → invalid k body ≡ false
+unfolding invalid shapeIn shapesOf kinds
+valid k body zero two four =
+    rw (
+      ne-eqb k 2 (λ e. two (ap (λ (x : ℕ). shapeIn Code x .stage) e)),
+      ne-eqb k 8 (λ e. zero (ap (λ (x : ℕ). shapeIn Code x .stage) e)),
+      ne-eqb k 9 (λ e. zero (ap (λ (x : ℕ). shapeIn Code x .stage) e)),
+      ne-eqb k 4 four,
+      ne-eqb k 20 (λ e. zero (ap (λ (x : ℕ). shapeIn Code x .stage) e)),
+    )
+
+module _ (code : List ℕ) (at : ℕ) (u : Progress) (s : Shape) (es : s ≡ shapeIn Code (getD code at 0)) where
   tests-are : tests code at u s ≡ faultyAt code at u
-  unfolding faultyAt faulty tests rowOf numbersOf
+  unfolding faultyAt faulty tests
   tests-are = ap (tests code at u) es
 
   grouped : tests code at u s ≡ (eqb (s .stage) 0 ||
@@ -102,3 +115,10 @@ module _ (code : List ℕ) (at : ℕ) (u : Progress) (s : Row) (es : s ≡ rowOf
             ∙ ap (λ (k : ℕ). invalid k (take (length code - (at + 1)) (drop (at + 1) code))) ek
             ∙ ap (invalid (getD code at 0)) (take-all (length code - (at + 1)) (drop (at + 1) code) (rw length-drop (omega arith)))
             ∙ rw h at rest-is
+
+        -- a kind other than 4 that is not of stage 2 has no such byte: 8, 9 and 20 are unknown in code
+        pub fault-none : c ≡ false → (s .stage ≡ 2 → ⊥) → (kind : ℕ) → kind ≡ getD code at 0 → (kind ≡ 4 → ⊥) → false ≡ faultyAt code at u
+        fault-none h two kind ek four = sym (valid (getD code at 0) (drop (at + 1) code) (λ z. known (stage-at ∙ z)) (λ z. two (stage-at ∙ z)) (λ z. four (ek ∙ z))) ∙ rw h at rest-is
+          where
+            stage-at : s .stage ≡ shapeIn Code (getD code at 0) .stage
+            stage-at = ap (λ (x : Shape). x .stage) es

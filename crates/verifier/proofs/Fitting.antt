@@ -2,7 +2,6 @@
 --     by-kind        what holds at each of them holds at every kind of stage 4
 --     fits-parts     an instruction fits where its numbers name something and its distance lands
 --     local          an instruction depends only on its body
---     no-names       an instruction without numbers
 -- Assumes nothing.
 use Prim.Native.Nat.{ℕ, _<_, _≤_}
 use mathlib.Core.Path.{_≡_, refl, sym, ap, subst}
@@ -22,8 +21,6 @@ use Rattle.machine.specs.Blocks.{Block, bodyLength, stageOf, variablesOf}
 use Rattle.machine.specs.Acceptance.{lands, fits}
 use Rattle.machine.proofs.Landing.{lands-here}
 use Rattle.verifier.specs.Instructions.{namingOf, distancePlace, named, distanceOf}
-use Rattle.verifier.specs.Pass.{namesAt}
-use Rattle.verifier.specs.declared.Progress.{Progress}
 
 abbrev Each : (ℕ → Type 0) → List ℕ → Type 0
 Each P [] = Unit {0}
@@ -237,7 +234,3 @@ locals = (
 
 pub local : (k : ℕ) → stageOf k ≡ 4 → Local k
 local k e = by-kind Local locals k e
-
-pub no-names : (naming : ℕ) (body heads sizes : List ℕ) (u : Progress) → naming ≡ 0 → true ≡ namesAt naming body heads sizes u
-unfolding namesAt named
-no-names naming body heads sizes u e = rw e refl

@@ -1,9 +1,9 @@
-mod Rows
 mod Faults
 mod Ring
 mod Reading
 mod Blocks
 mod Fitting
+mod Landings
 mod Turns
 mod Steps
 mod Entries

@@ -18,17 +18,18 @@ use Rattle.order.proofs.Booleans.{decide, both}
 use Rattle.machine.specs.Blocks.{Block, Parsed, bodyLength, stageOf, variablesOf}
 use Rattle.machine.specs.Instructions.{instructionOf}
 use Rattle.machine.specs.Acceptance.{counted, sound, lands, fits, accepted}
-use Rattle.verifier.specs.Instructions.{numbersOf, rowOf, namingOf, distancePlace, named, distanceOf, farthest}
+use Rattle.verifier.specs.Instructions.{namingOf, distancePlace, named, distanceOf, farthest}
 use Rattle.verifier.specs.Tables.{blockAt}
-use Rattle.verifier.specs.Pass.{widthAt, countOf, faultyAt, namesAt, instructionRead, mark, Passed, Marks, earlier, ahead, Busy, Reading, AtInstruction, Instructing, Instructed}
+use Rattle.verifier.specs.Pass.{widthAt, countOf, faultyAt, namesAt, instructionRead, mark, Landed, Passed, Marks, earlier, ahead, Busy, Reading, AtInstruction, Instructing, Instructed}
 use Rattle.verifier.specs.declared.Progress.{Progress}
-use Rattle.verifier.specs.declared.Row.{Row}
 use Rattle.verifier.proofs.Reading.{drop-here, ahead-at, ahead-short, length-below, front-four, NoHeads, no-heads}
 use Rattle.verifier.proofs.Blocks.{refused, sound-code, block-fits, Formed, formed}
 use Rattle.verifier.proofs.Fitting.{fits-parts, local}
 use Rattle.verifier.proofs.Ring.{lands-short, landing-room, back-fits, back-inside, marks-next}
 use Rattle.verifier.proofs.Turns.{drop-end, nextAt, is-clean, next-inside, sound-next, was-open}
 use Rattle.verifier.specs.declared.Step.the-variants.{Refused, Next}
+use Rattle.verifier.specs.declared.Landing.the-variants.{Ahead}
+use Rattle.verifier.specs.declared.Landing.the-variants as landing
 
 -- Names
 
@@ -280,67 +281,65 @@ module _ (code : List ℕ) (at : ℕ) (u : Progress) (spans heads places sizes r
 -- What the code reads
 
 -- the marks of an instruction and of its landing lie in the ring
-module _ (row : Row) (body : List ℕ) (at next : ℕ) (u : Progress) (ring : List ℕ) (i : Instructing row body at next u ring) where
+module _ (len : ℕ) (body : List ℕ) (at next : ℕ) (u : Progress) (ring : List ℕ) (i : Instructing len body at next u ring) where
   pub here-room : at % 65536 < length ring
   here-room = i .ringRoom at (omega arith)
 
-  pub ahead-room : (d : ℕ) → d ≤ length body - row .length → (next % 65536 + d) % 65536 < length ring
+  pub ahead-room : (d : ℕ) → d ≤ length body - len → (next % 65536 + d) % 65536 < length ring
   ahead-room d near =
       let n = i .nextIs in
       let w = i .whole in
       landing-room ring (at + 1 + length body) next d (i .ringRoom) (omega arith)
 
-module _ (row : Row) (body : List ℕ) (at next : ℕ) (u : Progress) (heads sizes ring : List ℕ) (r : Bool)
-    (er : r ≡ namesAt (row .naming) body heads sizes u) where
-  names-at : (code : List ℕ) → row ≡ rowOf (getD code at 0) → body ≡ drop (at + 1) code → r ≡ namesAt (namingOf (getD code at 0)) (drop (at + 1) code) heads sizes u
-  unfolding rowOf numbersOf
-  names-at code ek eb = er ∙ rw (ek, eb)
+module _ (kind len : ℕ) (body : List ℕ) (at next : ℕ) (u : Progress) (heads sizes ring : List ℕ) where
+  names-at : (code : List ℕ) → kind ≡ getD code at 0 → body ≡ drop (at + 1) code
+      → namesAt (namingOf kind) body heads sizes u ≡ namesAt (namingOf (getD code at 0)) (drop (at + 1) code) heads sizes u
+  names-at code ek eb = rw (ek, eb)
 
-  pub refuse-names : r ≡ false → (ring' : List ℕ) → Instructed row body at next u heads sizes ring ring' Refused
+  pub refuse-names : Landed kind body heads sizes u landing.Refused → (ring' : List ℕ)
+      → Instructed kind len body at next u heads sizes ring ring' Refused
+  unfolding Landed
   refuse-names h ring' code spans places i rd =
       names-refused code at u spans heads places sizes ring rd (i .here) (i .fine) (i .stage)
-      (sym (names-at code (i .rowIs) (i .bodyIs)) ∙ h)
+      (sym (names-at code (i .kindIs) (i .bodyIs)) ∙ h)
 
   pub refuse-marks : (p : Bool) → Passed ring (at + 1) next p → p ≡ false → (ring' : List ℕ)
-      → Instructed row body at next u heads sizes ring ring' Refused
+      → Instructed kind len body at next u heads sizes ring ring' Refused
   refuse-marks p passed h ring' code spans places i rd =
       let t = passed .hit h in
       let l : t .0 < nextAt code at = let z = t .2 in let y = i .nextIs in omega arith in
       inside-refused code at u spans heads places sizes ring rd (i .here) (i .fine) (i .stage) (t .0) (t .1) l (t .3)
 
-  module _ (code : List ℕ) (i : AtInstruction code row body at next u) where
+  module _ (code : List ℕ) (i : AtInstruction code kind len body at next u) where
     body-length : length body ≡ length code - (at + 1)
     body-length = rw (i .bodyIs) (length-drop (at + 1) code)
 
-    row-length : row .length ≡ bodyLength (getD code at 0)
-    unfolding rowOf numbersOf
-    row-length = ap (λ (x : Row). x .length) (i .rowIs)
+    distance-is : (d : ℕ) → d ≡ distanceOf (distancePlace kind) body → d ≡ distanceOf (distancePlace (getD code at 0)) (drop (at + 1) code)
+    distance-is d ed = ed ∙ rw (i .kindIs, i .bodyIs)
 
-    distance-is : (d : ℕ) → d ≡ distanceOf (row .place) body → d ≡ distanceOf (distancePlace (getD code at 0)) (drop (at + 1) code)
-    unfolding rowOf numbersOf
-    distance-is d ed = ed ∙ rw (i .rowIs, i .bodyIs)
-
-  pub refuse-far : (d : ℕ) → d ≡ distanceOf (row .place) body → length body - row .length < d → (ring' : List ℕ)
-      → Instructed row body at next u heads sizes ring ring' Refused
+  pub refuse-far : (d : ℕ) → Landed kind body heads sizes u (Ahead d) → length body - len < d → (ring' : List ℕ)
+      → Instructed kind len body at next u heads sizes ring ring' Refused
+  unfolding Landed
   refuse-far d ed h ring' code spans places i rd =
       let l = body-length code i in
-      let n = row-length code i in
+      let n = i .lengthIs in
       let f : length code - nextAt code at < d = omega arith in
-      far-refused code at u spans heads places sizes ring rd (i .here) (i .fine) (i .stage) (rw (distance-is code i d ed) at f)
+      far-refused code at u spans heads places sizes ring rd (i .here) (i .fine) (i .stage) (rw (distance-is code i d (ed .1)) at f)
 
-  pub take-instruction : r ≡ true → (p : Bool) → Passed ring (at + 1) next p → p ≡ true → (d f : ℕ)
-      → d ≡ distanceOf (row .place) body → d < 65536 → d ≤ length body - row .length
+  pub take-instruction : (p : Bool) → Passed ring (at + 1) next p → p ≡ true → (d f : ℕ)
+      → Landed kind body heads sizes u (Ahead d) → d ≤ length body - len
       → f ≡ farthest (u .reach) (next - at) d
-      → Instructed row body at next u heads sizes ring (set (set ring (at % 65536) 0) ((next % 65536 + d) % 65536) 1)
+      → Instructed kind len body at next u heads sizes ring (set (set ring (at % 65536) 0) ((next % 65536 + d) % 65536) 1)
       (Next next (instructionRead u f))
-  take-instruction ok p passed clear d f ed small near ef code spans places i rd =
+  unfolding Landed
+  take-instruction p passed clear d f ed near ef code spans places i rd =
       let n = i .nextIs in
       let l = body-length code i in
-      let m = row-length code i in
+      let m = i .lengthIs in
       let w = next-inside code at u spans heads places sizes ring rd (i .here) (i .fine) in
       let t =
       instruction-turn code at u spans heads places sizes ring rd (i .here) (i .fine) (i .stage)
-      (sym (names-at code (i .rowIs) (i .bodyIs)) ∙ ok) d (distance-is code i d ed) small
+      (sym (names-at code (i .kindIs) (i .bodyIs)) ∙ ed .0) d (distance-is code i d (ed .1)) (ed .2)
       (omega arith)
       (λ q a b. passed .clear clear q a (omega arith)) in
       (omega arith, rw (ef, n) t)

@@ -16,10 +16,11 @@ use lib.Dec.{eqb}
 use borrow.Author.Tests.{eqb-true, eqb-false}
 use Rattle.order.proofs.Booleans.{decide}
 use Rattle.machine.specs.Blocks.{stageOf}
-use Rattle.verifier.specs.Instructions.{numbersOf, rowOf}
+use Rattle.record.specs.Kinds.{shapeIn}
+use Rattle.record.specs.declared.Shape.{Shape}
+use Rattle.record.specs.declared.Medium.the-variants.{Code}
 use Rattle.verifier.specs.Pass.{faultyAt, VariableRoom, VariableNoted, Reading, AtInstruction, AtHeading, Beginning, SubRoom, SubRead, Stepped, Instructing}
 use Rattle.verifier.specs.declared.Progress.{Progress}
-use Rattle.verifier.specs.declared.Row.{Row}
 use Rattle.scan.proofs.Shapes.{in-order}
 use Rattle.verifier.proofs.Reading.{stage-below}
 use Rattle.verifier.proofs.Turns.{nextAt, is-clean, next-inside}
@@ -27,25 +28,22 @@ use Rattle.verifier.proofs.Heads.{variable-room, variable-turn, sub-roo
 use Rattle.verifier.specs.declared.Step.{Step}
 
 pub makes-heading : (code : List ℕ) (at : ℕ) (u : Progress) (spans heads places sizes ring : List ℕ)
-    → Reading code at u spans heads places sizes ring → at < length code → (s : Row) → s ≡ rowOf (getD code at 0) → (s .stage ≡ 4 → ⊥)
+    → Reading code at u spans heads places sizes ring → at < length code → (s : Shape) → s ≡ shapeIn Code (getD code at 0) → (s .stage ≡ 4 → ⊥)
     → AtHeading code at u spans heads places sizes ring
-unfolding rowOf numbersOf
 makes-heading code at u spans heads places sizes ring r here s es no-four =
-    record { reading = r; here = here; noInstruction = λ z. no-four (ap (λ (y : Row). y .stage) es ∙ z) }
+    record { reading = r; here = here; noInstruction = λ z. no-four (ap (λ (y : Shape). y .stage) es ∙ z) }
 
 module _ (code : List ℕ) (at : ℕ) (u : Progress) (spans heads places sizes ring : List ℕ)
     (r : Reading code at u spans heads places sizes ring) (here : at < length code)
-    (x : Bool) (ex : x ≡ faultyAt code at u) (fine : x ≡ false) (s : Row) (es : s ≡ rowOf (getD code at 0)) where
+    (x : Bool) (ex : x ≡ faultyAt code at u) (fine : x ≡ false) (s : Shape) (es : s ≡ shapeIn Code (getD code at 0)) where
   ok : faultyAt code at u ≡ false
   ok = sym ex ∙ fine
 
   next-is : at + 1 + s .length ≡ nextAt code at
-  unfolding rowOf numbersOf
-  next-is = ap (λ (y : Row). at + 1 + y .length) es
+  next-is = ap (λ (y : Shape). at + 1 + y .length) es
 
   stage-is : s .stage ≡ stageOf (getD code at 0)
-  unfolding rowOf numbersOf
-  stage-is = ap (λ (y : Row). y .stage) es
+  stage-is = ap (λ (y : Shape). y .stage) es
 
   pub next-within : at + 1 + s .length ≤ length code
   next-within = rw next-is (next-inside code at u spans heads places sizes ring r here ok)
@@ -100,7 +98,7 @@ module _ (code : List ℕ) (at : ℕ) (u : Progress) (spans heads places sizes r
     four : stageOf (getD code at 0) ≡ 4
     four = sym stage-is ∙ is-four
 
-    pub makes-instructing : Instructing s (take (length code - (at + 1)) (drop (at + 1) code)) at (at + 1 + s .length) u ring
+    pub makes-instructing : Instructing (s .length) (take (length code - (at + 1)) (drop (at + 1) code)) at (at + 1 + s .length) u ring
     makes-instructing =
         let l = length-take-le (length code - (at + 1)) (drop (at + 1) code) (rw length-drop (omega arith)) in
         let w = next-within in
@@ -113,12 +111,14 @@ module _ (code : List ℕ) (at : ℕ) (u : Progress) (spans heads places sizes r
           blocks = r .busy (o .0) .head .room;
         }
 
-    pub at-instruction : AtInstruction code s (take (length code - (at + 1)) (drop (at + 1) code)) at (at + 1 + s .length) u
-    at-instruction =
+    pub at-instruction : (kind : ℕ) → kind ≡ getD code at 0
+        → AtInstruction code kind (s .length) (take (length code - (at + 1)) (drop (at + 1) code)) at (at + 1 + s .length) u
+    at-instruction kind ek =
         record {
           here = here;
           fine = ok;
-          rowIs = es;
+          kindIs = ek;
+          lengthIs = ap (λ (y : Shape). y .length) es;
           bodyIs = take-all (length code - (at + 1)) (drop (at + 1) code) (rw length-drop (omega arith));
           stage = four;
           nextIs = next-is;

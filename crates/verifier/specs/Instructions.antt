@@ -1,13 +1,9 @@
--- What the pass looks at in a record: its kind's row, and of an instruction what its numbers name, and its distance.
+-- What the pass looks at in an instruction: what its numbers name, and its distance.
 use Prim.Native.Nat.{ℕ, _-_}
 use mathlib.Core.Bool.{Bool, true, cond, _&&_, _||_}
 use mathlib.Core.List.{List}
 use lib.Dec.{eqb, ltb}
 use Rattle.slices.specs.Bytes.{bigEndian}
-use Rattle.record.specs.Kinds.{shapeIn}
-use Rattle.record.specs.declared.Medium.the-variants.{Code}
-use Rattle.verifier.specs.declared.Numbers.{Numbers}
-use Rattle.verifier.specs.declared.Row.{Row}
 
 -- 1 own variable, 2 sub-scope and variable, 3 sub-scope, 0 nothing
 unfoldable pub namingOf : ℕ → ℕ
@@ -20,16 +16,6 @@ namingOf k =
 -- 1 in the first two bytes, 2 after the first byte, 0 nowhere
 unfoldable pub distancePlace : ℕ → ℕ
 distancePlace k = cond (eqb k 34 || (eqb k 35 || (eqb k 36 || eqb k 40))) 1 (cond (eqb k 44) 2 0)
-
--- a kind's length and stage in code, what its first numbers name, and where its distance stands
-unfoldable pub numbersOf : ℕ → Numbers
-numbersOf k = record { 0 = shapeIn Code k .length; 1 = shapeIn Code k .stage; 2 = namingOf k; 3 = distancePlace k }
-
-abbrev pub asRow : Numbers → Row
-asRow n = record { length = n .0; stage = n .1; naming = n .2; place = n .3 }
-
-unfoldable pub rowOf : ℕ → Row
-rowOf k = asRow (numbersOf k)
 
 -- the numbers a and b name something: v variables, s sub-scopes, of which sub-scope a has c variables
 unfoldable pub named : ℕ → ℕ → ℕ → ℕ → ℕ → ℕ → Bool

@@ -1,7 +1,7 @@
 -- The pass over the records of code: what was read before a record, and what is known of it.
 use Prim.Native.Nat.{ℕ, suc, _+_, _-_, _*_, _%_, _<_, _≤_}
 use mathlib.Core.Path.{_≡_}
-use mathlib.Core.Bool.{Bool, true, false, cond, _||_}
+use mathlib.Core.Bool.{Bool, true, false, cond, _&&_, _||_}
 use mathlib.Core.List.{List, [], _∷_, _++_, reverse}
 use lib.ListN.{length, getD, take, drop, set, replicate}
 use lib.Dec.{eqb, ltb}
@@ -10,12 +10,14 @@ use Rattle.book.specs.Syntax.{typeOf}
 use Rattle.book.specs.declared.ValueType.the-variants.{YesNo}
 use Rattle.machine.specs.Blocks.{Block, Parsed, emptyBlock, bodyLength, stageOf, parse, hasBlock, variablesOf}
 use Rattle.machine.specs.Acceptance.{Count, start, counted, faulty, sound, lands, allFit, weightIn, allWellFormed, accepted}
-use Rattle.verifier.specs.Instructions.{rowOf, named}
+use Rattle.verifier.specs.Instructions.{namingOf, distancePlace, named, distanceOf}
 use Rattle.verifier.specs.Tables.{blockAt, Entered, Tabled, Room}
 use Rattle.verifier.specs.declared.Progress.{Progress}
-use Rattle.verifier.specs.declared.Row.{Row}
 use Rattle.verifier.specs.declared.Step.{Step}
 use Rattle.verifier.specs.declared.Step.the-variants.{Refused, Next}
+use Rattle.verifier.specs.declared.Landing.{Landing}
+use Rattle.verifier.specs.declared.Landing.the-variants.{Ahead}
+use Rattle.verifier.specs.declared.Landing.the-variants as landing
 use Rattle.verifier.specs.declared.Closing.{Closing}
 use Rattle.verifier.specs.declared.Closing.the-variants.{Closed}
 use Rattle.verifier.specs.declared.Closing.the-variants as closing
@@ -50,6 +52,23 @@ unfoldable pub namesAt : ℕ → List ℕ → List ℕ → List ℕ → Progress
 namesAt naming body heads sizes u =
     let a = getD body 0 0 in
     named naming a (getD body 1 0) (u .variables) (u .subs) (widthAt sizes (getD heads (u .blocks * 48 + 35 + a) 0))
+
+-- the first two numbers of a body name a sub-scope of the present block and one of its variables
+unfoldable pub calledAt : List ℕ → List ℕ → List ℕ → Progress → Bool
+calledAt body heads sizes u =
+    let a = getD body 0 0 in
+    ltb a (u .subs) && ltb (getD body 1 0) (widthAt sizes (getD heads (u .blocks * 48 + 35 + a) 0))
+
+-- a landing d bytes ahead, if what the instruction names is there
+abbrev pub aheadIf : Bool → ℕ → Landing
+aheadIf true d = Ahead d
+aheadIf false d = landing.Refused
+
+-- an instruction, by its kind and all bytes after it, is refused where its numbers name nothing; else it lands where its distance says
+unfoldable pub Landed : ℕ → List ℕ → List ℕ → List ℕ → Progress → Landing → Type 0
+Landed kind body heads sizes u landing.Refused = namesAt (namingOf kind) body heads sizes u ≡ false
+Landed kind body heads sizes u (Ahead d) =
+    (namesAt (namingOf kind) body heads sizes u ≡ true) × (d ≡ distanceOf (distancePlace kind) body) × (d < 65536)
 
 -- What was read
 
@@ -227,24 +246,25 @@ pub record AtHeading (code : List ℕ) (at : ℕ) (u : Progress) (spans heads pl
   pub here : at < length code
   pub noInstruction : stageOf (getD code at 0) ≡ 4 → ⊥
 
--- the record at a position is an instruction without fault, of a row and with all bytes after its kind
-pub record AtInstruction (code : List ℕ) (row : Row) (body : List ℕ) (at next : ℕ) (u : Progress) : Type 0 where
+-- the record at a position is an instruction without fault, of a kind and a body's length, with all bytes after its kind
+pub record AtInstruction (code : List ℕ) (kind len : ℕ) (body : List ℕ) (at next : ℕ) (u : Progress) : Type 0 where
   pub here : at < length code
   pub fine : faultyAt code at u ≡ false
-  pub rowIs : row ≡ rowOf (getD code at 0)
+  pub kindIs : kind ≡ getD code at 0
+  pub lengthIs : len ≡ bodyLength (getD code at 0)
   pub bodyIs : body ≡ drop (at + 1) code
   pub stage : stageOf (getD code at 0) ≡ 4
   pub nextIs : next ≡ at + 1 + bodyLength (getD code at 0)
 
-pub record Instructing (row : Row) (body : List ℕ) (at next : ℕ) (u : Progress) (ring : List ℕ) : Type 0 where
+pub record Instructing (len : ℕ) (body : List ℕ) (at next : ℕ) (u : Progress) (ring : List ℕ) : Type 0 where
   pub ringRoom : RingRoom ring (at + 1 + length body)
-  pub nextIs : next ≡ at + 1 + row .length
-  pub whole : row .length ≤ length body
+  pub nextIs : next ≡ at + 1 + len
+  pub whole : len ≤ length body
   pub blocks : u .blocks < 32
 
-abbrev pub Instructed : Row → List ℕ → ℕ → ℕ → Progress → List ℕ → List ℕ → List ℕ → List ℕ → Step → Type 0
-Instructed row body at next u heads sizes ring ring' r =
-    (code spans places : List ℕ) → AtInstruction code row body at next u → Reading code at u spans heads places sizes ring
+abbrev pub Instructed : ℕ → ℕ → List ℕ → ℕ → ℕ → Progress → List ℕ → List ℕ → List ℕ → List ℕ → Step → Type 0
+Instructed kind len body at next u heads sizes ring ring' r =
+    (code spans places : List ℕ) → AtInstruction code kind len body at next u → Reading code at u spans heads places sizes ring
     → Stepped code at spans heads places sizes ring' r
 
 -- the present block ends at a position

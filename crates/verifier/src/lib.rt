@@ -2,15 +2,22 @@
 //   sizes   of each of 32 scopes the weight of its block, then the number of its variables; 0 where it has no block
 //   ring    the landings of distances that lie ahead: a mark for each position, by its remainder modulo 65,536; short code has no more
 //           positions than a ring of 8,192 marks
+use record::Medium;
+use record::Shape;
+use record::shape_in;
 use slices::byte_at;
 use validity::is_invalid;
 use validity::may_follow;
 ghost use mathlib.Core.Path.{_≡_};
 ghost use Prim.Native.Nat.{_+_, _<_, _≤_, _*_};
 ghost use lib.ListN.{length, getD, replicate};
+ghost use lib.Dec.{ltb};
+ghost use Rattle.slices.specs.Bytes.{bigEndian};
+ghost use Rattle.record.specs.Kinds.{shapeIn};
+ghost use Rattle.record.specs.declared.Medium.the-variants.{Code};
 ghost use Rattle.verifier.specs.Tables.{Room};
-ghost use Rattle.verifier.specs.Instructions.{numbersOf, rowOf, named, distanceOf, farthest};
-ghost use Rattle.verifier.specs.Pass.{faultyAt, exceedsWith, Limited, namesAt, RingRoom, Passed, nothingRead, Reading};
+ghost use Rattle.verifier.specs.Instructions.{farthest};
+ghost use Rattle.verifier.specs.Pass.{faultyAt, exceedsWith, Limited, calledAt, aheadIf, Landed, RingRoom, Passed, nothingRead, Reading};
 ghost use Rattle.verifier.specs.Pass.{Stepped, Instructing, Instructed, Leaving, Left, Beginning, opening, VariableRoom, VariableNoted, AtHeading, SubRoom, SubRead, Empty, Judged};
 
 // Code is refused, or accepted with the number of its blocks.
@@ -32,23 +39,16 @@ struct Progress {
     pub reach: usize,
 }
 
-// What the pass looks at in a kind: how many bytes follow it, its stage, what its first numbers name, and where its distance stands.
-//   naming   1 an own variable, 2 a sub-scope and its variable, 3 a sub-scope, 0 nothing
-//   place    1 in the first two bytes, 2 after the first byte, 0 nowhere
-struct Row {
-    pub length: usize,
-    pub stage: usize,
-    pub naming: usize,
-    pub place: usize,
-}
-
-// The numbers of a row, in their order.
-struct Numbers(pub usize, pub usize, pub usize, pub usize);
-
 // After a record: the code is refused, or the position of the next record and what was read.
 enum Step {
     Refused,
     Next(usize, Progress),
+}
+
+// What an instruction's body says: the code is refused, or how far behind the instruction it lands.
+enum Landing {
+    Refused,
+    Ahead(usize),
 }
 
 // At a block's end: the code is refused, or the number of closed blocks.
@@ -100,13 +100,14 @@ fn too_many(stage: usize, u: Progress) -> bool
     false
 }
 
-// Whether the record at a position has one of the faults 1 to 5, by its kind and the kind's row.
-fn is_faulty(code: &[u8], at: usize, kind: u8, row: Row, u: Progress) -> bool
-    requires { ⌜ (at < length (now code)) × Limited u × (kind ≡ getD (now code) at 0) × (row ≡ rowOf (getD (now code) at 0)) ⌝ }
+// Whether the record at a position has one of the faults 1 to 5, by its kind and the kind's shape. In code only the kinds 2, of stage 2, and 4
+// have a byte that can stand outside its values.
+fn is_faulty(code: &[u8], at: usize, kind: u8, shape: Shape, u: Progress) -> bool
+    requires { ⌜ (at < length (now code)) × Limited u × (kind ≡ getD (now code) at 0) × (shape ≡ shapeIn Code (getD (now code) at 0)) ⌝ }
     ensures { λ r. ⌜ r ≡ faultyAt (now (code .entry)) at u ⌝ }
 {
-    let stage = row.stage;
-    let length = row.length;
+    let stage = shape.stage;
+    let length = shape.length;
     if stage == 0 {
         return true;
     }
@@ -120,68 +121,13 @@ fn is_faulty(code: &[u8], at: usize, kind: u8, row: Row, u: Progress) -> bool
     if too_many(stage, u) {
         return true;
     }
-    is_invalid(kind, &code[start..])
-}
-
-// The numbers of a kind's row. No arm has two kinds that follow each other, so the compiler makes a table of it.
-fn numbers_of(kind: u8) -> Numbers
-    ensures { λ r. ⌜ r ≡ numbersOf kind ⌝ }
-{
-    match kind {
-        1 => Numbers(1, 1, 0, 0),
-        2 => Numbers(1, 2, 0, 0),
-        3 => Numbers(1, 3, 0, 0),
-        4 => Numbers(1, 4, 0, 0),
-        5 => Numbers(4, 4, 0, 0),
-        6 | 41 => Numbers(1, 4, 1, 0),
-        7 | 42 => Numbers(2, 4, 2, 0),
-        10 | 12 | 14 | 16 | 32 | 37 | 39 => Numbers(0, 4, 0, 0),
-        11 | 13 | 15 | 33 | 38 => Numbers(0, 4, 0, 0),
-        34 | 36 | 40 => Numbers(2, 4, 0, 1),
-        35 => Numbers(2, 4, 0, 1),
-        43 => Numbers(1, 4, 3, 0),
-        44 => Numbers(3, 4, 1, 2),
-        _ => Numbers(0, 0, 0, 0),
+    if stage == 2 {
+        return is_invalid(kind, &code[start..]);
     }
-}
-
-// The row of a kind.
-fn row_of(kind: u8) -> Row
-    ensures { λ r. ⌜ r ≡ rowOf kind ⌝ }
-{
-    let n = numbers_of(kind);
-    Row {
-        length: n.0,
-        stage: n.1,
-        naming: n.2,
-        place: n.3,
+    if kind == 4 {
+        return is_invalid(kind, &code[start..]);
     }
-}
-
-// Whether the numbers a and b of an instruction name something, where the block has `variables` and `subs`, and sub-scope a has `called` variables.
-fn names_something(
-    naming: usize,
-    a: usize,
-    b: usize,
-    variables: usize,
-    subs: usize,
-    called: usize,
-) -> bool
-    ensures { λ r. ⌜ r ≡ named naming a b variables subs called ⌝ }
-{
-    if naming == 1 {
-        return a < variables;
-    }
-    if naming == 2 {
-        if a < subs {
-            return b < called;
-        }
-        return false;
-    }
-    if naming == 3 {
-        return a < subs;
-    }
-    true
+    false
 }
 
 // The number of two bytes, high byte first.
@@ -191,17 +137,12 @@ fn joined(high: u8, low: u8) -> usize
     (high as usize) * 256 + (low as usize)
 }
 
-// The distance of an instruction by its body; 0 where it has none.
-fn distance_of(body: &[u8], place: usize) -> usize
-    ensures { λ r. ⌜ (r ≡ distanceOf place (now (body .entry))) × (r < 65536) ⌝ }
+// A distance that stands behind so many bytes.
+fn distance(body: &[u8], at: usize) -> usize
+    requires { ⌜ at < 65536 ⌝ }
+    ensures { λ r. ⌜ (r ≡ bigEndian 2 (now (body .entry)) at) × (r < 65536) ⌝ }
 {
-    if place == 1 {
-        return joined(byte_at(body, 0), byte_at(body, 1));
-    }
-    if place == 2 {
-        return joined(byte_at(body, 1), byte_at(body, 2));
-    }
-    0
+    joined(byte_at(body, at), byte_at(body, at + 1))
 }
 
 // Whether no landing is marked from a position on up to an end.
@@ -232,25 +173,57 @@ fn farther(reach: usize, passed: usize, d: usize) -> usize
     d
 }
 
-// Whether the numbers of an instruction name something in its block; `sizes` has the variables of each sub-scope's scope.
-fn names_hold(naming: usize, body: &[u8], u: Progress, heads: &[u8], sizes: &[usize]) -> bool
-    requires { ⌜ u .blocks < 32 ⌝ }
-    ensures { λ r. ⌜ r ≡ namesAt naming (now (body .entry)) (now (heads .entry)) (now (sizes .entry)) u ⌝ }
+// Whether a number below `count` is the first of a body.
+fn names_below(body: &[u8], count: usize) -> bool
+    ensures { λ r. ⌜ r ≡ ltb (getD (now (body .entry)) 0 0) count ⌝ }
 {
-    if naming == 0 {
-        return true;
-    }
-    let a = wide(byte_at(body, 0));
-    let b = wide(byte_at(body, 1));
-    let scope = wide(byte_at(heads, u.blocks * 48 + 35 + a));
-    let called = entry_at(sizes, scope * 2 + 1);
-    names_something(naming, a, b, u.variables, u.subs, called)
+    wide(byte_at(body, 0)) < count
 }
 
-// An instruction at a position, by its row and all bytes after its kind, up to the next record. One without a distance lands at its own end;
-// one that lands past the code's end, where the ring need not have a mark, is refused.
+// Whether a body's first two numbers are a sub-scope of the present block and one of its variables; `sizes` has the variables of its scope.
+fn names_called(body: &[u8], u: Progress, heads: &[u8], sizes: &[usize]) -> bool
+    requires { ⌜ u .blocks < 32 ⌝ }
+    ensures { λ r. ⌜ r ≡ calledAt (now (body .entry)) (now (heads .entry)) (now (sizes .entry)) u ⌝ }
+{
+    if !names_below(body, u.subs) {
+        return false;
+    }
+    let scope = wide(byte_at(heads, u.blocks * 48 + 35 + wide(byte_at(body, 0))));
+    wide(byte_at(body, 1)) < entry_at(sizes, scope * 2 + 1)
+}
+
+// A landing, if what its instruction names is there.
+fn ahead_if(there: bool, d: usize) -> Landing
+    ensures { λ r. ⌜ r ≡ aheadIf there d ⌝ }
+{
+    if there {
+        return Landing::Ahead(d);
+    }
+    Landing::Refused
+}
+
+// Where an instruction lands, by its kind and all bytes after it, if its numbers name something: 6, 41 and 44 an own variable, 7 and 42 a
+// sub-scope and its variable, 43 a sub-scope. One without a distance lands at its own end.
+fn landing_of(kind: u8, body: &[u8], u: Progress, heads: &[u8], sizes: &[usize]) -> Landing
+    requires { ⌜ u .blocks < 32 ⌝ }
+    ensures { λ r. ⌜ Landed kind (now (body .entry)) (now (heads .entry)) (now (sizes .entry)) u r ⌝ }
+{
+    match kind {
+        6 | 41 => ahead_if(names_below(body, u.variables), 0),
+        7 | 42 => ahead_if(names_called(body, u, heads, sizes), 0),
+        34 | 36 | 40 => Landing::Ahead(distance(body, 0)),
+        35 => Landing::Ahead(distance(body, 0)),
+        43 => ahead_if(names_below(body, u.subs), 0),
+        44 => ahead_if(names_below(body, u.variables), distance(body, 1)),
+        _ => Landing::Ahead(0),
+    }
+}
+
+// An instruction at a position, by its kind, its body's length and all bytes after its kind, up to the next record. One that lands past the
+// code's end, where the ring need not have a mark, is refused.
 fn instruction(
-    row: Row,
+    kind: u8,
+    length: usize,
     body: &[u8],
     at: usize,
     next: usize,
@@ -259,26 +232,27 @@ fn instruction(
     sizes: &[usize],
     ring: &mut [u8],
 ) -> Step
-    requires { ⌜ Instructing row (now body) at next u (now ring) ⌝ }
+    requires { ⌜ Instructing length (now body) at next u (now ring) ⌝ }
     ensures { λ r.
-        ⌜ Instructed row (now (body .entry)) at next u (now (heads .entry)) (now (sizes .entry)) (now (ring .entry)) (now (ring .exit)) r ⌝ }
+        ⌜ Instructed kind length (now (body .entry)) at next u (now (heads .entry)) (now (sizes .entry)) (now (ring .entry)) (now (ring .exit)) r ⌝ }
 {
-    if !names_hold(row.naming, body, u, heads, sizes) {
-        return Step::Refused;
+    match landing_of(kind, body, u, heads, sizes) {
+        Landing::Refused => Step::Refused,
+        Landing::Ahead(d) => {
+            if !unmarked(ring, at + 1, next) {
+                return Step::Refused;
+            }
+            if body.len() - length < d {
+                return Step::Refused;
+            }
+            ring[at % 65536] = 0;
+            ring[(next % 65536 + d) % 65536] = 1;
+            let mut v = u;
+            v.stage = 4;
+            v.reach = farther(u.reach, next - at, d);
+            Step::Next(next, v)
+        }
     }
-    if !unmarked(ring, at + 1, next) {
-        return Step::Refused;
-    }
-    let d = distance_of(body, row.place);
-    if body.len() - row.length < d {
-        return Step::Refused;
-    }
-    ring[at % 65536] = 0;
-    ring[(next % 65536 + d) % 65536] = 1;
-    let mut v = u;
-    v.stage = 4;
-    v.reach = farther(u.reach, next - at, d);
-    Step::Next(next, v)
 }
 
 // Closes the present block, if there is one: nothing lands past its end, and its weight is within the limit.
@@ -428,16 +402,16 @@ fn heading_at(
         (now (sizes .exit)) (now (ring .exit)) r ⌝ }
 {
     let kind = code[at];
-    let row = row_of(kind);
-    if is_faulty(code, at, kind, row, u) {
+    let shape = shape_in(Medium::Code, kind);
+    if is_faulty(code, at, kind, shape, u) {
         return Step::Refused;
     }
-    let next = at + 1 + row.length;
+    let next = at + 1 + shape.length;
     let first = byte_at(code, at + 1);
-    if row.stage == 1 {
+    if shape.stage == 1 {
         return begin_block(code, at, next, first, u, spans, heads, places, sizes, ring);
     }
-    if row.stage == 2 {
+    if shape.stage == 2 {
         return variable(first, next, u, heads);
     }
     sub_scope(first, next, u, heads, places, sizes)
@@ -460,19 +434,21 @@ fn step_at(
         (now (sizes .exit)) (now (ring .exit)) r ⌝ }
 {
     let kind = code[at];
-    let row = row_of(kind);
-    if row.stage != 4 {
+    let shape = shape_in(Medium::Code, kind);
+    if shape.stage != 4 {
         return heading_at(code, at, u, spans, heads, places, sizes, ring);
     }
-    if is_faulty(code, at, kind, row, u) {
+    if is_faulty(code, at, kind, shape, u) {
         return Step::Refused;
     }
     let start = at + 1;
+    let length = shape.length;
     instruction(
-        row,
+        kind,
+        length,
         &code[start..],
         at,
-        start + row.length,
+        start + length,
         u,
         heads,
         sizes,

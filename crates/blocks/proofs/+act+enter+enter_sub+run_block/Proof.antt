@@ -34,14 +34,14 @@ use Rattle.blocks.proofs.run_block.Kinds as run-block-kinds
 use Rattle.blocks.proofs.+act+enter+enter_sub+run_block.Lts-run_block as run-block-lts
 use Rattle.blocks.proofs.advance.Reads as advance-reads
 use Rattle.blocks.proofs.finish.Reads as finish-reads
-use Rattle.blocks.proofs.head_at.Reads as head-at-reads
+use Rattle.heads.proofs.variables_in.Reads as variables-in-reads
 use Rattle.blocks.proofs.one_step.Reads as one-step-reads
 use Rattle.blocks.proofs.stand.Reads as stand-reads
 use Rattle.memo.proofs.none_given.Reads as none-given-reads
 use Rattle.memo.proofs.recall.Reads as recall-reads
 use Rattle.memo.proofs.remember.Reads as remember-reads
-use Rattle.instructions.proofs.block_of.Reads as block-of-reads
-use Rattle.instructions.proofs.first.Reads as first-reads
+use Rattle.heads.proofs.block_of.Reads as block-of-reads
+use Rattle.blocks.proofs.first.Reads as first-reads
 use Rattle.slices.proofs.part_of.Reads as part-of-reads
 use Rattle.blocks.proofs.+act+enter+enter_sub+run_block.{statement}
 use Rattle.blocks.proofs.+act+enter+enter_sub+run_block.Tie.{close}
@@ -90,7 +90,7 @@ R-act t =
 
 abbrev R-enter : ℕ → enter-lts.Claims
 R-enter t =
-    (head-at-reads.Asked, head-at-reads.Learnt, none-given-reads.Asked, none-given-reads.Learnt, recall-reads.Asked, recall-reads.Learnt, run-block-below t, run-block.Post, remember-reads.Asked, remember-reads.Learnt)
+    (variables-in-reads.Asked, variables-in-reads.Learnt, none-given-reads.Asked, none-given-reads.Learnt, recall-reads.Asked, recall-reads.Learnt, run-block-below t, run-block.Post, remember-reads.Asked, remember-reads.Learnt)
 
 abbrev R-enter-sub : ℕ → enter-sub-lts.Claims
 R-enter-sub t =
@@ -155,8 +155,8 @@ act-same-length-11 t c = search needs
 act-returns-2 : (t : ℕ) → act-lts.Need-returns-2 (R-act t) (act-at t) act.Post
 act-returns-2 t c = (record { shows = acts (world (c .before .before .before .before .before .before .before .before .before .before .before .before .before .before .before .before .before .before .before .before .before .before .before .before .before .before .before .before .before .before .before .pre .1 .entry)) _ (c .before .before .before .before .before .before .before .before .before .before .before .before .before .before .before .before .before .before .before .before .before .before .before .before .before .before .before .before .before .before .before .pre .1 .entry .block) (c .before .before .before .before .before .before .before .before .before .before .before .before .before .before .before .before .before .before .before .before .before .before .before .before .before .before .before .before .before .before .before .pre .1 .stands) (c .before .before .before .before .before .before .before .before .before .before .before .before .before .before .before .before .before .before .before .before .before .before .before .before .before .before .before .before .before .before .before .pre .1 .inside) (c .before .before .before .before .before .before .before .before .before .before .one-step .last .1 .1 .1 .1 .1 .1 .0) (c .before .before .before .before .before .before .before .before .before .before .one-step .last .1 .1 .1 .1 .1 .1 .1 .0) (c .before .before .before .before .before .before .before .before .before .before .one-step .last .1 .1 .1 .1 .1 .1 .1 .1 .0) (c .before .before .before .before .before .before .before .before .before .before .one-step .last .1 .1 .1 .1 .1 .1 .1 .1 .1 .0) (c .before .before .before .before .before .before .before .before .before .before .one-step .last .1 .1 .1 .1 .1 .1 .1 .1 .1 .1 .0) (c .before .before .before .before .before .before .before .before .before .before .one-step .kept .1 .1 .1 .1 .1 .1 .0) (c .before .before .before .before .before .before .before .before .before .before .one-step .kept .1 .1 .1 .1 .1 .1 .1 .0) (record { ownSize = (c .before .before .before .before .before .before .before .before .before .before .one-step .kept .1 .1 .1 .1 .1 .1 .1 .1 .0) ∙ c .before .before .before .before .before .before .before .before .before .before .before .before .before .before .before .before .before .before .before .before .before .before .before .before .before .before .before .before .before .before .before .pre .1 .stands .sized .ownSize; flagSize = (c .before .before .before .before .before .before .before .before .before .before .one-step .kept .1 .1 .1 .1 .1 .1 .1 .1 .1 .0) ∙ c .before .before .before .before .before .before .before .before .before .before .before .before .before .before .before .before .before .before .before .before .before .before .before .before .before .before .before .before .before .before .before .pre .1 .stands .sized .flagSize; calledSize = (c .before .before .before .before .before .before .before .before .before .before .one-step .kept .1 .1 .1 .1 .1 .1 .1 .1 .1 .1 .0) ∙ c .before .before .before .before .before .before .before .before .before .before .before .before .before .before .before .before .before .before .before .before .before .before .before .before .before .before .before .before .before .before .before .pre .1 .stands .sized .calledSize; markSize = c .before .before .before .before .before .before .before .before .before .before .before .before .before .before .before .before .before .before .before .before .before .before .before .before .before .before .before .before .before .before .before .pre .1 .stands .sized .markSize }) (c .before .before .before .before .before .before .before .before .before .before .one-step .result) (c .before .before .before .before .before .before .before .before .before .before .one-step .ensures .shows) }, c .before .before .before .before .before .before .before .before .before .before .before .before .before .before .before .before .before .before .before .before .before .before .before .before .before .before .before .before .before .before .before .pre .1 .known)
 
-enter-head-at-requires : (t : ℕ) → enter-lts.Need-head-at-requires (R-enter t) (enter-at t) enter.Post
-enter-head-at-requires t c κs = (small (world (c .before .before .before .before .before .before .before .before .before .pre .1 .0)) _ (c .before .before .before .before .before .before .before .before .before .pre .1 .0 .block), omega arith)
+enter-variables-in-requires : (t : ℕ) → enter-lts.Need-variables-in-requires (R-enter t) (enter-at t) enter.Post
+enter-variables-in-requires t c κs = small (world (c .before .before .before .before .before .before .before .before .before .pre .1 .0)) _ (c .before .before .before .before .before .before .before .before .before .pre .1 .0 .block)
 
 enter-none-given-requires : (t : ℕ) → enter-lts.Need-none-given-requires (R-enter t) (enter-at t) enter.Post
 enter-none-given-requires t c κs = search needs
@@ -171,7 +171,7 @@ enter-same-length-2 : (t : ℕ) → enter-lts.Need-same-length-2 (R-enter t) (en
 enter-same-length-2 t c = search needs
 
 enter-returns : (t : ℕ) → enter-lts.Need-returns (R-enter t) (enter-at t) enter.Post
-enter-returns t c = (recalled (c .before .before .before .before .before .before .before .before .before .before .before .before .before .before .before .before .before .pre .1 .0) (c .before .before .before .before .before .before .before .head-at .ensures) (c .before .before .before .before .before .before .none-given .ensures) (c .before .before .before .before .before .before .before .before .before .before .before .before .before .before .before .before .before .pre .1 .1) (c .before .before .before .recall .ensures) (c .if1 .taken), c .before .before .before .before .before .before .before .before .before .before .before .before .before .before .before .before .before .pre .1 .1)
+enter-returns t c = (recalled (c .before .before .before .before .before .before .before .before .before .before .before .before .before .before .before .before .before .pre .1 .0) (c .before .before .before .before .before .before .before .variables-in .ensures) (c .before .before .before .before .before .before .none-given .ensures) (c .before .before .before .before .before .before .before .before .before .before .before .before .before .before .before .before .before .pre .1 .1) (c .before .before .before .recall .ensures) (c .if1 .taken), c .before .before .before .before .before .before .before .before .before .before .before .before .before .before .before .before .before .pre .1 .1)
 
 enter-run-block-requires : (t : ℕ) → enter-lts.Need-run-block-requires (R-enter t) (enter-at t) enter.Post
 enter-run-block-requires t c κs = (omega (arith, c .before .before .before .before .before .before .before .before .before .before .before .before .before .before .before .before .before .before .before .before .before .pre .0), (entry-from (unrecalled (c .before .before .before .before .before .before .before .recall .ensures) (c .before .before .before .before .if1 .left)) (c .before .before .before .before .before .before .before .before .before .before .before .before .before .before .before .before .before .before .before .before .before .pre .1 .0), c .before .before .before .before .before .before .before .before .before .before .before .before .before .before .before .before .before .before .before .before .before .pre .1 .1))
@@ -204,7 +204,7 @@ enter-same-length-6 : (t : ℕ) → enter-lts.Need-same-length-6 (R-enter t) (en
 enter-same-length-6 t c = search needs
 
 enter-returns-2 : (t : ℕ) → enter-lts.Need-returns-2 (R-enter t) (enter-at t) enter.Post
-enter-returns-2 t c = (came-so (came-from (unrecalled (c .before .before .before .before .before .before .before .before .before .before .before .before .before .before .before .before .before .before .before .before .before .before .before .before .recall .ensures) (c .before .before .before .before .before .before .before .before .before .before .before .before .before .before .before .before .before .before .before .before .before .if1 .left)) (c .before .before .before .before .before .before .before .before .before .before .before .before .before .before .before .before .run-block .ensures .0)) (c .before .before .before .before .before .before .n .given .1), noted (c .before .before .before .before .before .before .before .before .before .before .before .before .before .before .before .before .before .before .before .before .before .before .before .before .before .before .before .before .before .before .before .before .before .before .before .before .before .before .pre .1 .0) (c .before .before .before .before .before .before .before .before .before .before .before .before .before .before .before .before .before .before .before .before .before .before .before .before .before .before .before .before .head-at .ensures) (c .before .before .before .before .before .before .before .before .before .before .before .before .before .before .before .before .before .before .before .before .before .before .before .before .before .before .before .none-given .ensures) (c .before .before .before .before .before .before .before .before .before .before .before .before .before .before .before .before .run-block .ensures .1) (came-to _ (c .before .before .before .before .before .before .n .given .1) (came-from (unrecalled (c .before .before .before .before .before .before .before .before .before .before .before .before .before .before .before .before .before .before .before .before .before .before .before .before .recall .ensures) (c .before .before .before .before .before .before .before .before .before .before .before .before .before .before .before .before .before .before .before .before .before .if1 .left)) (c .before .before .before .before .before .before .before .before .before .before .before .before .before .before .before .before .run-block .ensures .0)) tt) (c .before .before .remember .kept .1 .1 .1 .1 .0) (c .before .before .remember .ensures))
+enter-returns-2 t c = (came-so (came-from (unrecalled (c .before .before .before .before .before .before .before .before .before .before .before .before .before .before .before .before .before .before .before .before .before .before .before .before .recall .ensures) (c .before .before .before .before .before .before .before .before .before .before .before .before .before .before .before .before .before .before .before .before .before .if1 .left)) (c .before .before .before .before .before .before .before .before .before .before .before .before .before .before .before .before .run-block .ensures .0)) (c .before .before .before .before .before .before .n .given .1), noted (c .before .before .before .before .before .before .before .before .before .before .before .before .before .before .before .before .before .before .before .before .before .before .before .before .before .before .before .before .before .before .before .before .before .before .before .before .before .before .pre .1 .0) (c .before .before .before .before .before .before .before .before .before .before .before .before .before .before .before .before .before .before .before .before .before .before .before .before .before .before .before .before .variables-in .ensures) (c .before .before .before .before .before .before .before .before .before .before .before .before .before .before .before .before .before .before .before .before .before .before .before .before .before .before .before .none-given .ensures) (c .before .before .before .before .before .before .before .before .before .before .before .before .before .before .before .before .run-block .ensures .1) (came-to _ (c .before .before .before .before .before .before .n .given .1) (came-from (unrecalled (c .before .before .before .before .before .before .before .before .before .before .before .before .before .before .before .before .before .before .before .before .before .before .before .before .recall .ensures) (c .before .before .before .before .before .before .before .before .before .before .before .before .before .before .before .before .before .before .before .before .before .if1 .left)) (c .before .before .before .before .before .before .before .before .before .before .before .before .before .before .before .before .run-block .ensures .0)) tt) (c .before .before .remember .kept .1 .1 .1 .1 .0) (c .before .before .remember .ensures))
 
 enter-same-length-7 : (t : ℕ) → enter-lts.Need-same-length-7 (R-enter t) (enter-at t) enter.Post
 enter-same-length-7 t c = search needs
@@ -569,7 +569,7 @@ pub +act+enter+enter-sub+run-block-spec : {M : Type 1} → statement M
     (act-same-length-11 t)
     (act-returns-2 t))
     (λ t. enter-lts.spec (R-enter t) (enter-at t) enter.Post
-    (enter-head-at-requires t)
+    (enter-variables-in-requires t)
     (enter-none-given-requires t)
     (enter-recall-requires t)
     (enter-same-length t)

@@ -5,35 +5,35 @@ use borrow.Author.Needs.{needs}
 use Rattle.blocks.proofs.finish.Statement.{statement}
 use Rattle.blocks.proofs.finish.Tie as tie
 
-head-at-requires : tie.Need-head-at-requires
-head-at-requires c κs = search needs
+variables-in-requires : tie.Need-variables-in-requires
+variables-in-requires c κs = search needs
 
 all-set-requires : tie.Need-all-set-requires
-all-set-requires c κs = own-room _ _ _ _ _ (c .head-at .ensures) (c .before .before .before .before .pre)
+all-set-requires c κs = own-room _ _ _ _ _ (c .variables-in .ensures) (c .before .before .before .before .pre)
 
 returns : tie.Need-returns
-returns c = end-unset _ _ _ _ _ (c .before .before .head-at .ensures) (c .before .all-set .ensures) (c .if1 .taken)
+returns c = end-unset _ _ _ _ _ (c .before .before .variables-in .ensures) (c .before .all-set .ensures) (c .if1 .taken)
 
-head-at-requires-2 : tie.Need-head-at-requires-2
-head-at-requires-2 c κs = search needs
+sub-scopes-in-requires : tie.Need-sub-scopes-in-requires
+sub-scopes-in-requires c κs = search needs
 
 all-set-requires-2 : tie.Need-all-set-requires-2
-all-set-requires-2 c κs = mark-room _ _ _ _ _ (c .before .before .before .head-at .ensures) _ (c .head-at2 .ensures) (c .before .before .before .before .before .before .before .pre)
+all-set-requires-2 c κs = mark-room _ _ _ _ _ (c .before .before .before .variables-in .ensures) _ (c .sub-scopes-in .ensures) (c .before .before .before .before .before .before .before .pre)
 
 returns-2 : tie.Need-returns-2
-returns-2 c = end-waiting _ _ _ _ _ (c .before .before .before .before .before .head-at .ensures) _ (c .before .before .head-at2 .ensures) _ _ _ (c .before .before .before .before .all-set .ensures) (c .before .before .before .if1 .left) (c .before .all-set2 .ensures) (c .if2 .taken)
+returns-2 c = end-waiting _ _ _ _ _ (c .before .before .before .before .before .variables-in .ensures) _ (c .before .before .sub-scopes-in .ensures) _ _ _ (c .before .before .before .before .all-set .ensures) (c .before .before .before .if1 .left) (c .before .all-set2 .ensures) (c .if2 .taken)
 
 returns-3 : tie.Need-returns-3
-returns-3 c = end-values _ _ _ _ _ (c .before .before .before .before .before .head-at .ensures) _ (c .before .before .head-at2 .ensures) _ _ _ (c .before .before .before .before .all-set .ensures) (c .before .before .before .if1 .left) (c .before .all-set2 .ensures) (c .if2 .left)
+returns-3 c = end-values _ _ _ _ _ (c .before .before .before .before .before .variables-in .ensures) _ (c .before .before .sub-scopes-in .ensures) _ _ _ (c .before .before .before .before .all-set .ensures) (c .before .before .before .if1 .left) (c .before .all-set2 .ensures) (c .if2 .left)
 
 pub finish-spec : {M : Type 1} → statement M
 finish-spec =
     tie.close
     (tie.spec
-    head-at-requires
+    variables-in-requires
     all-set-requires
     returns
-    head-at-requires-2
+    sub-scopes-in-requires
     all-set-requires-2
     returns-2
     returns-3)

@@ -20,35 +20,35 @@ returns c = refused-scope (c .before .before .before .before .before .before .be
 sub-p : tie.Need-sub-p
 sub-p c = search needs
 
-types-of-requires : tie.Need-types-of-requires
-types-of-requires c κs = block-small (c .before .before .before .before .before .before .before .before .pre) (c .before .before .before .before .before .before .before .before .args .scope) _ (c .before .byte-at .ensures) (c .if1 .left)
+types-in-requires : tie.Need-types-in-requires
+types-in-requires c κs = block-small (c .before .before .before .before .before .before .before .before .pre) (c .before .before .before .before .before .before .before .before .args .scope) _ (c .before .byte-at .ensures) (c .if1 .left)
 
 slice-aggregate-read-by : tie.Need-slice-aggregate-read-by
 slice-aggregate-read-by c = search needs
 
 read-by-requires : tie.Need-read-by-requires
-read-by-requires c κs = (types-few (c .before .before .before .before .before .before .before .before .before .before .pre) _ (block-there (c .before .before .before .before .before .before .before .before .before .before .pre) (c .before .before .before .before .before .before .before .before .before .before .args .scope) _ (c .before .before .before .byte-at .ensures) (c .before .before .if1 .left)) (c .before .types-of .ensures), refl)
+read-by-requires c κs = (types-few (c .before .before .before .before .before .before .before .before .before .before .pre) _ (block-there (c .before .before .before .before .before .before .before .before .before .before .pre) (c .before .before .before .before .before .before .before .before .before .before .args .scope) _ (c .before .before .before .byte-at .ensures) (c .before .before .if1 .left)) (c .before .types-in .ensures), refl)
 
 returns-2 : tie.Need-returns-2
-returns-2 c = refused-input (c .before .before .before .before .before .before .before .before .before .before .before .before .before .pre) (c .before .before .before .before .before .before .before .before .before .before .before .before .before .args .scope) _ (c .before .before .before .before .before .before .byte-at .ensures) (c .before .before .before .before .before .if1 .left) _ (c .before .before .before .before .types-of .ensures) _ (c .before .before .read-by .ensures .refused (not-true _ (c .if2 .taken)))
+returns-2 c = refused-input (c .before .before .before .before .before .before .before .before .before .before .before .before .before .pre) (c .before .before .before .before .before .before .before .before .before .before .before .before .before .args .scope) _ (c .before .before .before .before .before .before .byte-at .ensures) (c .before .before .before .before .before .if1 .left) _ (c .before .before .before .before .types-in .ensures) _ (c .before .before .read-by .ensures .refused (not-true _ (c .if2 .taken)))
 
 length-by-requires : tie.Need-length-by-requires
-length-by-requires c κs = types-few (c .before .before .before .before .before .before .before .before .before .before .before .before .before .pre) _ (block-there (c .before .before .before .before .before .before .before .before .before .before .before .before .before .pre) (c .before .before .before .before .before .before .before .before .before .before .before .before .before .args .scope) _ (c .before .before .before .before .before .before .byte-at .ensures) (c .before .before .before .before .before .if1 .left)) (c .before .before .before .before .types-of .ensures)
+length-by-requires c κs = types-few (c .before .before .before .before .before .before .before .before .before .before .before .before .before .pre) _ (block-there (c .before .before .before .before .before .before .before .before .before .before .before .before .before .pre) (c .before .before .before .before .before .before .before .before .before .before .before .before .before .args .scope) _ (c .before .before .before .before .before .before .byte-at .ensures) (c .before .before .before .before .before .if1 .left)) (c .before .before .before .before .types-in .ensures)
 
 returns-3 : tie.Need-returns-3
-returns-3 c = refused-room (c .before .before .before .before .before .before .before .before .before .before .before .before .before .before .before .pre) (c .before .before .before .before .before .before .before .before .before .before .before .before .before .before .before .args .scope) _ (c .before .before .before .before .before .before .before .before .byte-at .ensures) (c .before .before .before .before .before .before .before .if1 .left) _ (c .before .before .before .before .before .before .types-of .ensures) (c .before .before .before .before .read-by .ensures .taken (not-false _ (c .before .before .if2 .left))) (rw (← c .before .length-by .ensures) (c .if3 .taken))
+returns-3 c = refused-room (c .before .before .before .before .before .before .before .before .before .before .before .before .before .before .before .pre) (c .before .before .before .before .before .before .before .before .before .before .before .before .before .before .before .args .scope) _ (c .before .before .before .before .before .before .before .before .byte-at .ensures) (c .before .before .before .before .before .before .before .if1 .left) _ (c .before .before .before .before .before .before .types-in .ensures) (c .before .before .before .before .read-by .ensures .taken (not-false _ (c .before .before .if2 .left))) (rw (← c .before .length-by .ensures) (c .if3 .taken))
 
 slice-aggregate-run-block : tie.Need-slice-aggregate-run-block
 slice-aggregate-run-block c = search needs
 
 run-block-requires : tie.Need-run-block-requires
-run-block-requires c κs = asks (c .before .before .before .before .before .before .before .before .before .before .before .before .before .before .before .before .before .pre) (c .before .before .before .before .before .before .before .before .before .before .before .before .before .before .before .before .before .args .scope) _ (c .before .before .before .before .before .before .before .before .before .before .byte-at .ensures) (c .before .before .before .before .before .before .before .before .before .if1 .left) _ (c .before .before .before .before .before .before .before .before .types-of .ensures) (c .before .before .before .before .before .before .read-by .ensures .taken (not-false _ (c .before .before .before .before .if2 .left))) (c .before .before .before .before .before .before .read-by .ensures .size) (rw (← c .before .before .before .length-by .ensures) (c .before .before .if3 .left))
+run-block-requires c κs = asks (c .before .before .before .before .before .before .before .before .before .before .before .before .before .before .before .before .before .pre) (c .before .before .before .before .before .before .before .before .before .before .before .before .before .before .before .before .before .args .scope) _ (c .before .before .before .before .before .before .before .before .before .before .byte-at .ensures) (c .before .before .before .before .before .before .before .before .before .if1 .left) _ (c .before .before .before .before .before .before .before .before .types-in .ensures) (c .before .before .before .before .before .before .read-by .ensures .taken (not-false _ (c .before .before .before .before .if2 .left))) (c .before .before .before .before .before .before .read-by .ensures .size) (rw (← c .before .before .before .length-by .ensures) (c .before .before .if3 .left))
 
 same-length : tie.Need-same-length
 same-length c = search needs
 
 returns-4 : tie.Need-returns-4
-returns-4 c = answers (c .before .before .before .before .before .before .before .before .before .before .before .before .before .before .before .before .before .before .before .before .pre) (c .before .before .before .before .before .before .before .before .before .before .before .before .before .before .before .before .before .before .before .before .args .scope) _ (c .before .before .before .before .before .before .before .before .before .before .before .before .before .byte-at .ensures) (c .before .before .before .before .before .before .before .before .before .before .before .before .if1 .left) _ (c .before .before .before .before .before .before .before .before .before .before .before .types-of .ensures) (c .before .before .before .before .before .before .before .before .before .read-by .ensures .taken (not-false _ (c .before .before .before .before .before .before .before .if2 .left))) (rw (← c .before .before .before .before .before .before .length-by .ensures) (c .before .before .before .before .before .if3 .left)) (c .before .before .run-block .ensures)
+returns-4 c = answers (c .before .before .before .before .before .before .before .before .before .before .before .before .before .before .before .before .before .before .before .before .pre) (c .before .before .before .before .before .before .before .before .before .before .before .before .before .before .before .before .before .before .before .before .args .scope) _ (c .before .before .before .before .before .before .before .before .before .before .before .before .before .byte-at .ensures) (c .before .before .before .before .before .before .before .before .before .before .before .before .if1 .left) _ (c .before .before .before .before .before .before .before .before .before .before .before .types-in .ensures) (c .before .before .before .before .before .before .before .before .before .read-by .ensures .taken (not-false _ (c .before .before .before .before .before .before .before .if2 .left))) (rw (← c .before .before .before .before .before .before .length-by .ensures) (c .before .before .before .before .before .if3 .left)) (c .before .before .run-block .ensures)
 
 pub run-accepted-spec : {M : Type 1} → statement M
 run-accepted-spec =
@@ -58,7 +58,7 @@ run-accepted-spec =
     cast-place
     returns
     sub-p
-    types-of-requires
+    types-in-requires
     slice-aggregate-read-by
     read-by-requires
     returns-2

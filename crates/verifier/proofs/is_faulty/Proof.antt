@@ -1,6 +1,6 @@
 -- `verifier::is_faulty` meets its contract.
 -- Assumes nothing.
-use Rattle.verifier.proofs.Faults.{fault-kind, fault-length, fault-order, fault-limit, fault-byte}
+use Rattle.verifier.proofs.Faults.{fault-kind, fault-length, fault-order, fault-limit, fault-byte, fault-none}
 use borrow.Author.Tests.{not-true, not-false}
 use borrow.Author.Needs.{needs}
 use Rattle.verifier.proofs.is_faulty.Statement.{statement}
@@ -43,7 +43,25 @@ is-invalid-requires : tie.Need-is-invalid-requires
 is-invalid-requires c κs = search needs
 
 returns-5 : tie.Need-returns-5
-returns-5 c = fault-byte _ _ _ _ (c .before .before .before .before .before .before .before .before .before .pre .3) (c .before .before .before .before .before .before .before .if1 .left) (c .before .before .before .before .before .before .if2 .left) _ (c .before .before .before .before .before .may-follow .ensures) (not-false _ (c .before .before .before .before .if3 .left)) _ (c .before .before .before .too-many .ensures) (c .before .before .if4 .left) _ (c .before .before .before .before .before .before .before .before .before .pre .2) _ (c .is-invalid .ensures)
+returns-5 c = fault-byte _ _ _ _ (c .before .before .before .before .before .before .before .before .before .before .pre .3) (c .before .before .before .before .before .before .before .before .if1 .left) (c .before .before .before .before .before .before .before .if2 .left) _ (c .before .before .before .before .before .before .may-follow .ensures) (not-false _ (c .before .before .before .before .before .if3 .left)) _ (c .before .before .before .before .too-many .ensures) (c .before .before .before .if4 .left) _ (c .before .before .before .before .before .before .before .before .before .before .pre .2) _ (c .is-invalid .ensures)
+
+sub-is-invalid-2 : tie.Need-sub-is-invalid-2
+sub-is-invalid-2 c = search needs
+
+part-is-invalid-start-2 : tie.Need-part-is-invalid-start-2
+part-is-invalid-start-2 c = search needs
+
+part-is-invalid-end-2 : tie.Need-part-is-invalid-end-2
+part-is-invalid-end-2 c = search needs
+
+is-invalid-requires-2 : tie.Need-is-invalid-requires-2
+is-invalid-requires-2 c κs = search needs
+
+returns-6 : tie.Need-returns-6
+returns-6 c = fault-byte _ _ _ _ (c .before .before .before .before .before .before .before .before .before .before .before .pre .3) (c .before .before .before .before .before .before .before .before .before .if1 .left) (c .before .before .before .before .before .before .before .before .if2 .left) _ (c .before .before .before .before .before .before .before .may-follow .ensures) (not-false _ (c .before .before .before .before .before .before .if3 .left)) _ (c .before .before .before .before .before .too-many .ensures) (c .before .before .before .before .if4 .left) _ (c .before .before .before .before .before .before .before .before .before .before .before .pre .2) _ (c .is-invalid2 .ensures)
+
+returns-7 : tie.Need-returns-7
+returns-7 c = fault-none _ _ _ _ (c .before .before .before .before .before .before .before .before .before .pre .3) (c .before .before .before .before .before .before .before .if1 .left) (c .before .before .before .before .before .before .if2 .left) _ (c .before .before .before .before .before .may-follow .ensures) (not-false _ (c .before .before .before .before .if3 .left)) _ (c .before .before .before .too-many .ensures) (c .before .before .if4 .left) (c .before .if5 .left) _ (c .before .before .before .before .before .before .before .before .before .pre .2) (c .if6 .left)
 
 pub is-faulty-spec : {M : Type 1} → statement M
 is-faulty-spec =
@@ -61,4 +79,10 @@ is-faulty-spec =
     part-is-invalid-start
     part-is-invalid-end
     is-invalid-requires
-    returns-5)
+    returns-5
+    sub-is-invalid-2
+    part-is-invalid-start-2
+    part-is-invalid-end-2
+    is-invalid-requires-2
+    returns-6
+    returns-7)

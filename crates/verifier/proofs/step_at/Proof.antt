@@ -2,7 +2,7 @@
 -- Assumes nothing.
 use Rattle.verifier.proofs.Ways.{makes-heading, next-within, makes-instructing, at-instruction}
 use Rattle.verifier.proofs.Turns.{faulty-refused}
-use mathlib.Core.Path.{_∙_, sym}
+use mathlib.Core.Path.{refl, _∙_, sym}
 use native.Mathlib.Omega.{arith}
 use borrow.Author.Needs.{needs}
 use Rattle.verifier.proofs.step_at.Statement.{statement}
@@ -11,11 +11,11 @@ use Rattle.verifier.proofs.step_at.Tie as tie
 shared-slice-read-kind : tie.Need-shared-slice-read-kind
 shared-slice-read-kind c = search needs
 
-row-of-requires : tie.Need-row-of-requires
-row-of-requires c κs = search needs
+shape-in-requires : tie.Need-shape-in-requires
+shape-in-requires c κs = search needs
 
 heading-at-requires : tie.Need-heading-at-requires
-heading-at-requires c κs = makes-heading _ _ _ _ _ _ _ _ (c .before .before .before .before .before .before .before .before .before .before .before .before .before .before .before .pre .1) (c .before .before .before .before .before .before .before .before .before .before .before .before .before .before .before .pre .0) _ (c .before .before .before .before .before .before .before .row-of .ensures) (c .before .before .before .before .before .if1 .taken)
+heading-at-requires c κs = makes-heading _ _ _ _ _ _ _ _ (c .before .before .before .before .before .before .before .before .before .before .before .before .before .before .before .pre .1) (c .before .before .before .before .before .before .before .before .before .before .before .before .before .before .before .pre .0) _ (c .before .before .before .before .before .before .before .shape-in .ensures) (c .before .before .before .before .before .if1 .taken)
 
 same-length : tie.Need-same-length
 same-length c = search needs
@@ -54,10 +54,10 @@ part-instruction-end : tie.Need-part-instruction-end
 part-instruction-end c = search needs
 
 add-instruction : tie.Need-add-instruction
-add-instruction c = let h = next-within _ _ _ _ _ _ _ _ (c .before .before .before .before .before .before .before .before .before .before .before .before .before .before .pre .1) (c .before .before .before .before .before .before .before .before .before .before .before .before .before .before .pre .0) _ (c .before .before .before .is-faulty .ensures) (c .before .before .if2 .left) _ (c .before .before .before .before .before .before .row-of .ensures) in omega arith
+add-instruction c = let h = next-within _ _ _ _ _ _ _ _ (c .before .before .before .before .before .before .before .before .before .before .before .before .before .pre .1) (c .before .before .before .before .before .before .before .before .before .before .before .before .before .pre .0) _ (c .before .before .is-faulty .ensures) (c .before .if2 .left) _ (c .before .before .before .before .before .shape-in .ensures) in omega arith
 
 instruction-requires : tie.Need-instruction-requires
-instruction-requires c κs = makes-instructing _ _ _ _ _ _ _ _ (c .before .before .before .before .before .before .before .before .before .before .before .before .before .before .before .before .before .pre .1) (c .before .before .before .before .before .before .before .before .before .before .before .before .before .before .before .before .before .pre .0) _ (c .before .before .before .before .before .before .is-faulty .ensures) (c .before .before .before .before .before .if2 .left) _ (c .before .before .before .before .before .before .before .before .before .row-of .ensures) (c .before .before .before .before .before .before .before .if1 .left)
+instruction-requires c κs = makes-instructing _ _ _ _ _ _ _ _ (c .before .before .before .before .before .before .before .before .before .before .before .before .before .before .before .before .pre .1) (c .before .before .before .before .before .before .before .before .before .before .before .before .before .before .before .before .pre .0) _ (c .before .before .before .before .before .is-faulty .ensures) (c .before .before .before .before .if2 .left) _ (c .before .before .before .before .before .before .before .before .shape-in .ensures) (c .before .before .before .before .before .before .if1 .left)
 
 same-length-6 : tie.Need-same-length-6
 same-length-6 c = search needs
@@ -69,14 +69,14 @@ same-length-8 : tie.Need-same-length-8
 same-length-8 c = search needs
 
 returns-3 : tie.Need-returns-3
-returns-3 c = c .before .before .instruction .ensures _ _ _ (at-instruction _ _ _ _ _ _ _ _ (c .before .before .before .before .before .before .before .before .before .before .before .before .before .before .before .before .before .before .before .before .pre .1) (c .before .before .before .before .before .before .before .before .before .before .before .before .before .before .before .before .before .before .before .before .pre .0) _ (c .before .before .before .before .before .before .before .before .before .is-faulty .ensures) (c .before .before .before .before .before .before .before .before .if2 .left) _ (c .before .before .before .before .before .before .before .before .before .before .before .before .row-of .ensures) (c .before .before .before .before .before .before .before .before .before .before .if1 .left)) (c .before .before .before .before .before .before .before .before .before .before .before .before .before .before .before .before .before .before .before .before .pre .1)
+returns-3 c = c .before .before .instruction .ensures _ _ _ (at-instruction _ _ _ _ _ _ _ _ (c .before .before .before .before .before .before .before .before .before .before .before .before .before .before .before .before .before .before .before .pre .1) (c .before .before .before .before .before .before .before .before .before .before .before .before .before .before .before .before .before .before .before .pre .0) _ (c .before .before .before .before .before .before .before .before .is-faulty .ensures) (c .before .before .before .before .before .before .before .if2 .left) _ (c .before .before .before .before .before .before .before .before .before .before .before .shape-in .ensures) (c .before .before .before .before .before .before .before .before .before .if1 .left) _ refl) (c .before .before .before .before .before .before .before .before .before .before .before .before .before .before .before .before .before .before .before .pre .1)
 
 pub step-at-spec : {M : Type 1} → statement M
 step-at-spec =
     tie.close
     (tie.spec
     shared-slice-read-kind
-    row-of-requires
+    shape-in-requires
     heading-at-requires
     same-length
     same-length-2

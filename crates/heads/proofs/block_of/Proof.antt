@@ -1,9 +1,9 @@
--- `instructions::block_of` meets its contract.
+-- `heads::block_of` meets its contract.
 -- Assumes nothing.
-use Rattle.instructions.specs.Effects.{blockIn}
+use Rattle.heads.specs.Heads.{blockIn}
 use borrow.Author.Needs.{needs}
-use Rattle.instructions.proofs.block_of.Statement.{statement}
-use Rattle.instructions.proofs.block_of.Tie as tie
+use Rattle.heads.proofs.block_of.Statement.{statement}
+use Rattle.heads.proofs.block_of.Tie as tie
 
 mul-byte-at : tie.Need-mul-byte-at
 mul-byte-at c = search needs

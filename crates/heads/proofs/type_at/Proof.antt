@@ -1,9 +1,9 @@
--- `instructions::type_at` meets its contract.
+-- `heads::type_at` meets its contract.
 -- Assumes nothing.
-use Rattle.instructions.specs.Effects.{typeIn}
+use Rattle.heads.specs.Heads.{typeIn}
 use borrow.Author.Needs.{needs}
-use Rattle.instructions.proofs.type_at.Statement.{statement}
-use Rattle.instructions.proofs.type_at.Tie as tie
+use Rattle.heads.proofs.type_at.Statement.{statement}
+use Rattle.heads.proofs.type_at.Tie as tie
 
 mul-byte-at : tie.Need-mul-byte-at
 mul-byte-at c = search needs
