@@ -118,15 +118,12 @@ fn enter(
     if 0 < known {
         return Ran::Values(known);
     }
-    match run_block(code, spans, heads, places, p, st, tr, own, memo) {
-        Ran::Values(n) => {
-            remember(own, n, p, bare, memo);
-            Ran::Values(n)
-        }
-        Ran::Ended(c, n) => Ran::Ended(c, n),
-        Ran::Stuck => Ran::Stuck,
-        Ran::NoRoom => Ran::NoRoom,
+    let ran = run_block(code, spans, heads, places, p, st, tr, own, memo);
+    if let Ran::Values(n) = ran {
+        remember(own, n, p, bare, memo);
+        return ran;
     }
+    ran
 }
 
 // Does the instruction at a place of block p, one other than the entry of a sub-scope.

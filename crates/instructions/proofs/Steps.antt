@@ -12,6 +12,7 @@ use lib.ListN.{length, getD, set, drop, length-drop}
 use lib.Dec.{eqb}
 use borrow.Author.Tests.{ne-eqb}
 use Rattle.record.specs.Kinds.{kinds, shapesOf, shapeIn}
+use Rattle.record.proofs.Decision.{NoneOf}
 use Rattle.slices.specs.Bytes.{bigEndian, numberAt}
 use Rattle.calculus.specs.declared.Cause.the-variants.{Conflict}
 use Rattle.machine.specs.Instructions.{Instruction, unknown, instructionOf}
@@ -23,7 +24,7 @@ use Rattle.instructions.specs.declared.Move.{Move}
 use Rattle.instructions.specs.declared.Move.the-variants as move
 use Rattle.instructions.specs.Views.{entryOf, entries, opened, tab, ownCell, calleeAt, memory}
 use Rattle.heads.specs.Heads.{variablesIn, subScopesIn, typeIn, blockIn, sizeIn}
-use Rattle.instructions.specs.Effects.{Room, Moves, Storing, Handing, StoreAt, OverrideAt, Controls, Computes, Passed, Stepping, Stepped, Typing, Bounded, Sized, memoryIn}
+use Rattle.instructions.specs.Effects.{Room, Moves, Storing, Handing, StoreAt, OverrideAt, Controls, Passed, Stepping, Stepped, Typing, Bounded, Sized, memoryIn}
 use Rattle.instructions.proofs.Memory.{tab-at}
 
 module _ {heads places : List ℕ} {p k : ℕ} {rest st : List ℕ} {h : ℕ} {tr : List ℕ} {t : ℕ} {own flags called marks : List ℕ}
@@ -185,20 +186,36 @@ module _ {k : ℕ} {rest st : List ℕ} {h : ℕ} {tr : List ℕ} {t : ℕ} wher
   unfolding effect
   pass-stuck e = record { same = λ env m. rw e }
 
-pub none-of : (k : ℕ) (rest : List ℕ) → Computes k
-    → (k ≡ 4 → ⊥)
-    → (k ≡ 5 → ⊥)
-    → (k ≡ 10 → ⊥)
-    → (k ≡ 11 → ⊥)
-    → (k ≡ 12 → ⊥)
-    → (k ≡ 13 → ⊥)
-    → (k ≡ 14 → ⊥)
-    → (k ≡ 15 → ⊥)
-    → (k ≡ 16 → ⊥)
-    → (k ≡ 38 → ⊥)
-    → (k ≡ 39 → ⊥)
-    → instructionOf k rest ≡ unknown
+-- the kinds of `control`, the last one first
+abbrev pub controlled : List (List ℕ)
+controlled = (40 ∷ []) ∷ (39 ∷ []) ∷ (38 ∷ []) ∷ (37 ∷ []) ∷ (36 ∷ []) ∷ (35 ∷ []) ∷ (34 ∷ []) ∷ (33 ∷ []) ∷ (32 ∷ []) ∷ (16 ∷ []) ∷ (15 ∷ []) ∷ (14 ∷ []) ∷ (13 ∷ []) ∷ (12 ∷ []) ∷ (11 ∷ []) ∷ (10 ∷ []) ∷ (5 ∷ []) ∷ (4 ∷ []) ∷ []
+
+pub none-of : (k : ℕ) (rest : List ℕ) → Controls k → NoneOf controlled k → instructionOf k rest ≡ unknown
 unfolding instructionOf
-none-of k rest c n4 n5 n10 n11 n12 n13 n14 n15 n16 n38 n39 =
-    let d = c .controls in
-    rw (ne-eqb k 4 n4, ne-eqb k 5 n5, ne-eqb k 6 (d .readsOwn), ne-eqb k 7 (d .readsCalled), ne-eqb k 10 n10, ne-eqb k 11 n11, ne-eqb k 12 n12, ne-eqb k 13 n13, ne-eqb k 14 n14, ne-eqb k 15 n15, ne-eqb k 16 n16, ne-eqb k 32 (c .raises), ne-eqb k 33 (c .raisesConflict), ne-eqb k 34 (c .jumps), ne-eqb k 35 (c .jumpsIfNo), ne-eqb k 36 (c .beginsTry), ne-eqb k 37 (c .endsTry), ne-eqb k 38 n38, ne-eqb k 39 n39, ne-eqb k 40 (c .settles), ne-eqb k 41 (d .stores), ne-eqb k 42 (d .overrides), ne-eqb k 43 (d .enters), ne-eqb k 44 (d .asksGiven))
+none-of k rest d n =
+    rw (
+      ne-eqb k 4 (n .0 .0 .0 .0 .0 .0 .0 .0 .0 .0 .0 .0 .0 .0 .0 .0 .0 .1),
+      ne-eqb k 5 (n .0 .0 .0 .0 .0 .0 .0 .0 .0 .0 .0 .0 .0 .0 .0 .0 .1),
+      ne-eqb k 6 (d .readsOwn),
+      ne-eqb k 7 (d .readsCalled),
+      ne-eqb k 10 (n .0 .0 .0 .0 .0 .0 .0 .0 .0 .0 .0 .0 .0 .0 .0 .1),
+      ne-eqb k 11 (n .0 .0 .0 .0 .0 .0 .0 .0 .0 .0 .0 .0 .0 .0 .1),
+      ne-eqb k 12 (n .0 .0 .0 .0 .0 .0 .0 .0 .0 .0 .0 .0 .0 .1),
+      ne-eqb k 13 (n .0 .0 .0 .0 .0 .0 .0 .0 .0 .0 .0 .0 .1),
+      ne-eqb k 14 (n .0 .0 .0 .0 .0 .0 .0 .0 .0 .0 .0 .1),
+      ne-eqb k 15 (n .0 .0 .0 .0 .0 .0 .0 .0 .0 .0 .1),
+      ne-eqb k 16 (n .0 .0 .0 .0 .0 .0 .0 .0 .0 .1),
+      ne-eqb k 32 (n .0 .0 .0 .0 .0 .0 .0 .0 .1),
+      ne-eqb k 33 (n .0 .0 .0 .0 .0 .0 .0 .1),
+      ne-eqb k 34 (n .0 .0 .0 .0 .0 .0 .1),
+      ne-eqb k 35 (n .0 .0 .0 .0 .0 .1),
+      ne-eqb k 36 (n .0 .0 .0 .0 .1),
+      ne-eqb k 37 (n .0 .0 .0 .1),
+      ne-eqb k 38 (n .0 .0 .1),
+      ne-eqb k 39 (n .0 .1),
+      ne-eqb k 40 (n .1),
+      ne-eqb k 41 (d .stores),
+      ne-eqb k 42 (d .overrides),
+      ne-eqb k 43 (d .enters),
+      ne-eqb k 44 (d .asksGiven),
+    )

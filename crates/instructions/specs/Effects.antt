@@ -109,17 +109,6 @@ pub record Controls (k : ℕ) : Type 0 where
   pub enters : k ≡ 43 → ⊥
   pub asksGiven : k ≡ 44 → ⊥
 
--- nor a raise, a jump or a try
-pub record Computes (k : ℕ) : Type 0 where
-  pub controls : Controls k
-  pub raises : k ≡ 32 → ⊥
-  pub raisesConflict : k ≡ 33 → ⊥
-  pub jumps : k ≡ 34 → ⊥
-  pub jumpsIfNo : k ≡ 35 → ⊥
-  pub beginsTry : k ≡ 36 → ⊥
-  pub endsTry : k ≡ 37 → ⊥
-  pub settles : k ≡ 40 → ⊥
-
 -- an instruction that leaves every variable as it is
 pub record Passed (k : ℕ) (rest st : List ℕ) (h : ℕ) (tr : List ℕ) (t : ℕ) (r : Move) (st' tr' : List ℕ) : Type 0 where
   pub same : (env : Surroundings) (m : Memory)

@@ -34,7 +34,7 @@ ghost use Rattle.machine.specs.Instructions.{Instruction};
 ghost use Rattle.machine.specs.Machine.{Memory, answered, pushed, raised, tried, closed, readFrom, readIn, jumpedIfGiven, effect, Surroundings};
 ghost use Rattle.instructions.specs.Views.{entryOf, entries, opened, ownCell, calleeAt};
 ghost use Rattle.heads.specs.Heads.{typeIn, blockIn};
-ghost use Rattle.instructions.specs.Effects.{Room, Moves, Encodes, Takes, suitable, Storing, Handing, StoreAt, OverrideAt, Computes, Controls, Passed, Stepping, Stepped};
+ghost use Rattle.instructions.specs.Effects.{Room, Moves, Encodes, Takes, suitable, Storing, Handing, StoreAt, OverrideAt, Controls, Passed, Stepping, Stepped};
 
 // After an instruction: go on so many bytes behind its kind, with a height and so many open tries; or stop.
 pub enum Move {
@@ -507,11 +507,10 @@ fn store_at(
     store(type_at(heads, p, x), x, st, h, t, own, flags)
 }
 
-// Does an instruction that works on the stack alone.
-fn compute(kind: u8, rest: &[u8], st: &mut [u64], h: usize, t: usize) -> Move
-    requires { ⌜ (h ≤ length (now st)) × (h ≤ 1024) × Computes kind ⌝ }
-    ensures { λ r. ⌜ ((tr : List ℕ) → (t ≤ 512) × (t * 2 ≤ length tr)
-        → Passed kind (now (rest .entry)) (now (st .entry)) h tr t r (now (st .exit)) tr) ⌝ }
+// Does an instruction that works on stack and tries alone.
+fn control(kind: u8, rest: &[u8], st: &mut [u64], h: usize, tr: &mut [usize], t: usize) -> Move
+    requires { ⌜ Room h t (now st) (now tr) × Controls kind ⌝ }
+    ensures { λ r. ⌜ Passed kind (now (rest .entry)) (now (st .entry)) h (now (tr .entry)) t r (now (st .exit)) (now (tr .exit)) ⌝ }
 {
     match kind {
         4 => push_truth(rest, st, h, t),
@@ -523,26 +522,16 @@ fn compute(kind: u8, rest: &[u8], st: &mut [u64], h: usize, t: usize) -> Move
         14 => binary(Binary::Subtract, st, h, t),
         15 => binary(Binary::Equal, st, h, t),
         16 => binary(Binary::Less, st, h, t),
-        38 => push(st, h, 0, 0, t),
-        39 => join_top(st, h, t),
-        _ => Move::Stuck,
-    }
-}
-
-// Does an instruction that works on stack and tries alone.
-fn control(kind: u8, rest: &[u8], st: &mut [u64], h: usize, tr: &mut [usize], t: usize) -> Move
-    requires { ⌜ Room h t (now st) (now tr) × Controls kind ⌝ }
-    ensures { λ r. ⌜ Passed kind (now (rest .entry)) (now (st .entry)) h (now (tr .entry)) t r (now (st .exit)) (now (tr .exit)) ⌝ }
-{
-    match kind {
         32 => raise(rest.len(), st, h, tr, t),
         33 => Move::Ended(Cause::Conflict),
         34 => Move::Go(2 + distance(rest, 0), h, t),
         35 => branch(distance(rest, 0), st, h, t),
         36 => begin_try(rest.len(), distance(rest, 0), h, tr, t),
         37 => end_try(h, t),
+        38 => push(st, h, 0, 0, t),
+        39 => join_top(st, h, t),
         40 => settle(distance(rest, 0), st, h, t),
-        _ => compute(kind, rest, st, h, t),
+        _ => Move::Stuck,
     }
 }
 

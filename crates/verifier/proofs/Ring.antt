@@ -1,5 +1,6 @@
 -- The marks of the landings that lie ahead.
---     passed-none, passed-hit, passed-more    the search for a mark
+--     passed-none, passed-hit, passed-more,
+--     passed-first                            the search for a mark
 --     lands-short, landing-room               no landing lies past the bytes; its mark lies in the ring
 --     back-fits, back-inside                  what a block that fits says of its next instruction
 --     marks-next                              the landings after an instruction
@@ -34,10 +35,14 @@ module _ (ring : List ℕ) (from : ℕ) where
   unfolding mark
   passed-hit end at h l ne = record { clear = λ e. absurd (false≢true e); hit = λ _. (at, h, l, omega arith) }
 
-  pub passed-more : (at : ℕ) → ((d : ℕ) → from ≤ d → d < at → mark ring d ≡ 0) → getD ring (at % 65536) 0 ≡ 0
-      → (d : ℕ) → from ≤ d → d < at + 1 → mark ring d ≡ 0
+  -- none before the first byte
+  pub passed-first : (d : ℕ) → from ≤ d → d < from → mark ring d ≡ 0
+  passed-first d a b = absurd (omega arith)
+
+  pub passed-more : (at on : ℕ) → on ≡ at + 1 → ((d : ℕ) → from ≤ d → d < at → mark ring d ≡ 0) → getD ring (at % 65536) 0 ≡ 0
+      → (d : ℕ) → from ≤ d → d < on → mark ring d ≡ 0
   unfolding mark
-  passed-more at clear e d a b = ⊎-elim (λ (q : d ≡ at). rw q e) (λ (q : d < at). clear d a q) (eq-or-lt-of-le {n = d} {m = at} (omega arith))
+  passed-more at on next clear e d a b = ⊎-elim (λ (q : d ≡ at). rw q e) (λ (q : d < at). clear d a q) (eq-or-lt-of-le {n = d} {m = at} (omega arith))
 
 -- Passing an instruction's bytes
 

@@ -22,7 +22,7 @@ use Rattle.record.specs.declared.Medium.the-variants.{Code}
 use Rattle.verifier.specs.Pass.{faultyAt, VariableRoom, VariableNoted, Reading, AtInstruction, AtHeading, Beginning, SubRoom, SubRead, Stepped, Instructing}
 use Rattle.verifier.specs.declared.Progress.{Progress}
 use Rattle.scan.proofs.Shapes.{in-order}
-use Rattle.verifier.proofs.Reading.{stage-below}
+use Rattle.verifier.proofs.Reading.{stage-below, length-below}
 use Rattle.verifier.proofs.Turns.{nextAt, is-clean, next-inside}
 use Rattle.verifier.proofs.Heads.{variable-room, variable-turn, sub-room, sub-refused, sub-turn}
 use Rattle.verifier.specs.declared.Step.{Step}
@@ -108,6 +108,7 @@ module _ (code : List ℕ) (at : ℕ) (u : Progress) (spans heads places sizes r
           ringRoom = λ d h. r .sized .ringRoom d (omega arith);
           nextIs = refl;
           whole = omega arith;
+          short = rw es (length-below (getD code at 0));
           blocks = r .busy (o .0) .head .room;
         }
 

@@ -260,6 +260,7 @@ pub record Instructing (len : ℕ) (body : List ℕ) (at next : ℕ) (u : Progre
   pub ringRoom : RingRoom ring (at + 1 + length body)
   pub nextIs : next ≡ at + 1 + len
   pub whole : len ≤ length body
+  pub short : len ≤ 4
   pub blocks : u .blocks < 32
 
 abbrev pub Instructed : ℕ → ℕ → List ℕ → ℕ → ℕ → Progress → List ℕ → List ℕ → List ℕ → List ℕ → Step → Type 0

@@ -145,17 +145,35 @@ fn distance(body: &[u8], at: usize) -> usize
     joined(byte_at(body, at), byte_at(body, at + 1))
 }
 
-// Whether no landing is marked from a position on up to an end.
+// Whether no landing is marked from a position on up to an end at most four bytes on: no body is longer. One test after the other is quicker
+// than a loop.
 fn unmarked(ring: &[u8], from: usize, end: usize) -> bool
-    requires { ⌜ RingRoom (now ring) end × (from ≤ end) ⌝ }
+    requires { ⌜ RingRoom (now ring) end × (from ≤ end) × (end ≤ from + 4) ⌝ }
     ensures { λ r. ⌜ Passed (now (ring .entry)) from end r ⌝ }
 {
-    let mut at = from;
-    while at < end {
-        if ring[at % 65536] != 0 {
-            return false;
-        }
-        at = at + 1;
+    if from == end {
+        return true;
+    }
+    if ring[from % 65536] != 0 {
+        return false;
+    }
+    if from + 1 == end {
+        return true;
+    }
+    if ring[(from + 1) % 65536] != 0 {
+        return false;
+    }
+    if from + 2 == end {
+        return true;
+    }
+    if ring[(from + 2) % 65536] != 0 {
+        return false;
+    }
+    if from + 3 == end {
+        return true;
+    }
+    if ring[(from + 3) % 65536] != 0 {
+        return false;
     }
     true
 }

@@ -176,20 +176,11 @@ enter-returns t c = (recalled (c .before .before .before .before .before .before
 enter-run-block-requires : (t : ℕ) → enter-lts.Need-run-block-requires (R-enter t) (enter-at t) enter.Post
 enter-run-block-requires t c κs = (omega (arith, c .before .before .before .before .before .before .before .before .before .before .before .before .before .before .before .before .before .before .before .before .before .pre .0), (entry-from (unrecalled (c .before .before .before .before .before .before .before .recall .ensures) (c .before .before .before .before .if1 .left)) (c .before .before .before .before .before .before .before .before .before .before .before .before .before .before .before .before .before .before .before .before .before .pre .1 .0), c .before .before .before .before .before .before .before .before .before .before .before .before .before .before .before .before .before .before .before .before .before .pre .1 .1))
 
-enter-enum-known-n : (t : ℕ) → enter-lts.Need-enum-known-n (R-enter t) (enter-at t) enter.Post
-enter-enum-known-n t c = search needs
+enter-enum-known-ran : (t : ℕ) → enter-lts.Need-enum-known-ran (R-enter t) (enter-at t) enter.Post
+enter-enum-known-ran t c = search needs
 
 enter-remember-requires : (t : ℕ) → enter-lts.Need-remember-requires (R-enter t) (enter-at t) enter.Post
 enter-remember-requires t c κs = row-room (c .before .before .before .before .before .before .before .before .before .before .before .before .before .before .before .before .before .before .before .before .before .before .before .before .before .before .before .before .before .before .before .before .before .before .before .pre .1 .0) (c .before .before .before .before .before .before .before .before .before .before .before .before .before .run-block .ensures .0 .size) (c .before .before .before .before .before .before .before .before .before .before .before .before .before .run-block .ensures .1)
-
-enter-enum-known-c : (t : ℕ) → enter-lts.Need-enum-known-c (R-enter t) (enter-at t) enter.Post
-enter-enum-known-c t c = search needs
-
-enter-enum-told : (t : ℕ) → enter-lts.Need-enum-told (R-enter t) (enter-at t) enter.Post
-enter-enum-told t c = search needs
-
-enter-enum-told-2 : (t : ℕ) → enter-lts.Need-enum-told-2 (R-enter t) (enter-at t) enter.Post
-enter-enum-told-2 t c = search needs
 
 enter-same-length-3 : (t : ℕ) → enter-lts.Need-same-length-3 (R-enter t) (enter-at t) enter.Post
 enter-same-length-3 t c = search needs
@@ -204,7 +195,7 @@ enter-same-length-6 : (t : ℕ) → enter-lts.Need-same-length-6 (R-enter t) (en
 enter-same-length-6 t c = search needs
 
 enter-returns-2 : (t : ℕ) → enter-lts.Need-returns-2 (R-enter t) (enter-at t) enter.Post
-enter-returns-2 t c = (came-so (came-from (unrecalled (c .before .before .before .before .before .before .before .before .before .before .before .before .before .before .before .before .before .before .before .before .before .before .before .before .recall .ensures) (c .before .before .before .before .before .before .before .before .before .before .before .before .before .before .before .before .before .before .before .before .before .if1 .left)) (c .before .before .before .before .before .before .before .before .before .before .before .before .before .before .before .before .run-block .ensures .0)) (c .before .before .before .before .before .before .n .given .1), noted (c .before .before .before .before .before .before .before .before .before .before .before .before .before .before .before .before .before .before .before .before .before .before .before .before .before .before .before .before .before .before .before .before .before .before .before .before .before .before .pre .1 .0) (c .before .before .before .before .before .before .before .before .before .before .before .before .before .before .before .before .before .before .before .before .before .before .before .before .before .before .before .before .variables-in .ensures) (c .before .before .before .before .before .before .before .before .before .before .before .before .before .before .before .before .before .before .before .before .before .before .before .before .before .before .before .none-given .ensures) (c .before .before .before .before .before .before .before .before .before .before .before .before .before .before .before .before .run-block .ensures .1) (came-to _ (c .before .before .before .before .before .before .n .given .1) (came-from (unrecalled (c .before .before .before .before .before .before .before .before .before .before .before .before .before .before .before .before .before .before .before .before .before .before .before .before .recall .ensures) (c .before .before .before .before .before .before .before .before .before .before .before .before .before .before .before .before .before .before .before .before .before .if1 .left)) (c .before .before .before .before .before .before .before .before .before .before .before .before .before .before .before .before .run-block .ensures .0)) tt) (c .before .before .remember .kept .1 .1 .1 .1 .0) (c .before .before .remember .ensures))
+enter-returns-2 t c = (came-so (came-from (unrecalled (c .before .before .before .before .before .before .before .before .before .before .before .before .before .before .before .before .before .before .before .before .before .before .before .before .recall .ensures) (c .before .before .before .before .before .before .before .before .before .before .before .before .before .before .before .before .before .before .before .before .before .if1 .left)) (c .before .before .before .before .before .before .before .before .before .before .before .before .before .before .before .before .run-block .ensures .0)) (c .before .before .before .before .before .before .ran .given .1), noted (c .before .before .before .before .before .before .before .before .before .before .before .before .before .before .before .before .before .before .before .before .before .before .before .before .before .before .before .before .before .before .before .before .before .before .before .before .before .before .pre .1 .0) (c .before .before .before .before .before .before .before .before .before .before .before .before .before .before .before .before .before .before .before .before .before .before .before .before .before .before .before .before .variables-in .ensures) (c .before .before .before .before .before .before .before .before .before .before .before .before .before .before .before .before .before .before .before .before .before .before .before .before .before .before .before .none-given .ensures) (c .before .before .before .before .before .before .before .before .before .before .before .before .before .before .before .before .run-block .ensures .1) (came-to _ (c .before .before .before .before .before .before .ran .given .1) (came-from (unrecalled (c .before .before .before .before .before .before .before .before .before .before .before .before .before .before .before .before .before .before .before .before .before .before .before .before .recall .ensures) (c .before .before .before .before .before .before .before .before .before .before .before .before .before .before .before .before .before .before .before .before .before .if1 .left)) (c .before .before .before .before .before .before .before .before .before .before .before .before .before .before .before .before .run-block .ensures .0)) tt) (c .before .before .remember .kept .1 .1 .1 .1 .0) (c .before .before .remember .ensures))
 
 enter-same-length-7 : (t : ℕ) → enter-lts.Need-same-length-7 (R-enter t) (enter-at t) enter.Post
 enter-same-length-7 t c = search needs
@@ -219,37 +210,7 @@ enter-same-length-10 : (t : ℕ) → enter-lts.Need-same-length-10 (R-enter t) (
 enter-same-length-10 t c = search needs
 
 enter-returns-3 : (t : ℕ) → enter-lts.Need-returns-3 (R-enter t) (enter-at t) enter.Post
-enter-returns-3 t c = (came-so (came-from (unrecalled (c .before .before .before .before .before .before .before .before .before .before .before .before .before .before .before .before .before .before .before .recall .ensures) (c .before .before .before .before .before .before .before .before .before .before .before .before .before .before .before .before .if1 .left)) (c .before .before .before .before .before .before .before .before .before .before .before .run-block .ensures .0)) (c .before .c .given .1), c .before .before .before .before .before .before .before .before .before .before .before .run-block .ensures .1)
-
-enter-same-length-11 : (t : ℕ) → enter-lts.Need-same-length-11 (R-enter t) (enter-at t) enter.Post
-enter-same-length-11 t c = search needs
-
-enter-same-length-12 : (t : ℕ) → enter-lts.Need-same-length-12 (R-enter t) (enter-at t) enter.Post
-enter-same-length-12 t c = search needs
-
-enter-same-length-13 : (t : ℕ) → enter-lts.Need-same-length-13 (R-enter t) (enter-at t) enter.Post
-enter-same-length-13 t c = search needs
-
-enter-same-length-14 : (t : ℕ) → enter-lts.Need-same-length-14 (R-enter t) (enter-at t) enter.Post
-enter-same-length-14 t c = search needs
-
-enter-returns-4 : (t : ℕ) → enter-lts.Need-returns-4 (R-enter t) (enter-at t) enter.Post
-enter-returns-4 t c = (came-so (came-from (unrecalled (c .before .before .before .before .before .before .before .before .before .before .before .before .before .before .before .before .before .before .recall .ensures) (c .before .before .before .before .before .before .before .before .before .before .before .before .before .before .before .if1 .left)) (c .before .before .before .before .before .before .before .before .before .before .run-block .ensures .0)) (c .enum-told .given .1), c .before .before .before .before .before .before .before .before .before .before .run-block .ensures .1)
-
-enter-same-length-15 : (t : ℕ) → enter-lts.Need-same-length-15 (R-enter t) (enter-at t) enter.Post
-enter-same-length-15 t c = search needs
-
-enter-same-length-16 : (t : ℕ) → enter-lts.Need-same-length-16 (R-enter t) (enter-at t) enter.Post
-enter-same-length-16 t c = search needs
-
-enter-same-length-17 : (t : ℕ) → enter-lts.Need-same-length-17 (R-enter t) (enter-at t) enter.Post
-enter-same-length-17 t c = search needs
-
-enter-same-length-18 : (t : ℕ) → enter-lts.Need-same-length-18 (R-enter t) (enter-at t) enter.Post
-enter-same-length-18 t c = search needs
-
-enter-returns-5 : (t : ℕ) → enter-lts.Need-returns-5 (R-enter t) (enter-at t) enter.Post
-enter-returns-5 t c = (came-so (came-from (unrecalled (c .before .before .before .before .before .before .before .before .before .before .before .before .before .before .before .before .before .before .recall .ensures) (c .before .before .before .before .before .before .before .before .before .before .before .before .before .before .before .if1 .left)) (c .before .before .before .before .before .before .before .before .before .before .run-block .ensures .0)) (c .enum-told2 .given .1), c .before .before .before .before .before .before .before .before .before .before .run-block .ensures .1)
+enter-returns-3 t c = (came-from (unrecalled (c .before .before .before .before .before .before .before .before .before .before .before .before .before .before .before .before .before .recall .ensures) (c .before .before .before .before .before .before .before .before .before .before .before .before .before .before .if1 .left)) (c .before .before .before .before .before .before .before .before .before .run-block .ensures .0), c .before .before .before .before .before .before .before .before .before .run-block .ensures .1)
 
 enter-sub-add-next : (t : ℕ) → enter-sub-lts.Need-add-next (R-enter-sub t) (enter-sub-at t) enter-sub.Post
 enter-sub-add-next t c = omega (arith, at-small (c .before .before .before .before .before .before .before .before .before .before .before .pre .1 .acting .entry) (c .before .before .before .before .before .before .before .before .before .before .before .pre .1 .acting .stands .isBody) (c .before .before .before .before .before .before .before .before .before .before .before .pre .1 .acting .inside), c .before .before .before .before .before .before .before .before .before .shared-slice-known2 .given (c .before .before .before .before .before .before .before .before .before .before .before .args .p * 2 + 1))
@@ -576,11 +537,8 @@ pub +act+enter+enter-sub+run-block-spec : {M : Type 1} → statement M
     (enter-same-length-2 t)
     (enter-returns t)
     (enter-run-block-requires t)
-    (enter-enum-known-n t)
+    (enter-enum-known-ran t)
     (enter-remember-requires t)
-    (enter-enum-known-c t)
-    (enter-enum-told t)
-    (enter-enum-told-2 t)
     (enter-same-length-3 t)
     (enter-same-length-4 t)
     (enter-same-length-5 t)
@@ -590,17 +548,7 @@ pub +act+enter+enter-sub+run-block-spec : {M : Type 1} → statement M
     (enter-same-length-8 t)
     (enter-same-length-9 t)
     (enter-same-length-10 t)
-    (enter-returns-3 t)
-    (enter-same-length-11 t)
-    (enter-same-length-12 t)
-    (enter-same-length-13 t)
-    (enter-same-length-14 t)
-    (enter-returns-4 t)
-    (enter-same-length-15 t)
-    (enter-same-length-16 t)
-    (enter-same-length-17 t)
-    (enter-same-length-18 t)
-    (enter-returns-5 t))
+    (enter-returns-3 t))
     (λ t. enter-sub-lts.spec (R-enter-sub t) (enter-sub-at t) enter-sub.Post
     (enter-sub-add-next t)
     (enter-sub-sub-first t)

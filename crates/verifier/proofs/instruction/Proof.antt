@@ -22,7 +22,7 @@ add-unmarked : tie.Need-add-unmarked
 add-unmarked c = search needs
 
 unmarked-requires : tie.Need-unmarked-requires
-unmarked-requires c κs = (λ d h. c .before .before .before .before .before .before .before .before .before .pre .ringRoom d (omega arith), omega arith)
+unmarked-requires c κs = (λ d h. c .before .before .before .before .before .before .before .before .before .pre .ringRoom d (omega arith), omega arith, let n = c .before .before .before .before .before .before .before .before .before .pre .nextIs in let s = c .before .before .before .before .before .before .before .before .before .pre .short in omega arith)
 
 same-length : tie.Need-same-length
 same-length c = search needs

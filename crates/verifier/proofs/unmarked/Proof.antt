@@ -1,50 +1,88 @@
 -- `verifier::unmarked` meets its contract.
 -- Assumes nothing.
-use Rattle.verifier.proofs.Ring.{passed-none, passed-hit, passed-more}
-use Rattle.verifier.specs.Pass.{mark}
+use Prim.Native.Nat.{_+_}
 use native.Mathlib.Omega.{arith}
-use mathlib.Core.Path.{_≡_}
-use Prim.Native.Nat.{ℕ, _-_, _<_, _≤_}
+use Rattle.verifier.proofs.Ring.{passed-none, passed-hit, passed-first, passed-more}
 use Rattle.verifier.proofs.unmarked.Statement.{statement}
 use Rattle.verifier.proofs.unmarked.Tie as tie
 
-abbrev Inv-loop : tie.InvT-loop
-Inv-loop ring from end at₀ at = (from ≤ at) × (at ≤ end) × ((d : ℕ) → from ≤ d → d < at → mark ring d ≡ 0)
+returns : tie.Need-returns
+returns c = passed-none _ _ _ (c .before .args .from) (omega arith) (passed-first _ _)
 
-abbrev μ-loop : tie.MeasureT-loop
-μ-loop ring from end at₀ at = end - at
+shared-slice-read-if2 : tie.Need-shared-slice-read-if2
+shared-slice-read-if2 c = c .before .before .pre .0 (c .before .before .args .from) (omega arith)
 
-loop-holds : tie.Need-loop-holds Inv-loop μ-loop
-loop-holds c = (omega arith, omega arith, λ d a b. absurd (omega arith))
+returns-2 : tie.Need-returns-2
+returns-2 c = passed-hit _ _ _ (c .before .before .before .args .from) (omega arith) (omega arith) (c .if2 .taken)
 
-shared-slice-read-if1 : tie.Need-shared-slice-read-if1 Inv-loop μ-loop
-shared-slice-read-if1 c = c .before .before .before .pre .0 (c .before .before .loop .at) (omega arith)
+add-if3 : tie.Need-add-if3
+add-if3 c = omega arith
 
-returns : tie.Need-returns Inv-loop μ-loop
-returns c = passed-hit _ _ _ (c .before .before .before .loop .at) (c .before .before .before .loop .inv .0) (omega arith) (c .if1 .taken)
+returns-3 : tie.Need-returns-3
+returns-3 c = passed-none _ _ _ (c .before .before .before .before .args .from + 1) (omega arith) (passed-more _ _ (c .before .before .before .before .args .from) (c .before .before .before .before .args .from + 1) (omega arith) (passed-first _ _) (c .before .if2 .left))
 
-add-at : tie.Need-add-at Inv-loop μ-loop
-add-at c = omega arith
+add-if4 : tie.Need-add-if4
+add-if4 c = omega arith
 
-loop-less : tie.Need-loop-less Inv-loop μ-loop
-loop-less c = omega arith
+shared-slice-read-if4 : tie.Need-shared-slice-read-if4
+shared-slice-read-if4 c = c .before .before .before .before .before .pre .0 (c .before .before .before .before .before .args .from + 1) (omega arith)
 
-loop-again : tie.Need-loop-again Inv-loop μ-loop
-loop-again c = (omega arith, omega arith, passed-more _ _ _ (c .before .before .before .loop .inv .2) (c .if1 .left))
+returns-4 : tie.Need-returns-4
+returns-4 c = passed-hit _ _ _ (c .before .before .before .before .before .before .args .from + 1) (omega arith) (omega arith) (c .if4 .taken)
 
-returns-2 : tie.Need-returns-2 Inv-loop μ-loop
-returns-2 c = passed-none _ _ _ _ (c .loop-test .left) (c .before .loop .inv .2)
+add-if5 : tie.Need-add-if5
+add-if5 c = omega arith
+
+returns-5 : tie.Need-returns-5
+returns-5 c = passed-none _ _ _ (c .before .before .before .before .before .before .before .args .from + 2) (omega arith) (passed-more _ _ (c .before .before .before .before .before .before .before .args .from + 1) (c .before .before .before .before .before .before .before .args .from + 2) (omega arith) (passed-more _ _ (c .before .before .before .before .before .before .before .args .from) (c .before .before .before .before .before .before .before .args .from + 1) (omega arith) (passed-first _ _) (c .before .before .before .before .if2 .left)) (c .before .if4 .left))
+
+add-if6 : tie.Need-add-if6
+add-if6 c = omega arith
+
+shared-slice-read-if6 : tie.Need-shared-slice-read-if6
+shared-slice-read-if6 c = c .before .before .before .before .before .before .before .before .pre .0 (c .before .before .before .before .before .before .before .before .args .from + 2) (omega arith)
+
+returns-6 : tie.Need-returns-6
+returns-6 c = passed-hit _ _ _ (c .before .before .before .before .before .before .before .before .before .args .from + 2) (omega arith) (omega arith) (c .if6 .taken)
+
+add-if7 : tie.Need-add-if7
+add-if7 c = omega arith
+
+returns-7 : tie.Need-returns-7
+returns-7 c = passed-none _ _ _ (c .before .before .before .before .before .before .before .before .before .before .args .from + 3) (omega arith) (passed-more _ _ (c .before .before .before .before .before .before .before .before .before .before .args .from + 2) (c .before .before .before .before .before .before .before .before .before .before .args .from + 3) (omega arith) (passed-more _ _ (c .before .before .before .before .before .before .before .before .before .before .args .from + 1) (c .before .before .before .before .before .before .before .before .before .before .args .from + 2) (omega arith) (passed-more _ _ (c .before .before .before .before .before .before .before .before .before .before .args .from) (c .before .before .before .before .before .before .before .before .before .before .args .from + 1) (omega arith) (passed-first _ _) (c .before .before .before .before .before .before .before .if2 .left)) (c .before .before .before .before .if4 .left)) (c .before .if6 .left))
+
+add-if8 : tie.Need-add-if8
+add-if8 c = omega arith
+
+shared-slice-read-if8 : tie.Need-shared-slice-read-if8
+shared-slice-read-if8 c = c .before .before .before .before .before .before .before .before .before .before .before .pre .0 (c .before .before .before .before .before .before .before .before .before .before .before .args .from + 3) (omega arith)
+
+returns-8 : tie.Need-returns-8
+returns-8 c = passed-hit _ _ _ (c .before .before .before .before .before .before .before .before .before .before .before .before .args .from + 3) (omega arith) (omega arith) (c .if8 .taken)
+
+returns-9 : tie.Need-returns-9
+returns-9 c = passed-none _ _ _ (c .before .before .before .before .before .before .before .before .before .before .before .before .args .from + 4) (omega arith) (passed-more _ _ (c .before .before .before .before .before .before .before .before .before .before .before .before .args .from + 3) (c .before .before .before .before .before .before .before .before .before .before .before .before .args .from + 4) (omega arith) (passed-more _ _ (c .before .before .before .before .before .before .before .before .before .before .before .before .args .from + 2) (c .before .before .before .before .before .before .before .before .before .before .before .before .args .from + 3) (omega arith) (passed-more _ _ (c .before .before .before .before .before .before .before .before .before .before .before .before .args .from + 1) (c .before .before .before .before .before .before .before .before .before .before .before .before .args .from + 2) (omega arith) (passed-more _ _ (c .before .before .before .before .before .before .before .before .before .before .before .before .args .from) (c .before .before .before .before .before .before .before .before .before .before .before .before .args .from + 1) (omega arith) (passed-first _ _) (c .before .before .before .before .before .before .before .before .before .if2 .left)) (c .before .before .before .before .before .before .if4 .left)) (c .before .before .before .if6 .left)) (c .if8 .left))
 
 pub unmarked-spec : {M : Type 1} → statement M
 unmarked-spec =
     tie.close
     (tie.spec
-    Inv-loop
-    μ-loop
-    loop-holds
-    shared-slice-read-if1
     returns
-    add-at
-    loop-less
-    loop-again
-    returns-2)
+    shared-slice-read-if2
+    returns-2
+    add-if3
+    returns-3
+    add-if4
+    shared-slice-read-if4
+    returns-4
+    add-if5
+    returns-5
+    add-if6
+    shared-slice-read-if6
+    returns-6
+    add-if7
+    returns-7
+    add-if8
+    shared-slice-read-if8
+    returns-8
+    returns-9)
