@@ -4,7 +4,7 @@ use calculus::Value;
 use integers::bits_of;
 use integers::number_of;
 ghost use mathlib.Core.Path.{_≡_};
-ghost use Rattle.cells.specs.Cells.{cellOf, givenOf, givenAt};
+ghost use Rattle.cells.specs.Cells.{cellOf, givenOf, givenAt, held};
 
 // The cell of a value.
 pub fn cell_of(v: Value) -> u64
@@ -40,5 +40,15 @@ pub fn given_at(cells: &[u64], at: usize) -> Given
         given_of(cells[at])
     } else {
         Given::Absent
+    }
+}
+
+// What a variable holds; where it is not set, no.
+pub fn value_of(g: Given) -> Value
+    ensures { λ r. ⌜ r ≡ held g ⌝ }
+{
+    match g {
+        Given::Absent => Value::Truth(false),
+        Given::Present(v) => v,
     }
 }

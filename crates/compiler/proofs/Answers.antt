@@ -15,7 +15,7 @@ use Rattle.evaluation.specs.declared.Refusal.the-variants.{Book, BufferTooSmall
 use Rattle.translation.specs.Code.{code}
 use Rattle.translation.specs.Blocks.{codeOf}
 use Rattle.compiler.specs.Compile.{Compilation, refuse, fitting, onJudged, compile, Compiles}
-use Rattle.compiler.specs.declared.Compiled.the-variants.{Written, Refused}
+use Rattle.evaluation.specs.declared.Compiled.the-variants.{Written, Refused}
 use Rattle.emitter.specs.Emission.{back, Emits}
 use Rattle.emitter.specs.Pieces.{bookPiece, bookSize}
 use Rattle.book.specs.declared.Judged.the-variants as judged

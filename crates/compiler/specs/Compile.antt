@@ -12,8 +12,8 @@ use Rattle.book.specs.declared.Judged.the-variants as judged
 use Rattle.evaluation.specs.declared.Refusal.{Refusal}
 use Rattle.evaluation.specs.declared.Refusal.the-variants.{Book, BufferTooSmall}
 use Rattle.translation.specs.Blocks.{codeOf}
-use Rattle.compiler.specs.declared.Compiled.{Compiled}
-use Rattle.compiler.specs.declared.Compiled.the-variants.{Written, Refused}
+use Rattle.evaluation.specs.declared.Compiled.{Compiled}
+use Rattle.evaluation.specs.declared.Compiled.the-variants.{Written, Refused}
 
 -- an answer, and the bytes that it writes
 pub record Compilation : Type 0 where

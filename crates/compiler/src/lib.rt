@@ -1,18 +1,13 @@
 // Compiling a book: the service.
 use book::Judged;
 use emitter::emit_blocks;
+use evaluation::Compiled;
 use evaluation::Refusal;
 use judge::judge_into;
 ghost use mathlib.Core.Path.{_≡_};
 ghost use lib.ListN.{length};
 ghost use Rattle.compiler.specs.Compile.{Compiles};
 ghost use Rattle.emitter.specs.Pieces.{Tabled};
-
-// What compiling answers: the length written, or why nothing is.
-pub enum Compiled {
-    Written(usize),
-    Refused(Refusal),
-}
 
 // Copies bytes into memory of their length.
 fn copy(from: &[u8], to: &mut [u8])

@@ -18,7 +18,7 @@ use Rattle.machine.specs.Service.{run}
 use Rattle.agreement.specs.Agreement.{Agreement}
 use Rattle.agreement.proofs.Agreement.{agreement}
 use Rattle.compiler.specs.Compile.{Compilation, fitting, compile, Compiles}
-use Rattle.compiler.specs.declared.Compiled.the-variants as compiled
+use Rattle.evaluation.specs.declared.Compiled.the-variants as compiled
 use Rattle.runner.specs.Service.{Runs}
 use Rattle.engine.specs.Claim.{Memories, writtenLength, writtenCode, Agreed, Together}
 use Rattle.engine.specs.declared.Answers.{Answers}

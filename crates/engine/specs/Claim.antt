@@ -16,8 +16,8 @@ use Rattle.evaluator.specs.Service.{Evaluated}
 use Rattle.translation.specs.Blocks.{codeOf}
 use Rattle.machine.specs.Acceptance.{accepted}
 use Rattle.compiler.specs.Compile.{Compiles}
-use Rattle.compiler.specs.declared.Compiled.{Compiled}
-use Rattle.compiler.specs.declared.Compiled.the-variants as compiled
+use Rattle.evaluation.specs.declared.Compiled.{Compiled}
+use Rattle.evaluation.specs.declared.Compiled.the-variants as compiled
 use Rattle.runner.specs.Service.{Runs}
 use Rattle.engine.specs.declared.Answers.{Answers}
 

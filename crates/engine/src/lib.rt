@@ -3,9 +3,9 @@
 pub use book::Fault;
 pub use book::Judged;
 pub use calculus::Cause;
-pub use compiler::Compiled;
 pub use compiler::compile;
 pub use evaluation::Answer;
+pub use evaluation::Compiled;
 pub use evaluation::Refusal;
 pub use evaluator::evaluate;
 pub use judge::judge;

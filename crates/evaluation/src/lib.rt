@@ -1,4 +1,4 @@
-// Evaluating a scope of a book.
+// What the services answer. The definitions of evaluating a scope of a book stand in specs/, theorems about them in proofs/.
 use book::Fault;
 use calculus::Cause;
 
@@ -12,9 +12,15 @@ pub enum Refusal {
     Stuck,
 }
 
-// What evaluating answers: the count of scopes entered and, where the run ends in values, the length of the results.
+// What evaluating and running answer: the count of scopes entered and, where the run ends in values, the length of the results.
 pub enum Answer {
     Values(usize, usize),
     Ended(Cause, usize),
+    Refused(Refusal),
+}
+
+// What compiling answers: the length written, or why nothing is.
+pub enum Compiled {
+    Written(usize),
     Refused(Refusal),
 }

@@ -8,6 +8,7 @@ use calculus::Unary;
 use calculus::Value;
 use cells::cell_of;
 use cells::given_of;
+use cells::value_of;
 use heads::block_of;
 use heads::type_at;
 use integers::distance_at;
@@ -60,10 +61,7 @@ fn encode(v: Value) -> u64
 fn value_in(c: u64) -> Value
     ensures { λ r. ⌜ r ≡ held (givenOf c) ⌝ }
 {
-    match given_of(c) {
-        Given::Absent => Value::Truth(false),
-        Given::Present(v) => v,
-    }
+    value_of(given_of(c))
 }
 
 fn type_in(v: Value) -> ValueType

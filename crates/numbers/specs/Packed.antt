@@ -7,8 +7,8 @@ use Rattle.evaluation.specs.declared.Refusal.{Refusal}
 use Rattle.evaluation.specs.declared.Refusal.the-variants.{Book}
 use Rattle.evaluation.specs.declared.Answer.{Answer}
 use Rattle.evaluation.specs.declared.Answer.the-variants.{Values, Ended, Refused}
-use Rattle.compiler.specs.declared.Compiled.{Compiled}
-use Rattle.compiler.specs.declared.Compiled.the-variants as compiled
+use Rattle.evaluation.specs.declared.Compiled.{Compiled}
+use Rattle.evaluation.specs.declared.Compiled.the-variants as compiled
 use Rattle.numbers.specs.Causes.{causeNumber}
 
 -- refusal * 2^56

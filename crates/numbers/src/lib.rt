@@ -2,8 +2,8 @@
 use book::Fault;
 use book::Judged;
 use calculus::Cause;
-use compiler::Compiled;
 use evaluation::Answer;
+use evaluation::Compiled;
 use evaluation::Refusal;
 ghost use mathlib.Core.Path.{_≡_};
 ghost use Rattle.book.specs.Judge.{faultNumber};

@@ -27,7 +27,8 @@ pub enum Record {
     Whole(u8, usize, usize, usize),
 }
 
-// One decision over kinds and ranges of kinds, for book and code.
+// One decision over kinds and ranges of kinds, for book and code. The kinds that are frequent in code stand singly, no two that follow each other
+// in one arm: so the compiler makes a table of them.
 fn shapes_of(kind: u8) -> Shapes
     ensures { λ r. ⌜ r ≡ shapesOf kind ⌝ }
 {

@@ -1,8 +1,8 @@
 // Results: "the same records, all variables of the scope in number order". Their length, and writing them from cells.
 use book::ValueType;
-use calculus::Given;
 use calculus::Value;
 use cells::given_at;
+use cells::value_of;
 use integers::put_number;
 use lists::fill_types;
 use slices::put_byte;
@@ -11,7 +11,6 @@ use types::type_of;
 ghost use mathlib.Core.Path.{_≡_};
 ghost use Prim.Native.Nat.{_+_, _≤_};
 ghost use lib.ListN.{length};
-ghost use Rattle.cells.specs.Cells.{held};
 ghost use Rattle.book.specs.Decode.{scopesOf};
 ghost use Rattle.book.specs.References.{scopeAt};
 ghost use Rattle.book.specs.Tables.{Laid};
@@ -59,16 +58,6 @@ fn bit_of(b: bool) -> u8
     ensures { λ r. ⌜ r ≡ bit b ⌝ }
 {
     if b { 1 } else { 0 }
-}
-
-// What a variable holds; one that is not set is never asked for.
-fn value_of(g: Given) -> Value
-    ensures { λ r. ⌜ r ≡ held g ⌝ }
-{
-    match g {
-        Given::Absent => Value::Truth(false),
-        Given::Present(v) => v,
-    }
 }
 
 // Writes the record of variable v at a position; the position after it.

@@ -4,11 +4,11 @@ use book::Consequence;
 use book::Node;
 use calculus::Cause;
 use calculus::Gathered;
-use calculus::Given;
 use calculus::Joined;
 use calculus::Outcome;
 use calculus::Value;
 use cells::given_at;
+use cells::value_of;
 use defaults::gather;
 use defaults::settle;
 use operators::eval_binary;
@@ -26,11 +26,7 @@ ghost use Rattle.terms.specs.Outcomes.{outcomeBelow, choiceBelow, defaul
 fn value_at(cells: &[u64], at: usize) -> Value
     ensures { λ r. ⌜ r ≡ held (givenAt (now (cells .entry)) at) ⌝ }
 {
-    let given = given_at(cells, at);
-    match given {
-        Given::Absent => Value::Truth(false),
-        Given::Present(v) => v,
-    }
+    value_of(given_at(cells, at))
 }
 
 // Whether every exception was empty.
