@@ -31,7 +31,7 @@ use Rattle.book.specs.declared.Judged.the-variants.{Accepted}
 use Rattle.book.specs.declared.Target.{Target}
 use Rattle.book.proofs.Searches.{any-none}
 use Rattle.book.proofs.Sums.{sum-same}
-use Rattle.weights.proofs.Weights.{new-block, block-bound, called-before, weight-sum}
+use Rattle.book.proofs.Weights.{new-block, block-bound, called-before, weight-sum}
 use Rattle.acceptance.proofs.Acceptance.{accepted-faultless}
 use Rattle.acceptance.proofs.Orders.{accepted-book}
 use Rattle.evaluation.specs.Types.{WellTyped}

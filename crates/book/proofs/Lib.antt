@@ -4,3 +4,8 @@ pub mod Terms
 pub mod Same
 pub mod Sums
 pub mod Scopes
+pub mod Shapes
+pub mod Sorts
+pub mod Sound
+pub mod Limits
+pub mod Weights

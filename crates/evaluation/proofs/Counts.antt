@@ -29,7 +29,7 @@ use Rattle.book.specs.Steps.{dependsOn, stepCount, stepOrder}
 use Rattle.book.specs.Judge.{judge}
 use Rattle.book.specs.declared.Judged.the-variants.{Accepted}
 use Rattle.book.proofs.Sums.{range}
-use Rattle.weights.proofs.Weights.{weight-sum}
+use Rattle.book.proofs.Weights.{weight-sum}
 use Rattle.acceptance.specs.Accepted.{CompleteOrder}
 use Rattle.acceptance.proofs.Acceptance.{accepted-faultless}
 use Rattle.acceptance.proofs.Orders.{accepted-book}

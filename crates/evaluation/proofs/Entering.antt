@@ -31,7 +31,7 @@ use Rattle.book.specs.Scopes.{calls, blocks}
 use Rattle.book.specs.Steps.{dependsOn, stepCount, stepOrder}
 use Rattle.book.specs.Judge.{judge}
 use Rattle.book.specs.declared.Judged.the-variants.{Accepted}
-use Rattle.weights.proofs.Weights.{new-block, block-snoc}
+use Rattle.book.proofs.Weights.{new-block, block-snoc}
 use Rattle.acceptance.specs.Accepted.{WellFormed, CompleteOrder}
 use Rattle.acceptance.proofs.Orders.{blocks-after, accepted-book}
 use Rattle.evaluation.specs.Run.{Entered, ended, begin, runSteps, enter, runScope}

@@ -5,7 +5,7 @@ use calculus::Value;
 use cells::cell_of;
 use cells::given_at;
 use integers::number_at;
-use lists::fill_types;
+use signatures::fill_types;
 use slices::byte_at;
 use types::same_type;
 use types::type_of;

@@ -4,7 +4,7 @@ use calculus::Value;
 use cells::given_at;
 use cells::value_of;
 use integers::put_number;
-use lists::fill_types;
+use signatures::fill_types;
 use slices::put_byte;
 use tables::variable_count;
 use types::type_of;

@@ -1,5 +1,4 @@
 -- A record looks at no byte past its body, so it may be read from all bytes after its kind.
---     stage-below    every kind has a stage of at most 5
 --     variable-long, sub-long, clause-long    the length of a body, for a stage whose kinds all have one
 --     variable-body, sub-body, node-body, clause-body    a variable, a sub-scope, a node and a clause
 -- Assumes nothing.
@@ -17,11 +16,7 @@ use Rattle.record.specs.Kinds.{kinds, shapesOf, pickShape, shapeIn}
 use Rattle.record.specs.declared.Medium.the-variants.{Book}
 use Rattle.record.specs.declared.Shape.{Shape}
 use Rattle.book.specs.Syntax.{nodeOf, clauseOf}
-use Rattle.scan.proofs.Shapes.{every, at-every, shape-below}
-
-pub stage-below : (k : ℕ) → shapeIn Book k .stage ≤ 5
-unfolding shapeIn shapesOf kinds every
-stage-below k = shape-below Book (λ s. s .stage) 5 tt tt k
+use Rattle.book.proofs.Shapes.{every, at-every}
 
 -- a stage whose kinds all have one length
 long : ℕ → ℕ → Shape → Bool

@@ -17,17 +17,19 @@ use Rattle.book.specs.Decode.{Parsed, inFront, parse, scopesOf}
 use Rattle.book.specs.References.{scopeAt}
 use Rattle.book.specs.Judge.{scan}
 use Rattle.book.specs.Tables.{countAt, Placed}
-use Rattle.scan.specs.Counting.{slotOf, numberOf, scopesWith, tallyOf, InLimits, Counts, Counting}
+use Rattle.book.specs.Limits.{InLimits}
+use Rattle.scan.specs.Counting.{slotOf, numberOf, scopesWith, tallyOf, Counts, Counting}
 use Rattle.scan.specs.Step.{metAt, stepAt}
 use Rattle.scan.specs.Filling.{storedPlaces, storedCounts, Room, Stored, Blank, Filled, Recorded}
 use Rattle.scan.specs.declared.Step.the-variants.{Stop, Next}
 use Rattle.scan.specs.declared.Reading.the-variants.{Faulty, Complete}
-use Rattle.scan.proofs.Steps.{Clean, Read, read, room, within, records-at, scan-next, scan-stop, scan-end}
-use Rattle.scan.proofs.Sorts.{Sort, variable, subScope, node, clause, number, stage, base, limit, count, itemsOf, from, long, Staged, begins, has, staged, base-below, limit-below, stage-two, count-in-limits, scopes-new, scopes-turn, count-turn, begun, scopes-behind}
-use Rattle.scan.proofs.Bodies.{stage-below}
+use Rattle.book.proofs.Sound.{Clean}
+use Rattle.scan.proofs.Steps.{Read, read, room, within, records-at, scan-next, scan-stop, scan-end}
+use Rattle.book.proofs.Sorts.{Sort, variable, subScope, node, clause, number, stage, base, limit, count, itemsOf, from, long, Staged, begins, has, staged, base-below, limit-below, stage-two, count-in-limits, scopes-new, scopes-turn, count-turn, begun, scopes-behind}
+use Rattle.book.proofs.Shapes.{stage-below}
 use Rattle.scan.proofs.Positions.{item-here}
-use Rattle.scan.proofs.Shapes.{either, in-order}
-use Rattle.scan.proofs.Limits.{items-within}
+use Rattle.book.proofs.Shapes.{either, in-order}
+use Rattle.book.proofs.Limits.{items-within}
 use Rattle.scan.proofs.Tallies.{slot-sort, number-sort, stored-counts, scopes-of, counts-here, tally-next, counting-next, counting-start}
 use Rattle.scan.proofs.Laying.{Parts, parts-start, parts-new, parts-turn, count-end, placed-end}
 

@@ -22,7 +22,7 @@ use Rattle.book.specs.Decode.{Parsed, inFront}
 use Rattle.book.specs.References.{scopeAt}
 use Rattle.book.specs.Tables.{countAt, placeAt, Found}
 use Rattle.scan.proofs.Cells.{count-cell, place-cell, apart-counts, apart-places, cell-same, cell-other, cell-zero}
-use Rattle.scan.proofs.Sorts.{Sort, number, stage, base, limit, count, Item, itemsOf, item, from, long, same-sort, number-below, base-below, bases-apart, count-new, scopes-new, scopes-turn, count-turn, items-none, begun, scopes-behind, items-turn}
+use Rattle.book.proofs.Sorts.{Sort, number, stage, base, limit, count, Item, itemsOf, item, from, long, same-sort, number-below, base-below, bases-apart, count-new, scopes-new, scopes-turn, count-turn, items-none, begun, scopes-behind, items-turn}
 
 -- What is left of a scope
 

@@ -16,9 +16,9 @@ use Rattle.book.specs.declared.Tally.{Tally}
 use Rattle.book.specs.Records.{bodyOf, stageOf}
 use Rattle.book.specs.Tables.{variableFrom, subScopeFrom, nodeFrom, clauseFrom, nodeLength, Found}
 use Rattle.scan.specs.Step.{metAt}
-use Rattle.scan.proofs.Steps.{Clean}
+use Rattle.book.proofs.Sound.{Clean}
 use Rattle.scan.proofs.Bodies.{variable-long, sub-long, clause-long, variable-body, sub-body, node-body, clause-body}
-use Rattle.scan.proofs.Sorts.{Sort, variable, subScope, node, clause, stage, item, from, long}
+use Rattle.book.proofs.Sorts.{Sort, variable, subScope, node, clause, stage, item, from, long}
 
 module _ (bytes : List ℕ) (at : ℕ) (t : Tally) (inside : at < length bytes) (clean : Clean (metAt bytes at t)) where
   kind-here : metAt bytes at t .kind ≡ getD bytes at 0

@@ -18,14 +18,15 @@ use Rattle.book.specs.declared.Fault.the-variants.{OutOfOrder, LimitExceeded, I
 use Rattle.book.specs.Records.{counted, start, follows, exceeds, invalid}
 use Rattle.book.specs.Tables.{countAt}
 use Rattle.scan.specs.declared.Slot.{Slot}
-use Rattle.scan.specs.Counting.{slotOf, numberOf, scopesWith, tallyOf, InLimits, Counts, Counting}
+use Rattle.book.specs.Limits.{InLimits}
+use Rattle.scan.specs.Counting.{slotOf, numberOf, scopesWith, tallyOf, Counts, Counting}
 use Rattle.scan.specs.Filling.{storedCounts}
 use Rattle.scan.specs.Step.{stepOver}
 use Rattle.scan.specs.declared.Step.the-variants.{Stop, Next}
-use Rattle.scan.proofs.Shapes.{in-order}
-use Rattle.scan.proofs.Steps.{in-limits, not-exceeds, start-in-limits}
+use Rattle.book.proofs.Shapes.{in-order}
+use Rattle.book.proofs.Sound.{in-limits, not-exceeds, start-in-limits}
 use Rattle.scan.proofs.Cells.{count-cell, apart-counts, cell-same, cell-other, cell-zero}
-use Rattle.scan.proofs.Sorts.{Sort, variable, subScope, node, clause, number, stage, base, limit, count, Staged, begins, has, staged, number-below, stage-two, same-sort, count-in-limits, scopes-new, count-turn}
+use Rattle.book.proofs.Sorts.{Sort, variable, subScope, node, clause, number, stage, base, limit, count, Staged, begins, has, staged, number-below, stage-two, same-sort, count-in-limits, scopes-new, count-turn}
 
 pub slot-sort : (s : Sort) → slotOf (stage s) ≡ record { base = base s; limit = limit s }
 unfolding slotOf

@@ -6,6 +6,7 @@ use mathlib.Core.List.{List}
 use lib.ListN.{length}
 use lib.Dec.{eqb, ltb}
 use Rattle.book.specs.declared.Tally.{Tally}
+use Rattle.book.specs.Limits.{InLimits}
 use Rattle.book.specs.Tables.{countAt}
 use Rattle.scan.specs.declared.Slot.{Slot}
 
@@ -37,14 +38,6 @@ tallyOf counts last scopes =
       nodes = countAt counts (scopes - 1) 2;
       clauses = countAt counts (scopes - 1) 3;
     }
-
--- no limit is passed
-pub record InLimits (t : Tally) : Type 0 where
-  pub scopes : t .scopes ≤ 32
-  pub variables : t .variables ≤ 32
-  pub subs : t .subs ≤ 8
-  pub nodes : t .nodes ≤ 250
-  pub clauses : t .clauses ≤ 128
 
 -- the table has a count for a stage
 pub record Counts (counts : List ℕ) (s scopes : ℕ) : Type 0 where

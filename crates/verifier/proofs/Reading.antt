@@ -20,7 +20,7 @@ use borrow.Author.Tests.{eq-eqb, ltb-false, eqb-true, eqb-false, not-true, not-f
 use Rattle.order.proofs.Booleans.{decide, both, neither}
 use Rattle.record.specs.Kinds.{kinds, shapesOf}
 use Rattle.record.specs.declared.Medium.the-variants.{Code}
-use Rattle.scan.proofs.Shapes.{every, shape-below, in-order}
+use Rattle.book.proofs.Shapes.{every, shape-below, in-order}
 use Rattle.book.specs.Syntax.{variableOf}
 use Rattle.book.specs.Records.{follows, invalid}
 use Rattle.machine.specs.Blocks.{Parsed, emptyBlock, bodyLength, stageOf, inFront, parse}

@@ -14,7 +14,7 @@ use Rattle.machine.specs.Blocks.{bodyLength, stageOf}
 use Rattle.machine.specs.Acceptance.{start, counted, sound, accepted}
 use Rattle.verifier.specs.Pass.{countOf, faultyAt, Reading}
 use Rattle.verifier.specs.declared.Progress.{Progress}
-use Rattle.scan.proofs.Shapes.{in-order}
+use Rattle.book.proofs.Shapes.{in-order}
 use Rattle.verifier.proofs.Reading.{sound-at, Clean, clean}
 use Rattle.verifier.proofs.Blocks.{refused, sound-code}
 

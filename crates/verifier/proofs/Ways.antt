@@ -21,7 +21,7 @@ use Rattle.record.specs.declared.Shape.{Shape}
 use Rattle.record.specs.declared.Medium.the-variants.{Code}
 use Rattle.verifier.specs.Pass.{faultyAt, VariableRoom, VariableNoted, Reading, AtInstruction, AtHeading, Beginning, SubRoom, SubRead, Stepped, Instructing}
 use Rattle.verifier.specs.declared.Progress.{Progress}
-use Rattle.scan.proofs.Shapes.{in-order}
+use Rattle.book.proofs.Shapes.{in-order}
 use Rattle.verifier.proofs.Reading.{stage-below, length-below}
 use Rattle.verifier.proofs.Turns.{nextAt, is-clean, next-inside}
 use Rattle.verifier.proofs.Heads.{variable-room, variable-turn, sub-room, sub-refused, sub-turn}

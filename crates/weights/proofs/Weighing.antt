@@ -24,7 +24,7 @@ use Rattle.steps.specs.Limits.{Scoped, WholeOrder}
 use Rattle.weights.specs.Weighing.{weightBy, Weighed}
 use Rattle.order.proofs.Booleans.{decide}
 use Rattle.book.proofs.Sums.{sum-same}
-use Rattle.weights.proofs.Weights.{block-bound, every-block, block-snoc, called-before, weight-sum, overweight-one, overweight-none}
+use Rattle.book.proofs.Weights.{block-bound, every-block, block-snoc, called-before, weight-sum, overweight-one, overweight-none}
 
 -- the weights of the sub-scopes from the k-th on, taken from a table
 unfoldable pub sumFrom : List Scope → ℕ → List ℕ → ℕ → ℕ

@@ -1,7 +1,7 @@
 -- `judge::judge_whole` meets its contract.
 -- Assumes nothing.
 use Rattle.judge.proofs.Faults.{refused, dangling, shared, mismatched, mixed, orders-left}
-use Rattle.scan.proofs.Limits.{within}
+use Rattle.book.proofs.Limits.{within}
 use Rattle.book.specs.Decode.{scopesOf}
 use denote.Ref.{now}
 use mathlib.Core.Path.{sym, _∙_}

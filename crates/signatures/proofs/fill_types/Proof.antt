@@ -1,6 +1,6 @@
--- `lists::fill_types` meets its contract. The invariant: the bytes below v are filled in.
+-- `signatures::fill_types` meets its contract. The invariant: the bytes below v are filled in.
 -- Assumes nothing.
 use Rattle.lists.proofs.Types.{Filling, start, turn, stop}
 use Rattle.book.specs.References.{scopeAt}
 use Rattle.book.specs.Decode.{scopesOf}
 use Rattle.book.specs.Tables.{variableAt}
@@ -8,8 +8,8 @@ use native.Mathlib.Omega.{arith}
 use Prim.Native.Nat.{_-_}
 use mathlib.Core.Path.{sym, _∙_}
 use borrow.Author.Needs.{needs}
-use Rattle.lists.proofs.fill_types.Statement.{statement}
-use Rattle.lists.proofs.fill_types.Tie as tie
+use Rattle.signatures.proofs.fill_types.Statement.{statement}
+use Rattle.signatures.proofs.fill_types.Tie as tie
 
 abbrev Inv-loop : tie.InvT-loop
 Inv-loop book places counts i types₀ count v₀ types v = Filling (scopeAt (scopesOf book) i .variables) types v

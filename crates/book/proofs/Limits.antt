@@ -12,18 +12,17 @@ use lib.Dec.{eqb}
 use borrow.Author.Tests.{eqb-false}
 use Rattle.record.specs.Kinds.{shapeIn}
 use Rattle.record.specs.declared.Medium.the-variants.{Book}
 use Rattle.book.specs.declared.Tally.{Tally}
 use Rattle.book.specs.declared.Scanned.the-variants.{Sound}
 use Rattle.book.specs.Syntax.{emptyScope}
 use Rattle.book.specs.Records.{Met, stageOf, counted, start, recordsFrom, records, unknownKind}
 use Rattle.book.specs.Decode.{Parsed, inFront, parse, scopesOf}
 use Rattle.book.specs.References.{scopeAt}
 use Rattle.book.specs.Judge.{scan}
-use Rattle.scan.specs.Counting.{InLimits}
-use Rattle.book.specs.Limits.{Within}
-use Rattle.scan.proofs.Steps.{Clean, sounds, in-limits, start-in-limits}
-use Rattle.scan.proofs.Sorts.{Sort, variable, subScope, node, clause, number, stage, limit, count, itemsOf, item, Staged, begins, has, staged, count-in-limits, scopes-new, scopes-turn, count-turn, items-none, begun, scopes-behind, items-turn}
-use Rattle.scan.proofs.Bodies.{stage-below}
+use Rattle.book.specs.Limits.{Within, InLimits}
+use Rattle.book.proofs.Sound.{Clean, sounds, in-limits, start-in-limits}
+use Rattle.book.proofs.Sorts.{Sort, variable, subScope, node, clause, number, stage, limit, count, itemsOf, item, Staged, begins, has, staged, count-in-limits, scopes-new, scopes-turn, count-turn, items-none, begun, scopes-behind, items-turn}
+use Rattle.book.proofs.Shapes.{stage-below}
 
 -- what is still to be read, after what was counted, keeps within the limits
 record Fits (t : Tally) (p : Parsed) : Type 0 where

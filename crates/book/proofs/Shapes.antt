@@ -1,6 +1,7 @@
 -- Every kind's shape, and the order of records.
 --     at-every       what every element of a list has, the one at a place has
 --     shape-below    a number of every kind's shape is at most n, where the table of kinds says so
+--     stage-below    every kind has a stage of at most 5
 --     either         of a disjunction that holds, where one part fails the other holds
 --     in-order       a record that follows another and begins nothing new is of the same stage or a later one
 -- Assumes nothing.
@@ -16,8 +17,9 @@ use Rattle.order.proofs.Booleans.{both}
 use Rattle.record.proofs.Decision.{and-l, and-r}
 use Rattle.record.specs.Kinds.{kinds, shapesOf, pickShape, shapeIn}
 use Rattle.record.specs.declared.Medium.{Medium}
+use Rattle.record.specs.declared.Medium.the-variants.{Book}
 use Rattle.record.specs.declared.Shape.{Shape}
 use Rattle.book.specs.Records.{follows}
 
 -- every element of a list, and what stands past its end, has p
 unfoldable pub every : {A : Type 0} → (A → Bool) → List A → Bool
@@ -34,6 +36,10 @@ pub shape-below : (m : Medium) (f : Shape → ℕ) (n : ℕ) → T (every (λ s.
     → (k : ℕ) → f (shapeIn m k) ≤ n
 unfolding shapeIn shapesOf kinds
 shape-below m f n h e k = leb→le (f (shapeIn m k)) n (at-every (λ s. leb (f (pickShape m s)) n) kinds (shapesOf 0) h e k)
+
+pub stage-below : (k : ℕ) → shapeIn Book k .stage ≤ 5
+unfolding shapeIn shapesOf kinds every
+stage-below k = shape-below Book (λ s. s .stage) 5 tt tt k
 
 pub either : (a b : Bool) → (a || b) ≡ true → a ≡ false → b ≡ true
 either true b e h = absurd (true≢false h)

@@ -12,15 +12,15 @@ use mathlib.Core.List.{List, [], _∷_}
 use native.Mathlib.Omega.{arith}
 use lib.ListN.{getD}
 use lib.Dec.{eqb}
 use Rattle.book.specs.declared.Tally.{Tally}
 use Rattle.book.specs.declared.Variable.{Variable}
 use Rattle.book.specs.declared.Node.{Node}
 use Rattle.book.specs.declared.Clause.{Clause}
 use Rattle.book.specs.Syntax.{Scope, emptyScope, variableOf, nodeOf, clauseOf}
 use Rattle.book.specs.Records.{Met, stageOf, bodyOf, counted}
 use Rattle.book.specs.Decode.{Parsed, inFront}
+use Rattle.book.specs.Limits.{InLimits}
 use Rattle.book.specs.Tables.{variableFrom, subScopeFrom, nodeFrom, clauseFrom, nodeLength}
-use Rattle.scan.specs.Counting.{InLimits}
 
 pub data Sort : Type 0 where
   variable : Sort
