@@ -6,7 +6,7 @@ use Rattle.record.specs.Kinds.{shapeIn, shapesOf, kinds}
 use Rattle.slices.specs.Bytes.{bigEndian, bytesOf, numberAt, numberBytes}
 use Rattle.order.specs.Order.{unmet, ready, next, among, taken, order}
 use Rattle.order.specs.Search.{lowestFrom, lowest, none}
-use Rattle.book.specs.Lists.{any, anyFrom}
+use Rattle.book.specs.Lists.{any}
 use Rattle.book.specs.Syntax.{nodeOf, clauseOf}
 use Rattle.book.specs.Records as records
 use Rattle.book.specs.Records.{recordsFrom, follows, invalid}

@@ -2,27 +2,24 @@
 --     hold, hold-not, hold-all      cells looked through
 --     end-values, ..                what the end of a block comes to
 -- Assumes nothing.
-use Prim.Native.Nat.{ℕ, zero, suc, _+_, _-_, _*_, _<_, _≤_}
+use Prim.Native.Nat.{ℕ, zero, suc, _+_, _-_, _<_, _≤_}
 use mathlib.Core.Path.{_≡_, refl, ap, sym, _∙_}
-use mathlib.Core.Bool.{Bool, true, false, not, cond, true≢false}
-use mathlib.Core.List.{List, [], _∷_}
+use mathlib.Core.Bool.{Bool, true, false, not, cond}
+use mathlib.Core.List.{List, _∷_}
 use mathlib.Core.Logic.{⊎-elim}
 use native.Mathlib.Omega.{arith}
 use native.Mathlib.Numerals.{add-one}
 use lib.ListN.{length, getD}
 use lib.Dec.{eqb}
-use borrow.Author.Tests.{eq-eqb, ne-eqb, eqb-true, eqb-false, not-true, not-false}
+use borrow.Author.Tests.{ne-eqb, eqb-true, eqb-false, not-true, not-false}
 use Rattle.order.proofs.Booleans.{decide}
 use Rattle.calculus.specs.declared.Value.{Value}
-use Rattle.calculus.specs.declared.Given.{Given}
-use Rattle.calculus.specs.declared.Given.the-variants.{Absent, Present}
+use Rattle.calculus.specs.declared.Given.the-variants.{Present}
 use Rattle.cells.specs.Cells.{givenOf, held}
-use Rattle.evaluation.specs.Run.{values}
-use Rattle.machine.specs.Machine.{Cell, unset, given, stored, Callee, waiting, entered, Memory, ran, stuck}
-use Rattle.machine.specs.Run.{Finals, missing, finals, inFront, finalsOf, allEntered, whole, atEnd}
-use Rattle.blocks.specs.declared.Ran.{Ran}
+use Rattle.machine.specs.Machine.{Cell}
+use Rattle.machine.specs.Run.{Finals, missing, finals, finalsOf, allEntered, whole, atEnd}
 use Rattle.blocks.specs.declared.Ran.the-variants as coded
-use Rattle.instructions.specs.Views.{tab, cellWith, ownCell, givensAt, valuesIn, calleeWith, calleeAt, memory}
+use Rattle.instructions.specs.Views.{tab, cellWith, ownCell, valuesIn, calleeAt, memory}
 use Rattle.blocks.specs.Entries.{nonzero, Ending, Finished}
 use Rattle.heads.specs.Heads.{variablesIn, subScopesIn}
 use Rattle.instructions.proofs.Memory.{present, absent, tab-same}

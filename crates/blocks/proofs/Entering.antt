@@ -12,7 +12,7 @@ use mathlib.Core.Bool.{true}
 use mathlib.Core.List.{List, [], _∷_, _++_, map}
 use native.Mathlib.Omega.{arith}
 use native.Mathlib.Numerals.{add-one}
-use lib.ListN.{length, getD, set, take, drop, replicate, length-drop, length-set}
+use lib.ListN.{length, getD, set, take, drop, length-drop, length-set}
 use lib.ListN.{length-take, List·getD-append}
 use lib.Seq.{getD-set-same, getD-set-other, getD-take, getD-drop, getD-append-add}
 use lib.Dec.{eqb, ltb}
@@ -29,21 +29,21 @@ use Rattle.cells.specs.Cells.{givenOf, held}
 use Rattle.book.specs.declared.ValueType.the-variants.{YesNo}
 use Rattle.book.specs.declared.Variable.{Variable}
 use Rattle.evaluation.specs.Run.{values, ended}
-use Rattle.machine.specs.Instructions.{Instruction, enter, instructionOf}
-use Rattle.machine.specs.Blocks.{Block, emptyBlock, bodyLength, parse, variablesOf}
+use Rattle.machine.specs.Instructions.{instructionOf}
+use Rattle.machine.specs.Blocks.{bodyLength, variablesOf}
 use Rattle.machine.specs.Acceptance.{lands, fits, weightIn}
-use Rattle.machine.specs.Machine.{Cell, Callee, waiting, entered, Memory, Try, Ran, ran, stuck, Next, go, stop, returned, enteredWith, withCallee, Surroundings, effect}
-use Rattle.machine.specs.Run.{cellOf, begins, begin, surroundings, follow, exec, runIn, atEnd}
+use Rattle.machine.specs.Machine.{waiting, entered, Memory, Try, Ran, ran, stuck, Next, go, returned, enteredWith, withCallee, effect}
+use Rattle.machine.specs.Run.{cellOf, begins, begin, follow, exec, runIn, atEnd}
 use Rattle.verifier.specs.Tables.{blockAt, blockCount}
 use Rattle.instructions.specs.declared.Move.{Move}
 use Rattle.instructions.specs.declared.Move.the-variants as move
 use Rattle.blocks.specs.declared.Ran as coded-type
 use Rattle.blocks.specs.declared.Ran.the-variants as coded
-use Rattle.instructions.specs.Views.{entryOf, entries, opened, tab, cellWith, ownCell, givensAt, valuesIn, calleeWith, calleeAt, memory}
+use Rattle.instructions.specs.Views.{entries, opened, tab, cellWith, ownCell, givensAt, valuesIn, calleeAt, memory}
 use Rattle.heads.specs.Heads.{variablesIn, subScopesIn, blockIn, sizeIn}
-use Rattle.instructions.specs.Effects.{Room, Ample, Moves, Bounded, Sized, Stepping, Stepped, Typing, memoryIn}
+use Rattle.instructions.specs.Effects.{Moves, Sized, Stepping, Stepped, memoryIn}
 use Rattle.blocks.specs.Entries.{back, runAt, variablesAt, Enough, Shows, Ending, Finished, Entry, Came, Advances}
-use Rattle.instructions.proofs.Memory.{tab-length, tab-at, tab-same, tab-set, tab-map}
+use Rattle.instructions.proofs.Memory.{tab-at, tab-same, tab-set, tab-map}
 use Rattle.machine.proofs.Landing.{lands-here}
 use Rattle.slices.proofs.Parts.{all-left, part-room, lent-length}
 use Rattle.blocks.specs.declared.Place.{Place}
@@ -51,8 +51,8 @@ use Rattle.blocks.specs.declared.Went as went-type
 use Rattle.blocks.specs.declared.Went.the-variants as went
 use Rattle.blocks.specs.Running.{Aligned, TriesGood, block, before, envAt, weightAt, Held, runFrom, Running, Standing, Acts, Acted, restAt, Steps, SteppedAt}
 use Rattle.blocks.proofs.Positions.{exec-past, exec-at, exec-to, fits-at}
-use Rattle.blocks.proofs.Invariant.{Within, MemGood, NextGood, Behind, step-good, begin-good, run-cons}
-use Rattle.blocks.proofs.Tables.{World, small, fit, heavy, below, variables-are, subs-are, bounded, typing, named, callee-below, callee-variables, callee-runs, size-is}
+use Rattle.blocks.proofs.Invariant.{MemGood, NextGood, step-good, begin-good, run-cons}
+use Rattle.blocks.proofs.Tables.{World, fit, heavy, below, variables-are, subs-are, bounded, typing, named, callee-below, callee-variables, callee-runs, size-is}
 
 -- the run of a block with nothing said of types
 abbrev Good : List ℕ → ℕ → Memory → Type 0

@@ -3,9 +3,9 @@
 --     step-good     after every instruction
 --     exec-good     of what the run comes to
 -- Assumes nothing.
-use Prim.Native.Nat.{ℕ, zero, suc, _+_, _-_, _*_, _<_, _≤_}
+use Prim.Native.Nat.{ℕ, zero, suc, _+_, _-_, _<_, _≤_}
 use mathlib.Core.Path.{_≡_, refl, ap, _∙_}
-use mathlib.Core.Bool.{Bool, true, false, not, cond, _&&_, true≢false}
+use mathlib.Core.Bool.{Bool, true, false, not, cond, true≢false}
 use mathlib.Core.List.{List, [], _∷_, map}
 use mathlib.Core.Logic.{⊎-elim}
 use native.Mathlib.Omega.{arith}
@@ -31,12 +31,12 @@ use Rattle.book.specs.declared.ValueType.{ValueType}
 use Rattle.book.specs.declared.ValueType.the-variants.{YesNo}
 use Rattle.book.specs.declared.Variable.{Variable}
 use Rattle.lists.specs.Writing.{valueType}
-use Rattle.evaluation.specs.Run.{Entered, values, ended}
+use Rattle.evaluation.specs.Run.{values, ended}
 use Rattle.machine.specs.Instructions.{Instruction, push, readOwn, readCalled, unary, binary, raise, jump, jumpIfNo, beginTry, endTry, pushNothing, join, settle, store, override, enter, jumpIfGiven, unknown, instructionOf}
 use Rattle.book.specs.Lists.{any}
 use Rattle.machine.specs.Blocks.{Block, bodyLength, hasBlock, variablesOf}
 use Rattle.machine.specs.Acceptance.{lands, fits, allFit, weightIn, wellFormed, allWellFormed}
-use Rattle.machine.specs.Machine.{Cell, unset, given, stored, Callee, waiting, entered, Memory, Try, Ran, ran, stuck, Next, go, stop, ends, pushed, taking, wanting, answered, raised, raising, tried, closed, joined, settled, readFrom, valueAt, readIn, storedTo, handedTo, overridden, returned, enteredWith, jumpedIfGiven, withOwn, withCallee, ownAt, calleeAt, Surroundings, effect}
+use Rattle.machine.specs.Machine.{Cell, unset, given, stored, Callee, waiting, entered, Memory, Try, Ran, ran, stuck, Next, go, stop, pushed, taking, wanting, answered, raised, raising, tried, closed, joined, settled, readFrom, valueAt, readIn, storedTo, handedTo, overridden, returned, enteredWith, jumpedIfGiven, ownAt, calleeAt, Surroundings, effect}
 use Rattle.machine.specs.Run.{Finals, missing, finals, inFront, finalsOf, allEntered, whole, atEnd, follow, exec, typeIn, cellOf, begins, begin, surroundings, runIn}
 use Rattle.machine.proofs.Landing.{lands-here}
 use Rattle.book.proofs.Same.{same-type}

@@ -1,19 +1,18 @@
 -- The blocks of accepted code have at most 32 variables and 8 sub-scopes.
 -- Assumes nothing.
-use Prim.Native.Nat.{ℕ, zero, suc, _+_, _-_, _*_, _<_, _≤_}
-use mathlib.Core.Path.{_≡_, refl, ap, sym, _∙_}
-use mathlib.Core.Bool.{Bool, true, false, not, cond, _&&_, _||_, true≢false}
+use Prim.Native.Nat.{ℕ, zero, suc, _+_, _-_, _≤_}
+use mathlib.Core.Path.{_≡_}
+use mathlib.Core.Bool.{true, false, not}
 use mathlib.Core.List.{List, [], _∷_}
 use mathlib.Core.Logic.{⊎-elim}
 use native.Mathlib.Omega.{arith}
 use lib.ListN.{length, getD}
 use lib.Dec.{eqb, ltb}
-use borrow.Author.Tests.{ltb-false, eqb-true, not-true}
+use borrow.Author.Tests.{ltb-false, not-true}
 use Rattle.order.proofs.Booleans.{both, neither, decide}
-use Rattle.book.specs.Records.{follows, invalid}
+use Rattle.book.specs.Records.{follows}
 use Rattle.machine.specs.Blocks.{Block, emptyBlock, Parsed, bodyLength, stageOf, inFront, parse}
-use Rattle.machine.specs.Acceptance.{Count, start, counted, faulty, sound, allWellFormed, accepted}
-use Rattle.verifier.specs.Tables.{blockAt, blockCount}
+use Rattle.machine.specs.Acceptance.{Count, start, counted, faulty, sound, accepted}
 
 -- variables and sub-scopes of a block, so many read before
 pub record Small (t : Count) (b : Block) : Type 0 where

@@ -3,22 +3,21 @@
 --     lands-part, lands-within, lands-on   where a distance lands, an instruction stands
 --     fit-at                               what fits the whole fits from there on
 -- Assumes nothing.
-use Prim.Native.Nat.{ℕ, zero, suc, _+_, _-_, _*_, _<_, _≤_}
+use Prim.Native.Nat.{ℕ, zero, suc, _+_, _-_, _<_, _≤_}
 use mathlib.Core.Path.{_≡_, refl, ap, sym, _∙_}
-use mathlib.Core.Bool.{Bool, true, false, cond, _&&_, true≢false}
+use mathlib.Core.Bool.{true, false, true≢false}
 use mathlib.Core.List.{List, [], _∷_}
 use native.Mathlib.Omega.{arith}
 use lib.ListN.{length, getD, drop, length-drop}
 use lib.Seq.{drop-cons}
 use Rattle.order.proofs.Booleans.{both}
 use Rattle.calculus.specs.declared.Joined.{Joined}
-use Rattle.machine.specs.Instructions.{Instruction, instructionOf}
+use Rattle.machine.specs.Instructions.{instructionOf}
 use Rattle.machine.specs.Blocks.{Block, bodyLength}
 use Rattle.machine.specs.Acceptance.{lands, fits, allFit}
-use Rattle.machine.specs.Machine.{Memory, Try, Ran, Next, Surroundings, effect}
+use Rattle.machine.specs.Machine.{Memory, Try, Surroundings, effect}
 use Rattle.machine.specs.Run.{atEnd, follow, exec}
 use Rattle.machine.proofs.Steps as steps
-use Rattle.blocks.specs.Running.{Aligned}
 use Rattle.machine.proofs.Steps.{exec-drop}
 
 -- Runs

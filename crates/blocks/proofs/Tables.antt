@@ -1,31 +1,28 @@
 -- What the tables of accepted code say of a block and of the blocks that it enters.
 -- Assumes nothing.
-use Prim.Native.Nat.{ℕ, zero, suc, _+_, _-_, _*_, _<_, _≤_}
+use Prim.Native.Nat.{ℕ, suc, _+_, _-_, _*_, _<_, _≤_}
 use mathlib.Core.Path.{_≡_, refl, ap, sym, _∙_}
-use mathlib.Core.Bool.{Bool, true, false, not, cond, _&&_, true≢false}
+use mathlib.Core.Bool.{true, false, not, cond, true≢false}
 use mathlib.Core.List.{List, [], _∷_, reverse}
 use native.Mathlib.Omega.{arith}
 use lib.ListN.{length, getD}
-use lib.Dec.{eqb, leb, ltb}
+use lib.Dec.{eqb, ltb}
 use borrow.Author.Tests.{eq-eqb, ltb-true, leb-true, not-true}
 use Rattle.order.proofs.Booleans.{both}
 use Rattle.calculus.specs.declared.Given.{Given}
 use Rattle.book.specs.Lists.{any}
 use Rattle.book.specs.Scopes.{sum}
-use Rattle.book.specs.Syntax.{typeOf}
-use Rattle.book.specs.declared.ValueType.the-variants.{YesNo}
 use Rattle.book.specs.declared.Variable.{Variable}
 use Rattle.book.proofs.Searches.{each}
 use Rattle.machine.specs.Instructions.{Instruction, push, readOwn, readCalled, unary, binary, raise, jump, jumpIfNo, beginTry, endTry, pushNothing, join, settle, store, override, enter, jumpIfGiven, unknown}
 use Rattle.machine.specs.Blocks.{Block, emptyBlock, parse, blocksOf, hasBlock, variablesOf}
-use Rattle.machine.specs.Acceptance.{start, sound, lands, fits, allFit, weightIn, wellFormed, allWellFormed, accepted}
-use Rattle.machine.specs.Machine.{Ran, Surroundings}
+use Rattle.machine.specs.Acceptance.{start, sound, fits, allFit, weightIn, wellFormed, allWellFormed, accepted}
 use Rattle.machine.specs.Run as run
 use Rattle.machine.specs.Run.{exec, begin, surroundings, runIn}
 use Rattle.verifier.specs.Tables.{blockAt, blockCount, Entered, Tabled}
 use Rattle.heads.specs.Heads.{variablesIn, subScopesIn, typeIn, blockIn, sizeIn}
 use Rattle.instructions.specs.Effects.{Typing, Bounded, Named}
-use Rattle.blocks.specs.Entries.{back, runAt, variablesAt}
+use Rattle.blocks.specs.Entries.{back, runAt}
 use Rattle.blocks.proofs.Invariant.{run-cons, run-within, Within, weight-cons}
 use Rattle.blocks.proofs.Blocks.{back-all, formed-below, formed-at, has-place, found-at}
 use Rattle.blocks.proofs.Limits.{limits}

@@ -1,18 +1,15 @@
 -- The values that a run of a block comes to are of its variables' types.
 -- Assumes nothing.
-use Prim.Native.Nat.{ℕ, suc, _<_, _≤_}
-use mathlib.Core.Path.{_≡_, refl, sym, _∙_}
-use mathlib.Core.List.{List, [], _∷_, map}
-use lib.ListN.{length, getD}
+use Prim.Native.Nat.{ℕ, _<_}
+use mathlib.Core.Path.{_≡_, refl}
+use mathlib.Core.List.{List, map}
 use borrow.Author.Tests.{eq-eqb}
 use Rattle.calculus.specs.declared.Value.{Value}
 use Rattle.calculus.specs.declared.Given.{Given}
 use Rattle.lists.specs.Writing.{valueType}
 use Rattle.evaluation.specs.Run.{values}
-use Rattle.machine.specs.Blocks.{Block, emptyBlock, parse}
 use Rattle.machine.specs.Acceptance.{weightIn}
-use Rattle.machine.specs.Machine.{Ran, ran}
-use Rattle.machine.specs.Run.{exec, begin}
+use Rattle.machine.specs.Machine.{ran}
 use Rattle.verifier.specs.Tables.{blockAt, blockCount}
 use Rattle.blocks.specs.Entries.{back, runAt}
 use Rattle.blocks.proofs.Invariant.{GivensFit, RanGood, block-good, run-cons}

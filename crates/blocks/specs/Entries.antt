@@ -1,23 +1,21 @@
 -- Entries of blocks.
-use Prim.Native.Nat.{ℕ, zero, suc, _+_, _-_, _*_, _<_, _≤_}
+use Prim.Native.Nat.{ℕ, zero, suc, _+_, _*_, _<_, _≤_}
 use mathlib.Core.Path.{_≡_}
 use mathlib.Core.Bool.{Bool, true, false, cond}
 use mathlib.Core.List.{List, [], _∷_}
 use mathlib.Core.Logic.{_⊎_}
 use lib.ListN.{length, getD}
 use lib.Dec.{eqb}
-use Rattle.calculus.specs.declared.Cause.{Cause}
 use Rattle.calculus.specs.declared.Given.{Given}
 use Rattle.evaluation.specs.Run.{values, ended}
 use Rattle.machine.specs.Blocks.{Block, emptyBlock, parse}
 use Rattle.machine.specs.Acceptance.{accepted}
-use Rattle.machine.specs.Machine.{Memory}
 use Rattle.machine.specs.Machine as machine
 use Rattle.machine.specs.Run.{atEnd, runIn}
 use Rattle.verifier.specs.Tables as tables
 use Rattle.blocks.specs.declared.Ran.{Ran}
 use Rattle.blocks.specs.declared.Ran.the-variants.{Values, Ended, Stuck, NoRoom}
-use Rattle.instructions.specs.Views.{tab, givensAt, valuesIn, memory}
+use Rattle.instructions.specs.Views.{givensAt, valuesIn, memory}
 use Rattle.heads.specs.Heads.{variablesIn, subScopesIn}
 use Rattle.memo.specs.Rows.{Kept}
 

@@ -3,7 +3,7 @@
 --     in-limits, not-exceeds    the counts are within the limits where none is exceeded
 --     start-in-limits      so are those of nothing read
 -- Assumes nothing.
-use Prim.Native.Nat.{ℕ, _≤_}
+use Prim.Native.Nat.{ℕ}
 use mathlib.Core.Path.{_≡_, refl}
 use mathlib.Core.Bool.{Bool, true, false, cond, _||_}
 use mathlib.Core.List.{List, _∷_}

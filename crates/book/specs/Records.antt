@@ -1,13 +1,11 @@
 -- The records of a book, each with what was read before it, and the faults 1 to 5 of a record.
 use Prim.Native.Nat.{ℕ, zero, suc, _+_}
-use mathlib.Core.Bool.{Bool, true, false, not, cond, _&&_, _||_}
+use mathlib.Core.Bool.{Bool, false, not, cond, _&&_, _||_}
 use mathlib.Core.List.{List, [], _∷_}
 use lib.ListN.{length, getD, take}
 use lib.Dec.{eqb, leb, ltb}
 use Rattle.record.specs.Kinds.{shapeIn}
 use Rattle.record.specs.declared.Medium.the-variants.{Book}
-use Rattle.record.specs.declared.Shape.{Shape}
-use Rattle.book.specs.Lists.{any}
 use Rattle.book.specs.declared.Tally.{Tally}
 
 -- a record: what was read before it, its kind, and all bytes after its kind

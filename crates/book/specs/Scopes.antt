@@ -1,8 +1,8 @@
 -- Calls between scopes: faults 10 and 11, the order of blocks, and weights.
-use Prim.Native.Nat.{ℕ, zero, suc, _+_, _<_}
+use Prim.Native.Nat.{ℕ, suc, _+_, _<_}
 use mathlib.Core.Bool.{Bool, not, cond}
 use mathlib.Core.List.{List, [], _∷_, reverse}
-use lib.ListN.{length, getD}
+use lib.ListN.{length}
 use lib.Dec.{eqb, ltb}
 use Rattle.order.specs.Order.{order, among}
 use Rattle.order.specs.Reaching.{Reaches}

@@ -12,7 +12,6 @@ use Rattle.book.specs.Judge.{judge}
 use Rattle.book.specs.declared.Fault.{Fault}
 use Rattle.book.specs.declared.Judged.{Judged}
 use Rattle.evaluation.specs.declared.Refusal.the-variants.{Book, BufferTooSmall}
-use Rattle.translation.specs.Code.{code}
 use Rattle.translation.specs.Blocks.{codeOf}
 use Rattle.compiler.specs.Compile.{Compilation, refuse, fitting, onJudged, compile, Compiles}
 use Rattle.evaluation.specs.declared.Compiled.the-variants.{Written, Refused}

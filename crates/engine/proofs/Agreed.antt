@@ -1,21 +1,17 @@
 -- The four services agree: from what each ensures, and from the agreement of running with evaluating.
 use Prim.Native.Nat.{ℕ, _≤_}
-use mathlib.Core.Path.{_≡_, refl, sym, ap, _∙_, subst}
-use mathlib.Core.Bool.{true}
+use mathlib.Core.Path.{_≡_, sym, ap, _∙_, subst}
 use mathlib.Core.List.{List, _++_}
-use native.Mathlib.Omega.{arith}
-use lib.Dec.{leb}
 use lib.ListN.{length, take, drop}
 use lib.Seq.{take-append-seam, drop-append-seam}
 use borrow.Author.Tests.{le-leb}
 use Rattle.book.specs.Decode.{scopesOf}
 use Rattle.book.specs.Judge.{judge}
 use Rattle.book.specs.declared.Judged.the-variants.{Accepted}
-use Rattle.evaluation.specs.Evaluate.{Reply, evaluate, memoryAfter, countIn}
+use Rattle.evaluation.specs.Evaluate.{Reply, evaluate, memoryAfter}
 use Rattle.evaluator.specs.Service.{Evaluated}
 use Rattle.translation.specs.Blocks.{codeOf}
 use Rattle.machine.specs.Service.{run}
-use Rattle.agreement.specs.Agreement.{Agreement}
 use Rattle.agreement.proofs.Agreement.{agreement}
 use Rattle.compiler.specs.Compile.{Compilation, fitting, compile, Compiles}
 use Rattle.evaluation.specs.declared.Compiled.the-variants as compiled

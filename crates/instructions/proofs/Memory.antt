@@ -4,29 +4,26 @@
 -- Assumes nothing.
 use Prim.Native.Nat.{ℕ, zero, suc, _+_, _-_, _*_, _%_, _<_, _≤_}
 use mathlib.Core.Path.{_≡_, refl, ap, sym, _∙_}
-use mathlib.Core.Bool.{Bool, true, false, not, cond, true≢false}
-use mathlib.Core.List.{List, [], _∷_, map}
-use mathlib.Core.Logic.{⊎-elim}
+use mathlib.Core.Bool.{Bool, true, false, not, cond}
+use mathlib.Core.List.{List, [], map}
 use native.Mathlib.Omega.{arith}
-use lib.ListN.{length, getD, set, length-set}
+use lib.ListN.{length, getD, set}
 use lib.Seq.{getD-set-same, getD-set-other}
-use lib.Dec.{eqb, ltb}
-use borrow.Author.Tests.{lt-ltb, le-ltb, ne-eqb, eqb-true, eqb-false, not-true, not-false}
-use Rattle.order.proofs.Booleans.{decide}
+use lib.Dec.{eqb}
+use borrow.Author.Tests.{ne-eqb, not-true, not-false}
 use Rattle.calculus.specs.declared.Value.{Value}
 use Rattle.calculus.specs.declared.Joined.{Joined}
-use Rattle.calculus.specs.declared.Joined.the-variants.{Nothing, One, Many}
+use Rattle.calculus.specs.declared.Joined.the-variants.{One}
 use Rattle.calculus.specs.declared.Given.{Given}
 use Rattle.calculus.specs.declared.Given.the-variants.{Absent, Present}
-use Rattle.cells.specs.Cells.{cellOf, givenOf, held}
+use Rattle.cells.specs.Cells.{givenOf, held}
 use Rattle.book.specs.Syntax.{sameType}
 use Rattle.book.specs.declared.ValueType.{ValueType}
 use Rattle.lists.specs.Writing.{valueType}
-use Rattle.machine.specs.Machine.{Cell, unset, given, stored, Callee, waiting, entered, Memory, Try, Next, go, stop, ran, stuck, taking, wanting, pushed, readFrom, readIn, valueAt, storedTo, handedTo, overridden, jumpedIfGiven, withOwn, withCallee}
-use Rattle.instructions.specs.declared.Move.{Move}
+use Rattle.machine.specs.Machine.{unset, stored, Callee, waiting, Memory, Try, Next, go, stop, stuck, taking, wanting, pushed, readFrom, readIn, valueAt, storedTo, overridden, jumpedIfGiven}
 use Rattle.instructions.specs.declared.Move.the-variants as move
-use Rattle.instructions.specs.Views.{entryOf, entries, opened, tab, cellWith, ownCell, givensAt, valuesIn, calleeWith, calleeAt}
-use Rattle.instructions.specs.Effects.{Room, Moves, Encodes, Takes, Storing, Handing}
+use Rattle.instructions.specs.Views.{entryOf, entries, opened, tab, cellWith, ownCell, givensAt, valuesIn, calleeAt}
+use Rattle.instructions.specs.Effects.{Room, Encodes, Takes, Storing, Handing}
 use Rattle.instructions.proofs.Stack.{value-entry}
 
 -- Lists by their places

@@ -7,12 +7,12 @@
 use Prim.Native.Nat.{ℕ, zero, suc, _+_, _-_, _*_, _<_, _≤_}
 use mathlib.Core.Path.{_≡_, refl, ap, sym, _∙_}
 use mathlib.Core.Bool.{Bool, true, false, not, cond, true≢false}
-use mathlib.Core.List.{List, [], _∷_}
+use mathlib.Core.List.{List, _∷_}
 use native.Mathlib.Omega.{arith}
 use native.Mathlib.Numerals.{add-one}
-use lib.ListN.{length, getD, set, drop}
+use lib.ListN.{length, getD, set}
 use lib.Seq.{getD-set-same, getD-set-other}
-use lib.Dec.{eqb, ltb}
+use lib.Dec.{ltb}
 use borrow.Author.Tests.{lt-ltb, le-ltb, ne-eqb, not-true, not-false}
 use mir.Syntax.{w32}
 use mir.Val.{SFits, ofZ}
@@ -24,8 +24,7 @@ use Rattle.calculus.specs.Defaults as defaults
 use Rattle.calculus.specs.declared.Value.{Value}
 use Rattle.calculus.specs.declared.Value.the-variants.{Truth, Number}
 use Rattle.calculus.specs.declared.Cause.{Cause}
-use Rattle.calculus.specs.declared.Cause.the-variants.{Empty, Conflict}
-use lib.IntN.{ℤ}
+use Rattle.calculus.specs.declared.Cause.the-variants.{Conflict}
 use Rattle.calculus.specs.declared.Outcome.{Outcome}
 use Rattle.calculus.specs.declared.Outcome.the-variants.{Gives, Ends}
 use Rattle.calculus.specs.declared.Joined.{Joined}
@@ -44,11 +43,10 @@ use Rattle.lists.specs.Inputs.{isGiven}
 use Rattle.lists.specs.Writing.{valueType}
 use Rattle.evaluation.specs.Run.{ended}
 use Rattle.machine.specs.Instructions.{Instruction}
-use Rattle.machine.specs.Machine.{Memory, Try, Next, go, stop, ran, stuck, taking, pushed, answered, Surroundings, effect, settled, tried, closed, raised}
-use Rattle.instructions.specs.declared.Move.{Move}
+use Rattle.machine.specs.Machine.{Memory, Try, Next, stop, ran, stuck, taking, pushed, answered, Surroundings, effect}
 use Rattle.instructions.specs.declared.Move.the-variants as move
 use Rattle.instructions.specs.Views.{entryOf, entries, opened}
-use Rattle.instructions.specs.Effects.{Room, Ample, Moves, Encodes, Takes, suitable}
+use Rattle.instructions.specs.Effects.{Room, Moves, Encodes, Takes, suitable}
 
 pub entries-length : (st : List ℕ) (h : ℕ) → length (entries st h) ≡ h
 unfolding entries

@@ -3,28 +3,24 @@
 --     does-own, does-called, ..      what the functions of memory ensure is the instruction's effect
 --     none-of                        any other kind
 -- Assumes nothing.
-use Prim.Native.Nat.{ℕ, zero, suc, _+_, _-_, _*_, _<_, _≤_}
-use mathlib.Core.Path.{_≡_, refl, ap, sym, _∙_}
-use mathlib.Core.Bool.{Bool, true, false, cond}
+use Prim.Native.Nat.{ℕ, _+_, _-_, _*_, _<_, _≤_}
+use mathlib.Core.Path.{_≡_, refl, ap, _∙_}
 use mathlib.Core.List.{List, [], _∷_}
 use native.Mathlib.Omega.{arith}
-use lib.ListN.{length, getD, set, drop, length-drop}
-use lib.Dec.{eqb}
+use lib.ListN.{length, getD, drop, length-drop}
 use borrow.Author.Tests.{ne-eqb}
 use Rattle.record.specs.Kinds.{kinds, shapesOf, shapeIn}
 use Rattle.record.proofs.Decision.{NoneOf}
-use Rattle.slices.specs.Bytes.{bigEndian, numberAt}
-use Rattle.calculus.specs.declared.Cause.the-variants.{Conflict}
-use Rattle.machine.specs.Instructions.{Instruction, unknown, instructionOf}
+use Rattle.slices.specs.Bytes.{bigEndian}
+use Rattle.machine.specs.Instructions.{unknown, instructionOf}
 use Rattle.machine.specs.Blocks.{bodyLength}
-use Rattle.machine.specs.Machine.{Cell, unset, Callee, waiting, Memory, Next, go, stop, ran, stuck, ownAt, readFrom, readIn, jumpedIfGiven, tried, Surroundings, effect}
+use Rattle.machine.specs.Machine.{unset, waiting, Memory, readFrom, readIn, jumpedIfGiven, tried, Surroundings, effect}
 use Rattle.machine.specs.Machine as machine
-use Rattle.book.specs.declared.ValueType.{ValueType}
 use Rattle.instructions.specs.declared.Move.{Move}
 use Rattle.instructions.specs.declared.Move.the-variants as move
-use Rattle.instructions.specs.Views.{entryOf, entries, opened, tab, ownCell, calleeAt, memory}
+use Rattle.instructions.specs.Views.{entries, opened, tab, ownCell, calleeAt, memory}
 use Rattle.heads.specs.Heads.{variablesIn, subScopesIn, typeIn, blockIn, sizeIn}
-use Rattle.instructions.specs.Effects.{Room, Moves, Storing, Handing, StoreAt, OverrideAt, Controls, Passed, Stepping, Stepped, Typing, Bounded, Sized, memoryIn}
+use Rattle.instructions.specs.Effects.{Room, Moves, Storing, Handing, StoreAt, OverrideAt, Controls, Passed, Stepping, Stepped, memoryIn}
 use Rattle.instructions.proofs.Memory.{tab-at}
 
 module _ {heads places : List ℕ} {p k : ℕ} {rest st : List ℕ} {h : ℕ} {tr : List ℕ} {t : ℕ} {own flags called marks : List ℕ}

@@ -1,26 +1,25 @@
 -- Laws of the slice of open tries.
 -- Assumes nothing.
 use Prim.Native.Nat.{ℕ, zero, suc, _+_, _-_, _*_, _<_, _≤_}
-use mathlib.Core.Path.{_≡_, refl, ap, sym, _∙_}
-use mathlib.Core.Bool.{true, false, cond}
-use mathlib.Core.List.{List, [], _∷_}
+use mathlib.Core.Path.{_≡_, refl, ap, _∙_}
+use mathlib.Core.Bool.{cond}
+use mathlib.Core.List.{List, _∷_}
 use mathlib.Core.Logic.{⊎-elim}
 use native.Mathlib.Omega.{arith}
 use native.Mathlib.Numerals.{add-one}
 use lib.ListN.{length, getD, set, drop, length-set}
 use lib.Seq.{getD-set-same, getD-set-other}
-use lib.Dec.{leb, ltb}
+use lib.Dec.{leb}
 use borrow.Author.Tests.{lt-ltb, le-ltb, le-leb, lt-leb, leb-true, leb-false}
 use Rattle.calculus.specs.declared.Cause.the-variants.{Empty}
 use Rattle.calculus.specs.declared.Joined.{Joined}
 use Rattle.order.proofs.Booleans.{decide}
 use Rattle.evaluation.specs.Run.{ended}
-use Rattle.machine.specs.Machine.{Memory, Try, Next, go, stop, ran, stuck, raised, tried, closed}
-use Rattle.instructions.specs.declared.Move.{Move}
+use Rattle.machine.specs.Machine.{Memory, go, stop, ran, stuck, raised, tried, closed}
 use Rattle.instructions.specs.declared.Move.the-variants as move
 use Rattle.instructions.specs.Views.{entries, opened}
 use Rattle.instructions.specs.Effects.{Room, Moves}
-use Rattle.instructions.proofs.Stack.{entries-length, room}
+use Rattle.instructions.proofs.Stack.{entries-length}
 
 pub opened-length : (tr : List ℕ) (t : ℕ) → length (opened tr t) ≡ t
 unfolding opened

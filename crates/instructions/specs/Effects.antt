@@ -1,21 +1,21 @@
 -- What the functions of the machine ensure.
-use Prim.Native.Nat.{ℕ, zero, suc, _+_, _-_, _*_, _<_, _≤_}
+use Prim.Native.Nat.{ℕ, _-_, _*_, _<_, _≤_}
 use mathlib.Core.Path.{_≡_}
-use mathlib.Core.Bool.{Bool, true, false, cond}
+use mathlib.Core.Bool.{Bool, false, cond}
 use mathlib.Core.List.{List, [], _∷_}
 use lib.ListN.{length, getD, drop}
 use Rattle.calculus.specs.declared.Value.{Value}
 use Rattle.calculus.specs.declared.Joined.{Joined}
-use Rattle.calculus.specs.declared.Joined.the-variants.{Nothing, One, Many}
+use Rattle.calculus.specs.declared.Joined.the-variants.{One}
 use Rattle.calculus.specs.declared.Given.{Given}
 use Rattle.calculus.specs.declared.Given.the-variants.{Absent, Present}
-use Rattle.cells.specs.Cells.{givenOf, held}
+use Rattle.cells.specs.Cells.{givenOf}
 use Rattle.calculus.specs.declared.Binary.{Binary}
 use Rattle.book.specs.Syntax.{sameType}
 use Rattle.book.specs.Typing.{operandType}
 use Rattle.lists.specs.Writing.{valueType}
 use Rattle.book.specs.declared.ValueType.{ValueType}
-use Rattle.evaluation.specs.Run.{values, ended}
+use Rattle.evaluation.specs.Run.{ended}
 use Rattle.machine.specs.Instructions.{Instruction, push, readOwn, readCalled, unary, binary, raise, jump, jumpIfNo, beginTry, endTry, pushNothing, join, settle, store, override, enter, jumpIfGiven, unknown, instructionOf}
 use Rattle.machine.specs.Blocks.{bodyLength}
 use Rattle.machine.specs.Machine.{Cell, unset, Callee, waiting, Memory, Next, go, stop, ran, stuck, taking, wanting, storedTo, overridden, Surroundings, effect}

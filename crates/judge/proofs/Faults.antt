@@ -1,9 +1,9 @@
 -- The answers of judging, by what the passes found.
 -- Assumes nothing.
 use Prim.Native.Nat.{ℕ, _<_, _≤_}
-use mathlib.Core.Path.{_≡_, refl, sym, ap, _∙_}
+use mathlib.Core.Path.{_≡_, sym, ap, _∙_}
 use mathlib.Core.Bool.{true, false}
-use mathlib.Core.List.{List, _++_}
+use mathlib.Core.List.{List}
 use native.Mathlib.Omega.{arith}
 use lib.ListN.{length, take, drop}
 use lib.Seq.{take-at}
@@ -28,7 +28,7 @@ use Rattle.scan.specs.Filling.{scannedBy, Recorded}
 use Rattle.scan.specs.declared.Reading.{Reading}
 use Rattle.scan.specs.declared.Reading.the-variants.{Complete}
 use Rattle.scan.specs.declared.Reading.the-variants.{Faulty as Reading·Faulty}
-use Rattle.judge.specs.Verdict.{Tables, SoundRecords, Judging, orderFaults}
+use Rattle.judge.specs.Verdict.{SoundRecords, Judging, orderFaults}
 
 never : (f : Fault) (n : ℕ) → Refused f ≡ Accepted n → ⊥
 never f n q = let z : _≡_ {A = ℕ} 0 1 = cc in omega arith

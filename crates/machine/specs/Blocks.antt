@@ -6,7 +6,6 @@ use lib.ListN.{getD, take}
 use lib.Dec.{eqb}
 use Rattle.record.specs.Kinds.{shapeIn}
 use Rattle.record.specs.declared.Medium.the-variants.{Code}
-use Rattle.record.specs.declared.Shape.{Shape}
 use Rattle.book.specs.Lists.{any}
 use Rattle.book.specs.Syntax.{variableOf}
 use Rattle.book.specs.declared.Variable.{Variable}

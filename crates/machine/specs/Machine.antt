@@ -1,6 +1,6 @@
 -- The machine within one block: its stack, its open tries, what it holds of variables, and the effect of an instruction.
 use Prim.Native.Nat.{ℕ, zero, suc, _+_, _-_}
-use mathlib.Core.Bool.{Bool, true, false, cond, _&&_}
+use mathlib.Core.Bool.{cond}
 use mathlib.Core.List.{List, [], _∷_}
 use lib.ListN.{length, getD, set, drop}
 use lib.Dec.{leb, ltb}
@@ -16,13 +16,10 @@ use Rattle.calculus.specs.declared.Joined.{Joined}
 use Rattle.calculus.specs.declared.Joined.the-variants.{Nothing, One, Many}
 use Rattle.calculus.specs.declared.Given.{Given}
 use Rattle.calculus.specs.declared.Given.the-variants.{Absent, Present}
-use Rattle.calculus.specs.declared.Unary.{Unary}
-use Rattle.calculus.specs.declared.Binary.{Binary}
 use Rattle.book.specs.Syntax.{sameType}
 use Rattle.book.specs.Typing.{unaryType, operandType}
 use Rattle.book.specs.declared.ValueType.{ValueType}
 use Rattle.book.specs.declared.ValueType.the-variants.{YesNo}
-use Rattle.book.specs.declared.Variable.{Variable}
 use Rattle.lists.specs.Writing.{valueType}
 use Rattle.evaluation.specs.Run.{Entered, values, ended}
 use Rattle.machine.specs.Instructions.{Instruction, push, readOwn, readCalled, unary, binary, raise, jump, jumpIfNo, beginTry, endTry, pushNothing, join, settle, store, override, enter, jumpIfGiven, unknown}

@@ -11,7 +11,7 @@ use Rattle.calculus.specs.declared.Given.the-variants.{Absent, Present}
 use Rattle.book.specs.declared.ValueType.{ValueType}
 use Rattle.book.specs.declared.ValueType.the-variants.{YesNo}
 use Rattle.book.specs.declared.Variable.{Variable}
-use Rattle.evaluation.specs.Run.{Entered, values}
+use Rattle.evaluation.specs.Run.{values}
 use Rattle.machine.specs.Instructions.{instructionOf}
 use Rattle.machine.specs.Blocks.{Block, bodyLength, variablesOf}
 use Rattle.machine.specs.Machine.{Cell, unset, given, stored, Callee, waiting, entered, Memory, Try, Ran, ran, stuck, Next, go, stop, Surroundings, effect}

@@ -5,13 +5,13 @@
 --     not-noted, noted                        a row that is written
 --     nothing-kept, kept-found, kept-noted    tables whose rows are as they must be
 -- Assumes nothing.
-use Prim.Native.Nat.{ℕ, zero, suc, _+_, _*_, _<_, _≤_}
+use Prim.Native.Nat.{ℕ, suc, _+_, _*_, _<_, _≤_}
 use mathlib.Core.Path.{_≡_, refl, sym, ap, subst, _∙_}
 use mathlib.Core.Bool.{Bool, true, false, cond, false≢true}
 use mathlib.Core.List.{List}
 use mathlib.Core.Logic.{_⊎_, inl, inr, ⊎-elim}
 use native.Mathlib.Omega.{arith}
-use lib.ListN.{length, getD, set, take, drop, replicate, length-set, length-take, length-drop, length-replicate, getD-replicate}
+use lib.ListN.{length, getD, set, drop, replicate, length-set, length-take, length-drop, length-replicate, getD-replicate}
 use lib.Seq.{ext-getD, getD-set-same, getD-set-other, getD-take, getD-drop}
 use lib.Dec.{eqb, ltb}
 use borrow.Author.Tests.{eqb-true, eqb-false, ltb-true, ltb-false}
@@ -19,7 +19,7 @@ use Rattle.calculus.specs.declared.Given.{Given}
 use Rattle.calculus.specs.declared.Given.the-variants.{Absent, Present}
 use Rattle.calculus.specs.declared.Value.{Value}
 use Rattle.cells.specs.Cells.{givenAt}
-use Rattle.memo.specs.Rows.{Copying, Copied, NoneGiven, Ungiven, rowCount, rowCells, RowRoom, Recalled, Noted, Remembered, Kept}
+use Rattle.memo.specs.Rows.{Copying, Copied, NoneGiven, Ungiven, rowCount, rowCells, RowRoom, Recalled, Remembered, Kept}
 
 decide : (a : Bool) → (a ≡ true) ⊎ (a ≡ false)
 decide true = inl refl

@@ -1,8 +1,7 @@
 -- The clauses of a scope as marks, one for each target that the limits leave room for.
-use Prim.Native.Nat.{ℕ, _+_, _*_, _≤_}
+use Prim.Native.Nat.{ℕ, _+_, _*_}
 use mathlib.Core.Bool.{Bool, cond}
 use mathlib.Core.List.{List}
-use lib.ListN.{length}
 use lib.Dec.{eqb}
 use Rattle.book.specs.Syntax.{Scope}
 use Rattle.book.specs.References.{scopeAt}

@@ -10,7 +10,6 @@ use results::write_by;
 use slices::byte_at;
 use verifier::Verdict;
 use verifier::verify;
-ghost use mathlib.Core.Path.{_≡_};
 ghost use Prim.Native.Nat.{_<_};
 ghost use Rattle.runner.specs.Service.{Ready, Asked, Replied, Runs};
 

@@ -5,7 +5,7 @@
 -- Assumes nothing.
 use Prim.Native.Nat.{ℕ, suc, _+_, _-_, _*_, _≤_, _<_}
 use mathlib.Core.Path.{_≡_, refl, sym, ap, _∙_}
-use mathlib.Core.List.{List, [], _∷_}
+use mathlib.Core.List.{List, []}
 use native.Mathlib.Omega.{arith}
 use lib.ListN.{length, getD, drop, set, length-set, length-replicate, drop-of-length-le}
 use borrow.Author.Tests.{eqb-false, eq-eqb, not-false}
@@ -18,12 +18,11 @@ use Rattle.book.specs.References.{scopeAt}
 use Rattle.book.specs.Judge.{scan}
 use Rattle.book.specs.Tables.{countAt, Placed}
 use Rattle.book.specs.Limits.{InLimits}
-use Rattle.scan.specs.Counting.{slotOf, numberOf, scopesWith, tallyOf, Counts, Counting}
+use Rattle.scan.specs.Counting.{slotOf, numberOf, scopesWith, tallyOf, Counting}
 use Rattle.scan.specs.Step.{metAt, stepAt}
 use Rattle.scan.specs.Filling.{storedPlaces, storedCounts, Room, Stored, Blank, Filled, Recorded}
 use Rattle.scan.specs.declared.Step.the-variants.{Stop, Next}
 use Rattle.scan.specs.declared.Reading.the-variants.{Faulty, Complete}
-use Rattle.book.proofs.Sound.{Clean}
 use Rattle.scan.proofs.Steps.{Read, read, room, within, records-at, scan-next, scan-stop, scan-end}
 use Rattle.book.proofs.Sorts.{Sort, variable, subScope, node, clause, number, stage, base, limit, count, itemsOf, from, long, Staged, begins, has, staged, base-below, limit-below, stage-two, count-in-limits, scopes-new, scopes-turn, count-turn, begun, scopes-behind}
 use Rattle.book.proofs.Shapes.{stage-below}

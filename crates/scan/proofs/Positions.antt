@@ -1,19 +1,16 @@
 -- Records by their positions.
 --     item-here      what is found at the position of a record is what the record says, and its body is whole
 -- Assumes nothing.
-use Prim.Native.Nat.{ℕ, zero, suc, _+_, _-_, _≤_, _<_}
+use Prim.Native.Nat.{ℕ, _+_, _-_, _≤_, _<_}
 use mathlib.Core.Path.{_≡_, refl, sym}
-use mathlib.Core.Bool.{Bool, true, false, _&&_}
-use mathlib.Core.List.{List, [], _∷_}
+use mathlib.Core.List.{List}
 use lib.ListN.{length, getD, drop, length-drop}
 use native.Mathlib.Omega.{arith}
-use lib.Dec.{T, leb, leb→le, ltb}
 use borrow.Author.Tests.{eq-eqb, ltb-false}
-use Rattle.record.proofs.Decision.{and-l, and-r}
-use Rattle.record.specs.Kinds.{kinds, shapesOf, pickShape, shapeIn}
+use Rattle.record.specs.Kinds.{shapeIn}
 use Rattle.record.specs.declared.Medium.the-variants.{Book}
 use Rattle.book.specs.declared.Tally.{Tally}
-use Rattle.book.specs.Records.{bodyOf, stageOf}
+use Rattle.book.specs.Records.{stageOf}
 use Rattle.book.specs.Tables.{variableFrom, subScopeFrom, nodeFrom, clauseFrom, nodeLength, Found}
 use Rattle.scan.specs.Step.{metAt}
 use Rattle.book.proofs.Sound.{Clean}

@@ -12,9 +12,8 @@ use native.Mathlib.Omega.{arith}
 use native.Mathlib.Numerals.{add-one}
 use lib.ListN.{length, getD, take, drop, length-drop, drop-of-length-le}
 use lib.Seq.{drop-cons, drop-drop}
-use lib.Dec.{eqb, leb, ltb}
-use borrow.Author.Tests.{eqb-false, lt-ltb, le-ltb, ltb-true, ltb-false}
-use Rattle.order.proofs.Booleans.{neither}
+use lib.Dec.{eqb, ltb}
+use borrow.Author.Tests.{eqb-false, lt-ltb, ltb-true, ltb-false}
 use Rattle.record.specs.Kinds.{shapeIn}
 use Rattle.record.specs.declared.Medium.the-variants.{Book}
 use Rattle.record.specs.Record.{pickRecord, recordAt}
@@ -26,7 +25,7 @@ use Rattle.book.specs.declared.Fault.{Fault}
 use Rattle.book.specs.declared.Fault.the-variants.{Truncated, UnknownKind, OutOfOrder, LimitExceeded, InvalidByte}
 use Rattle.book.specs.declared.Scanned.{Scanned}
 use Rattle.book.specs.declared.Scanned.the-variants.{Sound, Faulty}
-use Rattle.book.specs.Records.{Met, stageOf, bodyOf, counted, recordsFrom, start, follows, exceeds, invalid, unknownKind, truncated, outOfOrder, limitExceeded, invalidByte}
+use Rattle.book.specs.Records.{Met, stageOf, counted, recordsFrom, start, follows, exceeds, invalid, unknownKind, truncated, outOfOrder, limitExceeded, invalidByte}
 use Rattle.book.specs.Judge.{scan}
 use Rattle.book.proofs.Shapes.{stage-below}
 use Rattle.book.proofs.Sound.{Clean, in-limits}

@@ -2,23 +2,16 @@
 --     recalled, noted                     a row that is read, and one that is written
 --     nothing-known                       before the first scope
 -- Assumes nothing.
-use Prim.Native.Nat.{ℕ, zero, suc, _+_, _*_, _<_, _≤_}
-use mathlib.Core.Path.{_≡_, refl, sym, ap, subst, _∙_}
-use mathlib.Core.Bool.{Bool, true, false, false≢true}
+use Prim.Native.Nat.{ℕ, zero, suc, _+_, _<_}
+use mathlib.Core.Path.{_≡_, refl, sym, _∙_}
+use mathlib.Core.Bool.{Bool, true}
 use mathlib.Core.List.{List, []}
-use mathlib.Core.Logic.{⊎-elim}
 use native.Mathlib.Omega.{arith}
-use lib.ListN.{length, getD, set, take, drop, replicate, length-set, length-take, length-drop, length-replicate, getD-replicate}
-use lib.Seq.{ext-getD, getD-set-same, getD-set-other, getD-take, getD-drop}
-use lib.Dec.{eqb, ltb}
-use borrow.Author.Tests.{eqb-true, eqb-false, ltb-true, ltb-false}
-use Rattle.calculus.specs.declared.Given.{Given}
+use lib.ListN.{length, replicate}
 use Rattle.calculus.specs.declared.Given.the-variants.{Absent}
-use Rattle.order.proofs.Booleans.{decide}
 use Rattle.cells.specs.Cells.{givenOf, givenAt}
 use Rattle.book.specs.Decode.{scopesOf}
 use Rattle.book.specs.References.{scopeAt}
-use Rattle.evaluation.specs.Run.{Entered, enter}
 use Rattle.scopes.specs.Steps.{givensFrom, enteredAt, Came}
 use Rattle.memo.specs.Rows.{NoneGiven, Ungiven, RowRoom, Remembered}
 use Rattle.memo.specs.Rows as cells

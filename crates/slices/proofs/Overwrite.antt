@@ -5,16 +5,15 @@
 --     written       the bytes stand where they were written
 --     chain         two runs, one behind the other, are one
 -- Assumes nothing.
-use Prim.Native.Nat.{ℕ, zero, suc, _+_, _-_, _≤_, _<_}
+use Prim.Native.Nat.{ℕ, suc, _+_, _-_, _≤_, _<_}
 use mathlib.Core.Path.{_≡_, refl, sym, ap, _∙_}
 use mathlib.Core.Bool.{Bool, true, false}
 use mathlib.Core.List.{List, [], _∷_, _++_, append-assoc}
-use mathlib.Core.Logic.{_⊎_, inl, inr, ⊎-elim}
 use native.Mathlib.Nat.{add-zero}
 use native.Mathlib.Omega.{arith}
 use lib.Dec.{leb}
 use lib.ListN.{length, take, drop, set, length-append}
-use lib.Seq.{sets, sets-eq, length-sets, length-take-le, take-at, drop-at, take-append-seam, drop-drop}
+use lib.Seq.{sets, sets-eq, length-sets, length-take-le, drop-at, take-append-seam}
 use borrow.Author.Tests.{le-leb, lt-leb, leb-true, leb-false}
 use Rattle.slices.specs.Bytes.{overwrite}
 

@@ -4,9 +4,8 @@ use mathlib.Core.Path.{_≡_}
 use mathlib.Core.Bool.{false}
 use mathlib.Core.List.{List}
 use lib.ListN.{length, take}
-use Rattle.book.specs.Syntax.{Scope}
 use Rattle.book.specs.Decode.{scopesOf}
-use Rattle.book.specs.References.{scopeAt, dangles}
+use Rattle.book.specs.References.{dangles}
 use Rattle.book.specs.Limits.{Within}
 use Rattle.book.specs.Scopes.{blocks}
 use Rattle.book.specs.Tables.{Laid}

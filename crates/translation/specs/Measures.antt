@@ -1,6 +1,5 @@
 -- What running the code of a term needs at most, and which terms the code can say.
 use Prim.Native.Nat.{ℕ, suc, _+_, _<_, _≤_}
-use mathlib.Core.List.{List}
 use mir.Syntax.{w32}
 use mir.Val.{SFits}
 use Rattle.calculus.specs.Terms.{Term, Terms, literal, own, called, error, unary, binary, choice, default, none, also}

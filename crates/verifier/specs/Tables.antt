@@ -5,14 +5,11 @@
 -- Blocks are numbered from 0 in the order of the code.
 use Prim.Native.Nat.{ℕ, suc, _+_, _-_, _*_, _<_, _≤_}
 use mathlib.Core.Path.{_≡_}
-use mathlib.Core.Bool.{Bool, true}
 use mathlib.Core.List.{List}
 use lib.ListN.{length, getD, take, drop}
 use Rattle.book.specs.Syntax.{typeOf}
 use Rattle.book.specs.declared.ValueType.the-variants.{YesNo}
-use Rattle.book.specs.declared.Variable.{Variable}
 use Rattle.machine.specs.Blocks.{Block, emptyBlock, parse}
-use Rattle.machine.specs.Acceptance.{accepted}
 
 -- block p of the code
 unfoldable pub blockAt : List ℕ → ℕ → Block

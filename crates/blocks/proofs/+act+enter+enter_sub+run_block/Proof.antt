@@ -1,7 +1,7 @@
 -- `blocks::enter`, `run_block`, `act` and `enter_sub` meet their contracts. A block enters only blocks of lower numbers.
 -- Assumes nothing.
 use Prim.Native.Nat.{_+_, _-_, _*_}
-use mathlib.Core.Path.{_≡_, refl, sym, _∙_}
+use mathlib.Core.Path.{refl, sym, _∙_}
 use lib.ListN.{length}
 use denote.Ref.{now}
 use native.Mathlib.Omega.{arith}

@@ -2,7 +2,6 @@
 -- Assumes nothing.
 use Rattle.instructions.specs.Views.{opened}
 use Rattle.instructions.proofs.Stack.{unary-none, unary-wrong, unary-right}
-use borrow.Author.Tests.{not-true, not-false}
 use native.Mathlib.Omega.{arith}
 use borrow.Author.Needs.{needs}
 use Rattle.instructions.proofs.unary.Statement.{statement}

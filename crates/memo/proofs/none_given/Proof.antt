@@ -1,7 +1,6 @@
 -- `memo::none_given` meets its contract. The invariant: none of the variables so far is given.
 -- Assumes nothing.
 use Prim.Native.Nat.{_-_}
-use native.Mathlib.Omega.{arith}
 use borrow.Author.Needs.{needs}
 use Rattle.memo.specs.Rows.{NoneGiven}
 use Rattle.memo.proofs.Rows.{absent-none, absent-more, ungiven-false, ungiven-true}

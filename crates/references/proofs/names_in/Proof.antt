@@ -1,7 +1,6 @@
 -- `references::names_in` meets its contract.
 -- Assumes nothing.
 use mathlib.Core.Bool.{true≢false}
-use mathlib.Core.Path.{sym, _∙_}
 use borrow.Author.Needs.{needs}
 use Rattle.book.specs.References.{danglesIn}
 use Rattle.book.specs.Sharing.{namings}

@@ -2,7 +2,6 @@
 -- Assumes nothing.
 use Prim.Native.Nat.{_-_}
 use native.Mathlib.Omega.{arith}
-use borrow.Author.Needs.{needs}
 use Rattle.book.specs.Decode.{scopesOf}
 use Rattle.book.specs.Typing.{mismatchIn, mismatches}
 use Rattle.typing.specs.Types.{mismatchAt}

@@ -1,6 +1,5 @@
 -- `verifier::ahead_if` meets its contract.
 -- Assumes nothing.
-use borrow.Author.Needs.{needs}
 use Rattle.verifier.proofs.ahead_if.Statement.{statement}
 use Rattle.verifier.proofs.ahead_if.Tie as tie
 
