@@ -4,7 +4,7 @@
 --     entry-*                                  the entry of a sub-scope
 --     ending, came-end                         the block's end
 --     stands, goes-on, ends-so, too-short      a run from a place on, as a part of the whole
---     acts, went-*, stepped-*                  what a function answers, by its cases
+--     acts, went-*, stepped, followed-on       what a function answers, by its cases
 -- Assumes nothing.
 use Prim.Native.Nat.{ℕ, zero, suc, _+_, _-_, _*_, _<_, _≤_}
 use mathlib.Core.Path.{_≡_, refl, ap, sym, subst, _∙_}
@@ -49,7 +49,7 @@ use Rattle.slices.proofs.Parts.{all-left, part-room, lent-length}
 use Rattle.blocks.specs.declared.Place.{Place}
 use Rattle.blocks.specs.declared.Went as went-type
 use Rattle.blocks.specs.declared.Went.the-variants as went
-use Rattle.blocks.specs.Running.{Aligned, TriesGood, block, before, envAt, weightAt, Held, runFrom, Running, Standing, Acts, Acted, restAt, Steps, SteppedAt}
+use Rattle.blocks.specs.Running.{Aligned, TriesGood, block, before, envAt, weightAt, Held, runFrom, Running, Standing, Acts, Acted, restAt, Follows, Followed, Steps, SteppedAt}
 use Rattle.blocks.proofs.Positions.{exec-past, exec-at, exec-to, fits-at}
 use Rattle.blocks.proofs.Invariant.{MemGood, NextGood, step-good, begin-good, run-cons}
 use Rattle.blocks.proofs.Tables.{World, fit, heavy, below, variables-are, subs-are, bounded, typing, named, callee-below, callee-variables, callee-runs, size-is}
@@ -707,15 +707,16 @@ module _ {code body : List ℕ} {s : Place} {heads places : List ℕ} {p : ℕ} 
 
 module _ {body : List ℕ} {s : Place} {heads places : List ℕ} {p : ℕ} {marks st tr own flags called st' tr' own' flags' called' : List ℕ} {m : Move}
     (d : Stepped heads places p (getD body (s .at) 0) (restAt body (s .at)) st (s .height) tr (s .tries) own flags called marks m st' tr' own' flags' called') where
-  pub stepped-on : {n h t : ℕ} (x : Place) → m ≡ move.Go n h t → x .height ≡ h → x .tries ≡ t → x .count ≡ s .count → Advances (s .at + 1) n (length body) (x .at)
-      → SteppedAt body s heads places p marks st tr own flags called (went.On x) st' tr' own' flags' called'
-  stepped-on {n} x e kh kt kc adv = record { shows = (n, rw (kh, kt, ← e) d, adv, kc) }
+  pub stepped : {r : went-type.Went} → Followed (s .at + 1) (length body) (s .count) m r → SteppedAt body s heads places p marks st tr own flags called r st' tr' own' flags' called'
+  stepped {r} f = record { shows = steps r (f .shows) }
+    where
+      steps : (r : went-type.Went) → Follows (s .at + 1) (length body) (s .count) m r → Steps body s heads places p marks st tr own flags called st' tr' own' flags' called' r
+      steps (went.On x) (n, e, adv, kc) = (n, rw (← e) d, adv, kc)
+      steps (went.Ended c n) (e, kc) = (rw (← e) d, kc)
+      steps went.Stuck e = rw (← e) d
+      steps went.NoRoom e = rw (← e) d
 
-  pub stepped-end : {c : Cause} → m ≡ move.Ended c → SteppedAt body s heads places p marks st tr own flags called (went.Ended c (s .count)) st' tr' own' flags' called'
-  stepped-end e = record { shows = (rw (← e) d, refl) }
-
-  pub stepped-stuck : m ≡ move.Stuck → SteppedAt body s heads places p marks st tr own flags called went.Stuck st' tr' own' flags' called'
-  stepped-stuck e = record { shows = rw (← e) d }
-
-  pub stepped-short : m ≡ move.NoRoom → SteppedAt body s heads places p marks st tr own flags called went.NoRoom st' tr' own' flags' called'
-  stepped-short e = record { shows = rw (← e) d }
+-- the next place, by where the parts of it come from
+pub followed-on : {next end count n h t : ℕ} {m : Move} (x : Place) → m ≡ move.Go n h t → x .height ≡ h → x .tries ≡ t → x .count ≡ count → Advances next n end (x .at)
+    → Followed next end count m (went.On x)
+followed-on {n = n} x e kh kt kc adv = record { shows = (n, rw (kh, kt) e, adv, kc) }

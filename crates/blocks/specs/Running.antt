@@ -109,6 +109,17 @@ pub record EnteredAt (code body : List ℕ) (s : Place) (heads places : List ℕ
 abbrev pub restAt : List ℕ → ℕ → List ℕ
 restAt body at = take (length body - (at + 1)) (drop (at + 1) body)
 
+-- what follows an instruction by its move, so many bytes having been read of a block of `end` bytes
+module _ (next end count : ℕ) (m : Move) where
+  abbrev pub Follows : Went → Type 0
+  Follows (On x) = (n : ℕ) × (m ≡ move.Go n (x .height) (x .tries)) × Advances next n end (x .at) × (x .count ≡ count)
+  Follows (Ended c n) = (m ≡ move.Ended c) × (n ≡ count)
+  Follows Stuck = m ≡ move.Stuck
+  Follows NoRoom = m ≡ move.NoRoom
+
+pub record Followed (next end count : ℕ) (m : Move) (r : Went) : Type 0 where
+  pub shows : Follows next end count m r
+
 pub record StepsAt (body : List ℕ) (s : Place) (heads places : List ℕ) (p : ℕ) (marks st tr own flags called : List ℕ) : Type 0 where
   pub inside : s .at < length body
   pub stepping : Stepping heads places p (getD body (s .at) 0) (restAt body (s .at)) st (s .height) tr (s .tries) own flags called marks

@@ -15,7 +15,7 @@ ghost use mathlib.Core.Path.{_≡_};
 ghost use Prim.Native.Nat.{_+_, _*_, _<_, _≤_};
 ghost use lib.ListN.{length, getD};
 ghost use Rattle.blocks.specs.Entries.{nonzero, Ending, Finished, Entry, Known, Came, CameTo, Advances};
-ghost use Rattle.blocks.specs.Running.{StepsAt, SteppedAt, EntersAt, EnteredAt, Acting, Acted};
+ghost use Rattle.blocks.specs.Running.{Followed, StepsAt, SteppedAt, EntersAt, EnteredAt, Acting, Acted};
 
 // How the run of a block ended, with the count of scopes entered; or the lent slices were too short.
 pub enum Ran {
@@ -98,6 +98,19 @@ fn advance(next: usize, n: usize, end: usize) -> usize
     next + n
 }
 
+// What follows an instruction by its move: its kind ends before byte `next` of a block of `end` bytes.
+fn follow(moved: Move, next: usize, end: usize, count: usize) -> Went
+    requires { ⌜ next ≤ end ⌝ }
+    ensures { λ r. ⌜ Followed next end count moved r ⌝ }
+{
+    match moved {
+        Move::Go(n, h, t) => Went::On(stand(advance(next, n, end), h, t, count)),
+        Move::Ended(c) => Went::Ended(c, count),
+        Move::Stuck => Went::Stuck,
+        Move::NoRoom => Went::NoRoom,
+    }
+}
+
 // Enters block p with what its cells give, and leaves the values of its variables there. What is known is not run again.
 fn enter(
     code: &[u8],
@@ -147,8 +160,7 @@ fn one_step(
 {
     let at = s.at;
     let next = at + 1;
-    let count = s.count;
-    match step(
+    let moved = step(
         body[at],
         &body[next..],
         heads,
@@ -162,12 +174,8 @@ fn one_step(
         own,
         flags,
         called,
-    ) {
-        Move::Go(n, h, t) => Went::On(stand(advance(next, n, body.len()), h, t, count)),
-        Move::Ended(c) => Went::Ended(c, count),
-        Move::Stuck => Went::Stuck,
-        Move::NoRoom => Went::NoRoom,
-    }
+    );
+    follow(moved, next, body.len(), s.count)
 }
 
 // Enters the sub-scope that the instruction at a place of block p names, once.
