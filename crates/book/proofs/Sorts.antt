@@ -3,7 +3,7 @@
 --     same-sort              two sorts of one number are the same
 --     count-new, count-turn  what a record does to the counts
 --     items-turn             what a record does to the scope it belongs to
---     bases-apart            the places of two sorts do not meet
+--     bases-apart            the columns of two sorts do not meet
 -- Assumes nothing.
 use Prim.Native.Nat.{ℕ, zero, suc, _+_, _≤_, _<_}
 use mathlib.Core.Path.{_≡_, refl, sym, ap, _∙_}
@@ -20,7 +20,7 @@ use Rattle.book.specs.Syntax.{Scope, emptyScope, variableOf, nodeOf, cla
 use Rattle.book.specs.Records.{Met, stageOf, bodyOf, counted}
 use Rattle.book.specs.Decode.{Parsed, inFront}
 use Rattle.book.specs.Limits.{InLimits}
-use Rattle.book.specs.Tables.{variableFrom, subScopeFrom, nodeFrom, clauseFrom, nodeLength}
+use Rattle.book.specs.Positions.{variableFrom, subScopeFrom, nodeFrom, clauseFrom, nodeLength}
 
 pub data Sort : Type 0 where
   variable : Sort
@@ -28,7 +28,7 @@ pub data Sort : Type 0 where
   node : Sort
   clause : Sort
 
--- a sort's number in the table of counts; its stage is two more
+-- the column of a sort's count in the index; its stage is two more
 abbrev pub number : Sort → ℕ
 number variable = 0
 number subScope = 1
@@ -41,11 +41,12 @@ stage subScope = 3
 stage node = 4
 stage clause = 5
 
+-- the column of the index where a sort's positions begin
 abbrev pub base : Sort → ℕ
-base variable = 0
-base subScope = 32
-base node = 40
-base clause = 290
+base variable = 4
+base subScope = 36
+base node = 44
+base clause = 294
 
 abbrev pub limit : Sort → ℕ
 limit variable = 32
@@ -124,11 +125,17 @@ number-below subScope = omega arith
 number-below node = omega arith
 number-below clause = omega arith
 
-pub base-below : (s : Sort) → base s + limit s ≤ 418
+pub base-below : (s : Sort) → base s + limit s ≤ 422
 base-below variable = omega arith
 base-below subScope = omega arith
 base-below node = omega arith
 base-below clause = omega arith
+
+pub base-above : (s : Sort) → 4 ≤ base s
+base-above variable = omega arith
+base-above subScope = omega arith
+base-above node = omega arith
+base-above clause = omega arith
 
 pub limit-below : (s : Sort) → limit s ≤ 250
 limit-below variable = omega arith

@@ -11,4 +11,4 @@ pub mod Trees
 pub mod Scopes
 pub mod Steps
 pub mod Judge
-pub mod Tables
+pub mod Positions

@@ -25,18 +25,17 @@ fn copy(from: &[u8], to: &mut [u8])
 // room does not hold is written again.
 fn compile_through(
     book: &[u8],
-    places: &[u16],
-    counts: &[u8],
+    index: &[u16],
     blocks: &[u8],
     orders: &[u8],
     n: usize,
     room: &mut [u8],
     code: &mut [u8],
 ) -> Compiled
-    requires { ⌜ Tabled (now book) (now places) (now counts) (now blocks) (now orders) n ⌝ }
+    requires { ⌜ Tabled (now book) (now index) (now blocks) (now orders) n ⌝ }
     ensures { λ r. ⌜ Compiles (now (book .entry)) (now (code .entry)) r (now (code .exit)) ⌝ }
 {
-    let length = emit_blocks(book, places, counts, blocks, orders, n, room);
+    let length = emit_blocks(book, index, blocks, orders, n, room);
     if code.len() < length {
         return Compiled::Refused(Refusal::BufferTooSmall);
     }
@@ -44,7 +43,7 @@ fn compile_through(
         let start = room.len() - length;
         copy(&room[start..], &mut code[..length]);
     } else {
-        emit_blocks(book, places, counts, blocks, orders, n, &mut code[..length]);
+        emit_blocks(book, index, blocks, orders, n, &mut code[..length]);
     }
     Compiled::Written(length)
 }
@@ -52,45 +51,34 @@ fn compile_through(
 // Compiles an accepted book of n scopes. A short book gets less room, since clearing it takes time.
 fn compile_accepted(
     book: &[u8],
-    places: &[u16],
-    counts: &[u8],
+    index: &[u16],
     blocks: &[u8],
     orders: &[u8],
     n: usize,
     code: &mut [u8],
 ) -> Compiled
-    requires { ⌜ Tabled (now book) (now places) (now counts) (now blocks) (now orders) n ⌝ }
+    requires { ⌜ Tabled (now book) (now index) (now blocks) (now orders) n ⌝ }
     ensures { λ r. ⌜ Compiles (now (book .entry)) (now (code .entry)) r (now (code .exit)) ⌝ }
 {
     if book.len() < 1536 {
         let mut room = [0u8; 8192];
-        return compile_through(book, places, counts, blocks, orders, n, &mut room, code);
+        return compile_through(book, index, blocks, orders, n, &mut room, code);
     }
     let mut room = [0u8; 65536];
-    compile_through(book, places, counts, blocks, orders, n, &mut room, code)
+    compile_through(book, index, blocks, orders, n, &mut room, code)
 }
 
 // Compiles a book into lent memory: the length written. A refusal leaves every byte as it was.
 pub fn compile(book: &[u8], code: &mut [u8]) -> Compiled
     ensures { λ r. ⌜ Compiles (now (book .entry)) (now (code .entry)) r (now (code .exit)) ⌝ }
 {
-    let mut places = [0u16; 13376];
-    let mut counts = [0u8; 128];
+    let mut index = [0u16; 13504];
     let mut blocks = [0u8; 32];
     let mut weights = [0u16; 32];
     let mut orders = [0u8; 1280];
-    let judged = judge_into(
-        book,
-        &mut places,
-        &mut counts,
-        &mut blocks,
-        &mut weights,
-        &mut orders,
-    );
+    let judged = judge_into(book, &mut index, &mut blocks, &mut weights, &mut orders);
     match judged {
-        Judged::Accepted(n) => {
-            compile_accepted(book, &places, &counts, &blocks, &orders, n, code)
-        }
+        Judged::Accepted(n) => { compile_accepted(book, &index, &blocks, &orders, n, code) }
         Judged::Refused(f) => Compiled::Refused(Refusal::Book(f)),
     }
 }

@@ -16,7 +16,7 @@ use Rattle.slices.specs.Bytes.{bytesOf}
 use Rattle.book.specs.Syntax.{Scope}
 use Rattle.book.specs.Decode.{scopesOf}
 use Rattle.book.specs.References.{scopeAt}
-use Rattle.book.specs.Tables.{variableAt, subScopeAt}
+use Rattle.book.specs.Positions.{variableAt, subScopeAt}
 use Rattle.book.specs.Scopes.{blocks}
 use Rattle.book.specs.Steps.{stepCount, stepOrder}
 use Rattle.book.specs.Trees.{hasClause, calledTarget}
@@ -261,8 +261,8 @@ module _ (bytes : List ℕ) (n : ℕ) (ok : judge bytes ≡ judged.Accepted n) w
 
   -- The tables
 
-  module _ {places counts table orders : List ℕ} (t : Tabled bytes places counts table orders n) where
-    sound : Sound bytes places counts
+  module _ {index table orders : List ℕ} (t : Tabled bytes index table orders n) where
+    sound : Sound bytes index
     sound =
         record {
           laid = t .laid;
@@ -281,7 +281,7 @@ module _ (bytes : List ℕ) (n : ℕ) (ok : judge bytes ≡ judged.Accepted n) w
       named : i < n
       named = omega (arith, block-at m l, block-below m l)
 
-      pub block-ready : Block bytes places counts orders i
+      pub block-ready : Block bytes index orders i
       unfolding subScopeAt
       block-ready =
           let a = accepted .count in
@@ -311,7 +311,7 @@ pub book-stop : (bytes : List ℕ) {s o : List ℕ} {at p n : ℕ} → Downward 
 unfolding bookPiece bookSize
 book-stop bytes d e = alike (stop d e) (λ k. refl) refl
 
-pub blank : {bytes places counts : List ℕ} → Sound bytes places counts → Blank bytes places counts (replicate 834 255)
+pub blank : {bytes index : List ℕ} → Sound bytes index → Blank bytes index (replicate 834 255)
 blank s =
     record {
       sound = s;

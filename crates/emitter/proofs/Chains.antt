@@ -16,7 +16,7 @@ use Rattle.calculus.specs.declared.Cause.the-variants.{Empty}
 use Rattle.book.specs.Syntax.{Scope}
 use Rattle.book.specs.Decode.{scopesOf}
 use Rattle.book.specs.References.{scopeAt, noClause}
-use Rattle.book.specs.Tables.{clauseAt}
+use Rattle.book.specs.Positions.{clauseAt}
 use Rattle.book.specs.Trees.{bases, hasRule, withRules, withoutRules, tree, calledTarget}
 use Rattle.book.specs.declared.Target.{Target}
 use Rattle.book.specs.declared.Clause.{Clause}
@@ -71,9 +71,9 @@ module _ (bytes : List ℕ) (i : ℕ) where
         ∙ ap (clauseWith c)
         (exceptions-chain scope g c l)
 
-module _ (bytes places counts links : List ℕ) (i : ℕ) (w : Ready bytes places counts links i) where
+module _ (bytes index links : List ℕ) (i : ℕ) (w : Ready bytes index links i) where
   chained : Chained (cs bytes i)
-  chained = sound-chained bytes places counts (w .sound) i
+  chained = sound-chained bytes index (w .sound) i
 
   pub few : length (cs bytes i) ≤ 128
   few = chained .few
@@ -144,12 +144,12 @@ module _ (bytes places counts links : List ℕ) (i : ℕ) (w : Ready bytes place
     listed =
         bases-chain (scope bytes i) chained target
         ∙ ap (chainTerms (scope bytes i)) (sym at)
-        ∙ sym (chain-first slot e (omega (arith, slot-few bytes places counts links i w k v slot at)) h)
+        ∙ sym (chain-first slot e (omega (arith, slot-few bytes index links i w k v slot at)) h)
 
     rules : hasRule (scope bytes i) target ≡ not (eqb r 255)
     rules =
         rule-first (scope bytes i) target chained
-        ∙ ap (λ (n : ℕ). not (eqb n 255)) (sym (rule-link bytes places counts links i w k v slot at r u))
+        ∙ ap (λ (n : ℕ). not (eqb n 255)) (sym (rule-link bytes index links i w k v slot at r u))
 
     pub tree-ruled : (r ≡ 255 → ⊥) → treeAt bytes i k v ≡ basesAt bytes i e true
     unfolding treeAt tree basesAt lastOutcome

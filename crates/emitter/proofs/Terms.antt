@@ -20,7 +20,7 @@ use Rattle.calculus.specs.declared.Unary.{Unary}
 use Rattle.calculus.specs.declared.Binary.{Binary}
 use Rattle.book.specs.Decode.{scopesOf}
 use Rattle.book.specs.References.{scopeAt}
-use Rattle.book.specs.Tables.{nodeAt, clauseAt}
+use Rattle.book.specs.Positions.{nodeAt, clauseAt}
 use Rattle.book.specs.Trees.{exception, nodeTerm, termBelow, termOf}
 use Rattle.book.specs.declared.Clause.{Clause}
 use Rattle.book.specs.declared.Consequence.{Consequence}

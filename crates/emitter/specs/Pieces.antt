@@ -15,7 +15,8 @@ use Rattle.book.specs.Judge.{judge}
 use Rattle.book.specs.Trees.{termBelow, exception, conditionTerm, consequenceTerm, select, clauseTerms, tree, hasClause, calledTarget}
 use Rattle.book.specs.Steps.{stepCount, stepOrder}
 use Rattle.book.specs.Scopes.{blocks}
-use Rattle.book.specs.Tables.{Laid, variableAt, subScopeAt, clauseAt}
+use Rattle.book.specs.Positions.{variableAt, subScopeAt, clauseAt}
+use Rattle.index.specs.Index.{Laid}
 use Rattle.book.specs.declared.Consequence.{Consequence}
 use Rattle.book.specs.declared.Judged.the-variants.{Accepted}
 use Rattle.links.specs.Links.{headOf, inChain, Sound}
@@ -215,15 +216,15 @@ pub record Called (bytes : List ℕ) (i : ℕ) : Type 0 where
   pub called : (k : ℕ) → k < length (scopeAt (scopesOf bytes) i .subScopes) → subScopeAt (scopesOf bytes) i k < 32
 
 -- of a scope whose block is written
-pub record Block (bytes places counts orders : List ℕ) (i : ℕ) : Type 0 where
-  pub sound : Sound bytes places counts
+pub record Block (bytes index orders : List ℕ) (i : ℕ) : Type 0 where
+  pub sound : Sound bytes index
   pub ordered : Ordered bytes orders i
   pub called : Called bytes i
 
 -- the tables of an accepted book of n scopes
-pub record Tabled (bytes places counts blocksTable orders : List ℕ) (n : ℕ) : Type 0 where
+pub record Tabled (bytes index blocksTable orders : List ℕ) (n : ℕ) : Type 0 where
   pub accepted : judge bytes ≡ Accepted n
-  pub laid : Laid bytes places counts
+  pub laid : Laid bytes index
   pub blockOrder : take (length (scopesOf bytes)) blocksTable ≡ blocks (scopesOf bytes)
   pub stepOrders : (i : ℕ) → i < length (scopesOf bytes)
       → take (stepCount (scopeAt (scopesOf bytes) i)) (drop (i * 40) orders) ≡ stepOrder (scopeAt (scopesOf bytes) i)

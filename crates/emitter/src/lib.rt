@@ -5,6 +5,14 @@ use book::Target;
 use book::ValueType;
 use calculus::Binary;
 use calculus::Unary;
+use index::clause_at;
+use index::clause_count;
+use index::node_at;
+use index::node_count;
+use index::sub_scope_at;
+use index::sub_scope_count;
+use index::variable_at;
+use index::variable_count;
 use integers::bits_of;
 use links::EXCEPTIONS;
 use links::RULES;
@@ -12,14 +20,6 @@ use links::SIBLINGS;
 use links::fill_links;
 use links::slot_of;
 use slices::byte_at;
-use tables::clause_at;
-use tables::clause_count;
-use tables::node_at;
-use tables::node_count;
-use tables::sub_scope_at;
-use tables::sub_scope_count;
-use tables::variable_at;
-use tables::variable_count;
 use trees::has_clause;
 ghost use mathlib.Core.Path.{_≡_};
 ghost use Prim.Native.Nat.{_<_};
@@ -28,7 +28,7 @@ ghost use Rattle.calculus.specs.Terms.{literal};
 ghost use Rattle.calculus.specs.declared.Value.the-variants as value;
 ghost use Rattle.book.specs.Decode.{scopesOf};
 ghost use Rattle.book.specs.References.{scopeAt};
-ghost use Rattle.book.specs.Tables.{Laid};
+ghost use Rattle.index.specs.Index.{Laid};
 ghost use Rattle.book.specs.Steps.{stepCount};
 ghost use Rattle.trees.specs.Chains.{Ready};
 ghost use Rattle.translation.specs.Code.{unaryKind, binaryKind, size, sizes};
@@ -165,21 +165,20 @@ fn no_exception(x: u8, y: u8, z: u8) -> bool
 // Node n of scope i among the nodes below a limit. A node names only nodes below itself.
 fn emit_below(
     book: &[u8],
-    places: &[u16],
-    counts: &[u8],
+    index: &[u16],
     i: usize,
     limit: usize,
     n: usize,
     out: &mut [u8],
     at: usize,
 ) -> usize
-    requires { ⌜ Laid (now book) (now places) (now counts) × Room at (size (nodeBelow (now book) i limit n)) ⌝ }
+    requires { ⌜ Laid (now book) (now index) × Room at (size (nodeBelow (now book) i limit n)) ⌝ }
     ensures { λ r. ⌜ Emitted (now (out .entry)) at (nodeBelow (now (book .entry)) i limit n) r (now (out .exit)) ⌝ }
 {
     if limit <= n {
         return put_one(out, at, 32);
     }
-    let node = node_at(book, places, counts, i, n);
+    let node = node_at(book, index, i, n);
     match node {
         Node::Constant(b) => put_truth(out, at, b),
         Node::Number(z) => put_number(out, at, z),
@@ -192,28 +191,25 @@ fn emit_below(
         Node::Conflict(_) => put_one(out, at, 33),
         Node::Unary(op, a) => {
             let p = put_one(out, at, unary_kind(op));
-            emit_below(book, places, counts, i, n, a as usize, out, p)
+            emit_below(book, index, i, n, a as usize, out, p)
         }
         Node::Binary(op, a, b) => {
             let p = put_one(out, at, binary_kind(op));
-            let q = emit_below(book, places, counts, i, n, b as usize, out, p);
-            emit_below(book, places, counts, i, n, a as usize, out, q)
+            let q = emit_below(book, index, i, n, b as usize, out, p);
+            emit_below(book, index, i, n, a as usize, out, q)
         }
         Node::Choice(c, a, b) => {
-            let p = emit_below(book, places, counts, i, n, b as usize, out, at);
-            emit_branches(book, places, counts, i, n, c, a, p - at, out, p)
+            let p = emit_below(book, index, i, n, b as usize, out, at);
+            emit_branches(book, index, i, n, c, a, p - at, out, p)
         }
-        Node::Default(x, y, z, j, c) => {
-            emit_default(book, places, counts, i, n, x, y, z, j, c, out, at)
-        }
+        Node::Default(x, y, z, j, c) => { emit_default(book, index, i, n, x, y, z, j, c, out, at) }
     }
 }
 
 // A condition and the branch that it takes, in front of another branch of d bytes.
 fn emit_branches(
     book: &[u8],
-    places: &[u16],
-    counts: &[u8],
+    index: &[u16],
     i: usize,
     limit: usize,
     c: u8,
@@ -222,43 +218,41 @@ fn emit_branches(
     out: &mut [u8],
     at: usize,
 ) -> usize
-    requires { ⌜ Laid (now book) (now places) (now counts) × Room at (branchesSize (nodeBelow (now book) i limit c) (nodeBelow (now book) i limit a)) ⌝ }
+    requires { ⌜ Laid (now book) (now index) × Room at (branchesSize (nodeBelow (now book) i limit c) (nodeBelow (now book) i limit a)) ⌝ }
     ensures { λ r.
         ⌜ EmittedBranches (now (out .entry)) at (nodeBelow (now (book .entry)) i limit c) (nodeBelow (now (book .entry)) i limit a) d r (now (out .exit)) ⌝ }
 {
     let p = put_far(out, at, 34, d);
-    let q = emit_below(book, places, counts, i, limit, a as usize, out, p);
+    let q = emit_below(book, index, i, limit, a as usize, out, p);
     let r = put_far(out, q, 35, q - p + 3);
-    emit_below(book, places, counts, i, limit, c as usize, out, r)
+    emit_below(book, index, i, limit, c as usize, out, r)
 }
 
 // An exception with its try; nothing for 255.
 fn emit_exception(
     book: &[u8],
-    places: &[u16],
-    counts: &[u8],
+    index: &[u16],
     i: usize,
     limit: usize,
     x: u8,
     out: &mut [u8],
     at: usize,
 ) -> usize
-    requires { ⌜ Laid (now book) (now places) (now counts) × Room at (sizes (exceptionBelow (now book) i limit x)) ⌝ }
+    requires { ⌜ Laid (now book) (now index) × Room at (sizes (exceptionBelow (now book) i limit x)) ⌝ }
     ensures { λ r. ⌜ EmittedAll (now (out .entry)) at (exceptionBelow (now (book .entry)) i limit x) r (now (out .exit)) ⌝ }
 {
     if x == 255 {
         return at;
     }
     let p = put_caught(out, at);
-    let q = emit_below(book, places, counts, i, limit, x as usize, out, p);
+    let q = emit_below(book, index, i, limit, x as usize, out, p);
     put_far(out, q, 36, q - p + 4)
 }
 
 // A default of nodes below a limit: exceptions x, y and z, justification j, consequence c.
 fn emit_default(
     book: &[u8],
-    places: &[u16],
-    counts: &[u8],
+    index: &[u16],
     i: usize,
     limit: usize,
     x: u8,
@@ -269,117 +263,98 @@ fn emit_default(
     out: &mut [u8],
     at: usize,
 ) -> usize
-    requires { ⌜ Laid (now book) (now places) (now counts) × Room at (size (defaultBelow (now book) i limit x y z j c)) ⌝ }
+    requires { ⌜ Laid (now book) (now index) × Room at (size (defaultBelow (now book) i limit x y z j c)) ⌝ }
     ensures { λ r. ⌜ Emitted (now (out .entry)) at (defaultBelow (now (book .entry)) i limit x y z j c) r (now (out .exit)) ⌝ }
 {
     let p = put_one(out, at, 32);
-    let q = emit_branches(book, places, counts, i, limit, j, c, 1, out, p);
+    let q = emit_branches(book, index, i, limit, j, c, 1, out, p);
     if no_exception(x, y, z) {
         return q;
     }
     let r = put_far(out, q, 40, q - at);
-    let s = emit_exception(book, places, counts, i, limit, z, out, r);
-    let t = emit_exception(book, places, counts, i, limit, y, out, s);
-    let u = emit_exception(book, places, counts, i, limit, x, out, t);
+    let s = emit_exception(book, index, i, limit, z, out, r);
+    let t = emit_exception(book, index, i, limit, y, out, s);
+    let u = emit_exception(book, index, i, limit, x, out, t);
     put_one(out, u, 38)
 }
 
 // A clause's condition, node n of scope i; 255: always.
-fn emit_condition(
-    book: &[u8],
-    places: &[u16],
-    counts: &[u8],
-    i: usize,
-    n: u8,
-    out: &mut [u8],
-    at: usize,
-) -> usize
-    requires { ⌜ Laid (now book) (now places) (now counts) × Room at (size (conditionAt (now book) i n)) ⌝ }
+fn emit_condition(book: &[u8], index: &[u16], i: usize, n: u8, out: &mut [u8], at: usize) -> usize
+    requires { ⌜ Laid (now book) (now index) × Room at (size (conditionAt (now book) i n)) ⌝ }
     ensures { λ r. ⌜ Emitted (now (out .entry)) at (conditionAt (now (book .entry)) i n) r (now (out .exit)) ⌝ }
 {
     if n == 255 {
         return put_truth(out, at, true);
     }
-    let limit = node_count(book, places, counts, i);
-    emit_below(book, places, counts, i, limit, n as usize, out, at)
+    let limit = node_count(book, index, i);
+    emit_below(book, index, i, limit, n as usize, out, at)
 }
 
 // A clause's consequence: a node of scope i, or a rule's no or yes.
 fn emit_consequence(
     book: &[u8],
-    places: &[u16],
-    counts: &[u8],
+    index: &[u16],
     i: usize,
     c: Consequence,
     out: &mut [u8],
     at: usize,
 ) -> usize
-    requires { ⌜ Laid (now book) (now places) (now counts) × Room at (size (consequenceAt (now book) i c)) ⌝ }
+    requires { ⌜ Laid (now book) (now index) × Room at (size (consequenceAt (now book) i c)) ⌝ }
     ensures { λ r. ⌜ Emitted (now (out .entry)) at (consequenceAt (now (book .entry)) i c) r (now (out .exit)) ⌝ }
 {
     match c {
         Consequence::Of(n) => {
-            let limit = node_count(book, places, counts, i);
-            emit_below(book, places, counts, i, limit, n as usize, out, at)
+            let limit = node_count(book, index, i);
+            emit_below(book, index, i, limit, n as usize, out, at)
         }
         Consequence::Fixed(b) => put_truth(out, at, b),
     }
 }
 
 // Clause c of scope i without its exceptions.
-fn emit_rest(
-    book: &[u8],
-    places: &[u16],
-    counts: &[u8],
-    i: usize,
-    c: usize,
-    out: &mut [u8],
-    at: usize,
-) -> usize
-    requires { ⌜ Laid (now book) (now places) (now counts) × Room at (size (restAt (now book) i c)) ⌝ }
+fn emit_rest(book: &[u8], index: &[u16], i: usize, c: usize, out: &mut [u8], at: usize) -> usize
+    requires { ⌜ Laid (now book) (now index) × Room at (size (restAt (now book) i c)) ⌝ }
     ensures { λ r. ⌜ Emitted (now (out .entry)) at (restAt (now (book .entry)) i c) r (now (out .exit)) ⌝ }
 {
-    let clause = clause_at(book, places, counts, i, c);
+    let clause = clause_at(book, index, i, c);
     let condition = clause.condition;
     let consequence = clause.consequence;
     let p = put_one(out, at, 32);
     let q = put_far(out, p, 34, 1);
-    let r = emit_consequence(book, places, counts, i, consequence, out, q);
+    let r = emit_consequence(book, index, i, consequence, out, q);
     let s = put_far(out, r, 35, r - q + 3);
-    emit_condition(book, places, counts, i, condition, out, s)
+    emit_condition(book, index, i, condition, out, s)
 }
 
 // Clause c and those behind it in its chain, each with its try.
 fn emit_chain(
     book: &[u8],
-    places: &[u16],
-    counts: &[u8],
+    index: &[u16],
     links: &[u8],
     i: usize,
     c: usize,
     out: &mut [u8],
     at: usize,
 ) -> usize
-    requires { ⌜ Ready (now book) (now places) (now counts) (now links) i × Room at (sizes (siblings (now book) i c)) ⌝ }
+    requires { ⌜ Ready (now book) (now index) (now links) i × Room at (sizes (siblings (now book) i c)) ⌝ }
     ensures { λ r. ⌜ EmittedAll (now (out .entry)) at (siblings (now (book .entry)) i c) r (now (out .exit)) ⌝ }
 {
-    if clause_count(book, places, counts, i) <= c {
+    if clause_count(book, index, i) <= c {
         return at;
     }
     let next = byte_at(links, SIBLINGS + c) as usize;
     let first = byte_at(links, EXCEPTIONS + c) as usize;
-    let p = emit_chain(book, places, counts, links, i, next, out, at);
+    let p = emit_chain(book, index, links, i, next, out, at);
     let q = put_caught(out, p);
-    let r = emit_rest(book, places, counts, i, c, out, q);
-    let s = emit_around(book, places, counts, links, i, first, r - q, out, r);
+    let r = emit_rest(book, index, i, c, out, q);
+    let s = emit_around(book, index, links, i, first, r - q, out, r);
     put_far(out, s, 36, s - q + 4)
 }
 
 // The exceptions that begin with a clause, in front of a justification and consequence of d bytes.
 fn emit_around(
     book: &[u8],
-    places: &[u16],
-    counts: &[u8],
+    index: &[u16],
     links: &[u8],
     i: usize,
     first: usize,
@@ -387,34 +362,33 @@ fn emit_around(
     out: &mut [u8],
     at: usize,
 ) -> usize
-    requires { ⌜ Ready (now book) (now places) (now counts) (now links) i × Room at (aroundSize (siblings (now book) i first)) ⌝ }
+    requires { ⌜ Ready (now book) (now index) (now links) i × Room at (aroundSize (siblings (now book) i first)) ⌝ }
     ensures { λ r. ⌜ EmittedAround (now (out .entry)) at (siblings (now (book .entry)) i first) d r (now (out .exit)) ⌝ }
 {
-    if clause_count(book, places, counts, i) <= first {
+    if clause_count(book, index, i) <= first {
         return at;
     }
     let p = put_far(out, at, 40, d);
-    let q = emit_chain(book, places, counts, links, i, first, out, p);
+    let q = emit_chain(book, index, links, i, first, out, p);
     put_one(out, q, 38)
 }
 
 // Clause c of scope i.
 fn emit_clause(
     book: &[u8],
-    places: &[u16],
-    counts: &[u8],
+    index: &[u16],
     links: &[u8],
     i: usize,
     c: usize,
     out: &mut [u8],
     at: usize,
 ) -> usize
-    requires { ⌜ Ready (now book) (now places) (now counts) (now links) i × (c < length (scopeAt (scopesOf (now book)) i .clauses)) × Room at (size (clauseTermAt (now book) i c)) ⌝ }
+    requires { ⌜ Ready (now book) (now index) (now links) i × (c < length (scopeAt (scopesOf (now book)) i .clauses)) × Room at (size (clauseTermAt (now book) i c)) ⌝ }
     ensures { λ r. ⌜ Emitted (now (out .entry)) at (clauseTermAt (now (book .entry)) i c) r (now (out .exit)) ⌝ }
 {
     let first = byte_at(links, EXCEPTIONS + c) as usize;
-    let p = emit_rest(book, places, counts, i, c, out, at);
-    emit_around(book, places, counts, links, i, first, p - at, out, p)
+    let p = emit_rest(book, index, i, c, out, at);
+    emit_around(book, index, links, i, first, p - at, out, p)
 }
 
 // What a target comes to where its bases come to nothing: no if it has rules, else empty.
@@ -444,8 +418,7 @@ fn put_last(out: &mut [u8], at: usize, ruled: bool) -> usize
 // The bases that begin with a clause, as exceptions.
 fn emit_bases(
     book: &[u8],
-    places: &[u16],
-    counts: &[u8],
+    index: &[u16],
     links: &[u8],
     i: usize,
     first: usize,
@@ -453,18 +426,17 @@ fn emit_bases(
     out: &mut [u8],
     at: usize,
 ) -> usize
-    requires { ⌜ Ready (now book) (now places) (now counts) (now links) i × Room at (size (basesAt (now book) i first ruled)) ⌝ }
+    requires { ⌜ Ready (now book) (now index) (now links) i × Room at (size (basesAt (now book) i first ruled)) ⌝ }
     ensures { λ r. ⌜ Emitted (now (out .entry)) at (basesAt (now (book .entry)) i first ruled) r (now (out .exit)) ⌝ }
 {
     let p = put_last(out, at, ruled);
-    emit_around(book, places, counts, links, i, first, p - at, out, p)
+    emit_around(book, index, links, i, first, p - at, out, p)
 }
 
 // The default tree of a target of scope i.
 fn emit_tree(
     book: &[u8],
-    places: &[u16],
-    counts: &[u8],
+    index: &[u16],
     links: &[u8],
     i: usize,
     sub: u8,
@@ -472,42 +444,41 @@ fn emit_tree(
     out: &mut [u8],
     at: usize,
 ) -> usize
-    requires { ⌜ Ready (now book) (now places) (now counts) (now links) i × Room at (size (treeAt (now book) i sub variable)) ⌝ }
+    requires { ⌜ Ready (now book) (now index) (now links) i × Room at (size (treeAt (now book) i sub variable)) ⌝ }
     ensures { λ r. ⌜ Emitted (now (out .entry)) at (treeAt (now (book .entry)) i sub variable) r (now (out .exit)) ⌝ }
 {
     let slot = slot_of(Target { sub, variable });
-    let count = clause_count(book, places, counts, i);
+    let count = clause_count(book, index, i);
     let first = byte_at(links, slot) as usize;
     if byte_at(links, RULES + slot) != 255 {
-        return emit_bases(book, places, counts, links, i, first, true, out, at);
+        return emit_bases(book, index, links, i, first, true, out, at);
     }
     if count <= first {
         return put_one(out, at, 32);
     }
     let next = byte_at(links, SIBLINGS + first) as usize;
     if count <= next {
-        return emit_clause(book, places, counts, links, i, first, out, at);
+        return emit_clause(book, index, links, i, first, out, at);
     }
-    emit_bases(book, places, counts, links, i, first, false, out, at)
+    emit_bases(book, index, links, i, first, false, out, at)
 }
 
 // The step of variable x of scope i.
 fn emit_variable(
     book: &[u8],
-    places: &[u16],
-    counts: &[u8],
+    index: &[u16],
     links: &[u8],
     i: usize,
     x: u8,
     out: &mut [u8],
     at: usize,
 ) -> usize
-    requires { ⌜ Ready (now book) (now places) (now counts) (now links) i × Room at (variableSize (now book) i x) ⌝ }
+    requires { ⌜ Ready (now book) (now index) (now links) i × Room at (variableSize (now book) i x) ⌝ }
     ensures { λ r.
         ⌜ Emits (now (out .entry)) at (variablePiece (now (book .entry)) i x) (variableSize (now (book .entry)) i x) r (now (out .exit)) ⌝ }
 {
     let p = put_two(out, at, 41, x);
-    let q = emit_tree(book, places, counts, links, i, 255, x, out, p);
+    let q = emit_tree(book, index, links, i, 255, x, out, p);
     let d = q - at;
     let r = put_two(out, q, (d / 256 % 256) as u8, (d % 256) as u8);
     put_two(out, r, 44, x)
@@ -516,8 +487,7 @@ fn emit_variable(
 // The override of variable v of sub-scope k of scope i; nothing where no clause has that target.
 fn emit_override(
     book: &[u8],
-    places: &[u16],
-    counts: &[u8],
+    index: &[u16],
     links: &[u8],
     i: usize,
     k: u8,
@@ -525,39 +495,38 @@ fn emit_override(
     out: &mut [u8],
     at: usize,
 ) -> usize
-    requires { ⌜ Ready (now book) (now places) (now counts) (now links) i × Room at (overrideSize (now book) i k v) ⌝ }
+    requires { ⌜ Ready (now book) (now index) (now links) i × Room at (overrideSize (now book) i k v) ⌝ }
     ensures { λ r.
         ⌜ Emits (now (out .entry)) at (overridePiece (now (book .entry)) i k v) (overrideSize (now (book .entry)) i k v) r (now (out .exit)) ⌝ }
 {
-    if !has_clause(book, places, counts, links, i, k, v) {
+    if !has_clause(book, index, links, i, k, v) {
         return at;
     }
     let p = put_two(out, at, k, v);
     let q = put_one(out, p, 42);
-    emit_tree(book, places, counts, links, i, k, v, out, q)
+    emit_tree(book, index, links, i, k, v, out, q)
 }
 
 // The step of the call of sub-scope k of scope i.
 fn emit_call(
     book: &[u8],
-    places: &[u16],
-    counts: &[u8],
+    index: &[u16],
     links: &[u8],
     i: usize,
     k: usize,
     out: &mut [u8],
     at: usize,
 ) -> usize
-    requires { ⌜ Ready (now book) (now places) (now counts) (now links) i × (k < length (scopeAt (scopesOf (now book)) i .subScopes)) × Room at (callSize (now book) i k) ⌝ }
+    requires { ⌜ Ready (now book) (now index) (now links) i × (k < length (scopeAt (scopesOf (now book)) i .subScopes)) × Room at (callSize (now book) i k) ⌝ }
     ensures { λ r.
         ⌜ Emits (now (out .entry)) at (callPiece (now (book .entry)) i k) (callSize (now (book .entry)) i k) r (now (out .exit)) ⌝ }
 {
-    let j = sub_scope_at(book, places, counts, i, k);
-    let mut v = variable_count(book, places, counts, j);
+    let j = sub_scope_at(book, index, i, k);
+    let mut v = variable_count(book, index, j);
     let mut p = put_two(out, at, 43, k as u8);
     while 0 < v {
         v -= 1;
-        p = emit_override(book, places, counts, links, i, k as u8, v as u8, out, p);
+        p = emit_override(book, index, links, i, k as u8, v as u8, out, p);
     }
     p
 }
@@ -565,46 +534,44 @@ fn emit_call(
 // A step of scope i, by its number.
 fn emit_step(
     book: &[u8],
-    places: &[u16],
-    counts: &[u8],
+    index: &[u16],
     links: &[u8],
     i: usize,
     x: usize,
     out: &mut [u8],
     at: usize,
 ) -> usize
-    requires { ⌜ Ready (now book) (now places) (now counts) (now links) i × (x < stepCount (scopeAt (scopesOf (now book)) i)) × Room at (stepSize (now book) i x) ⌝ }
+    requires { ⌜ Ready (now book) (now index) (now links) i × (x < stepCount (scopeAt (scopesOf (now book)) i)) × Room at (stepSize (now book) i x) ⌝ }
     ensures { λ r.
         ⌜ Emits (now (out .entry)) at (stepPiece (now (book .entry)) i x) (stepSize (now (book .entry)) i x) r (now (out .exit)) ⌝ }
 {
-    let variables = variable_count(book, places, counts, i);
+    let variables = variable_count(book, index, i);
     if x < variables {
-        emit_variable(book, places, counts, links, i, x as u8, out, at)
+        emit_variable(book, index, links, i, x as u8, out, at)
     } else {
-        emit_call(book, places, counts, links, i, x - variables, out, at)
+        emit_call(book, index, links, i, x - variables, out, at)
     }
 }
 
 // The steps of scope i, in their order.
 fn emit_steps(
     book: &[u8],
-    places: &[u16],
-    counts: &[u8],
+    index: &[u16],
     links: &[u8],
     orders: &[u8],
     i: usize,
     out: &mut [u8],
     at: usize,
 ) -> usize
-    requires { ⌜ Ready (now book) (now places) (now counts) (now links) i × Ordered (now book) (now orders) i × Room at (stepsSize (now book) i) ⌝ }
+    requires { ⌜ Ready (now book) (now index) (now links) i × Ordered (now book) (now orders) i × Room at (stepsSize (now book) i) ⌝ }
     ensures { λ r. ⌜ Emits (now (out .entry)) at (stepsPiece (now (book .entry)) i) (stepsSize (now (book .entry)) i) r (now (out .exit)) ⌝ }
 {
-    let mut n = variable_count(book, places, counts, i) + sub_scope_count(book, places, counts, i);
+    let mut n = variable_count(book, index, i) + sub_scope_count(book, index, i);
     let mut p = at;
     while 0 < n {
         n -= 1;
         let x = byte_at(orders, i * STEPS + n) as usize;
-        p = emit_step(book, places, counts, links, i, x, out, p);
+        p = emit_step(book, index, links, i, x, out, p);
     }
     p
 }
@@ -620,30 +587,29 @@ fn type_byte(t: ValueType) -> u8
 }
 
 // What stands behind a kind of a block's head: for kind 2 the type of variable n of scope i, for kind 3 the scope of its sub-scope n.
-fn head_byte(book: &[u8], places: &[u16], counts: &[u8], i: usize, kind: u8, n: usize) -> u8
-    requires { ⌜ Laid (now book) (now places) (now counts) × Called (now book) i × (n < headCount (now book) i kind) ⌝ }
+fn head_byte(book: &[u8], index: &[u16], i: usize, kind: u8, n: usize) -> u8
+    requires { ⌜ Laid (now book) (now index) × Called (now book) i × (n < headCount (now book) i kind) ⌝ }
     ensures { λ r. ⌜ r ≡ headByte (now (book .entry)) i kind n ⌝ }
 {
     if kind == 2 {
-        let variable = variable_at(book, places, counts, i, n);
+        let variable = variable_at(book, index, i, n);
         let holds = variable.holds;
         return type_byte(holds);
     }
-    sub_scope_at(book, places, counts, i, n) as u8
+    sub_scope_at(book, index, i, n) as u8
 }
 
 // The variables of scope i, for kind 2, or its sub-scopes, for kind 3, of which there are so many.
 fn emit_heads(
     book: &[u8],
-    places: &[u16],
-    counts: &[u8],
+    index: &[u16],
     i: usize,
     kind: u8,
     count: usize,
     out: &mut [u8],
     at: usize,
 ) -> usize
-    requires { ⌜ Laid (now book) (now places) (now counts) × Called (now book) i × (count ≡ headCount (now book) i kind) × Room at (headsSize (now book) i kind) ⌝ }
+    requires { ⌜ Laid (now book) (now index) × Called (now book) i × (count ≡ headCount (now book) i kind) × Room at (headsSize (now book) i kind) ⌝ }
     ensures { λ r.
         ⌜ Emits (now (out .entry)) at (headsPiece (now (book .entry)) i kind) (headsSize (now (book .entry)) i kind) r (now (out .exit)) ⌝ }
 {
@@ -651,7 +617,7 @@ fn emit_heads(
     let mut p = at;
     while 0 < n {
         n -= 1;
-        let b = head_byte(book, places, counts, i, kind, n);
+        let b = head_byte(book, index, i, kind, n);
         p = put_two(out, p, kind, b);
     }
     p
@@ -660,37 +626,35 @@ fn emit_heads(
 // The block of scope i.
 fn emit_block(
     book: &[u8],
-    places: &[u16],
-    counts: &[u8],
+    index: &[u16],
     orders: &[u8],
     i: usize,
     out: &mut [u8],
     at: usize,
 ) -> usize
-    requires { ⌜ Block (now book) (now places) (now counts) (now orders) i × Room at (blockSize (now book) i) ⌝ }
+    requires { ⌜ Block (now book) (now index) (now orders) i × Room at (blockSize (now book) i) ⌝ }
     ensures { λ r. ⌜ Emits (now (out .entry)) at (blockPiece (now (book .entry)) i) (blockSize (now (book .entry)) i) r (now (out .exit)) ⌝ }
 {
-    let variables = variable_count(book, places, counts, i);
-    let subs = sub_scope_count(book, places, counts, i);
+    let variables = variable_count(book, index, i);
+    let subs = sub_scope_count(book, index, i);
     let mut links = [255u8; 834];
-    fill_links(book, places, counts, i, &mut links);
-    let p = emit_steps(book, places, counts, &links, orders, i, out, at);
-    let q = emit_heads(book, places, counts, i, 3, subs, out, p);
-    let r = emit_heads(book, places, counts, i, 2, variables, out, q);
+    fill_links(book, index, i, &mut links);
+    let p = emit_steps(book, index, &links, orders, i, out, at);
+    let q = emit_heads(book, index, i, 3, subs, out, p);
+    let r = emit_heads(book, index, i, 2, variables, out, q);
     put_two(out, r, 1, i as u8)
 }
 
 // The code of an accepted book of n scopes, at the end of memory that holds it; its length in any memory.
 pub fn emit_blocks(
     book: &[u8],
-    places: &[u16],
-    counts: &[u8],
+    index: &[u16],
     blocks: &[u8],
     orders: &[u8],
     n: usize,
     out: &mut [u8],
 ) -> usize
-    requires { ⌜ Tabled (now book) (now places) (now counts) (now blocks) (now orders) n ⌝ }
+    requires { ⌜ Tabled (now book) (now index) (now blocks) (now orders) n ⌝ }
     ensures { λ r. ⌜ Emits (now (out .entry)) 0 (bookPiece (now (book .entry))) (bookSize (now (book .entry))) r (now (out .exit)) ⌝ }
 {
     let mut m = n;
@@ -698,7 +662,7 @@ pub fn emit_blocks(
     while 0 < m {
         m -= 1;
         let i = byte_at(blocks, m) as usize;
-        p = emit_block(book, places, counts, orders, i, out, p);
+        p = emit_block(book, index, orders, i, out, p);
     }
     p
 }

@@ -119,11 +119,11 @@ fits-at (x ∷ xs) cells k h (suc v) l =
     let e : k + suc v ≡ suc k + v = omega arith in
     ap (λ (n : ℕ). valueType (held (givenAt cells n))) e ∙ fits-at xs cells (suc k) (h .1) v (omega arith)
 
-module _ {bytes places counts orders : List ℕ} {n i : ℕ} {given memory : List ℕ} (a : Asked bytes places counts orders n i given memory) where
+module _ {bytes index orders : List ℕ} {n i : ℕ} {given memory : List ℕ} (a : Asked bytes index orders n i given memory) where
   total : n ≡ length (scopesOf bytes)
   total = accepted-count bytes n (a .tabled .accepted)
 
-  pub sound : Sound bytes places counts
+  pub sound : Sound bytes index
   sound =
       record {
         laid = a .tabled .laid;
@@ -134,7 +134,7 @@ module _ {bytes places counts orders : List ℕ} {n i : ℕ} {given memory : Lis
       }
 
   -- links for n scopes at least, none of which is set
-  pub blank-links : (size : ℕ) → n * 834 ≤ size → Blanks bytes places counts n (replicate size 255)
+  pub blank-links : (size : ℕ) → n * 834 ≤ size → Blanks bytes index n (replicate size 255)
   blank-links size few =
       let long : length {A = ℕ} (replicate size 255) ≡ size = length-replicate {A = ℕ} size 255 in
       record {
@@ -146,7 +146,7 @@ module _ {bytes places counts orders : List ℕ} {n i : ℕ} {given memory : Lis
   pub all-links : n * 834 ≤ 26688
   all-links = let few = accepted-scopes bytes n (a .tabled .accepted) in omega (arith, few)
 
-  pub entry : {links own memo : List ℕ} → AllLinked bytes n links → length own ≡ 32 → Known bytes memo → Entry bytes places counts links orders i own memo
+  pub entry : {links own memo : List ℕ} → AllLinked bytes n links → length own ≡ 32 → Known bytes memo → Entry bytes index links orders i own memo
   entry linked size known =
       record {
         world = record {

@@ -7,7 +7,7 @@ use Rattle.book.specs.Decode.{scopesOf}
 use Rattle.book.specs.References.{scopeAt}
 use Rattle.book.specs.Steps.{stepCount, stepOrder}
 use Rattle.book.specs.Judge.{judge}
-use Rattle.book.specs.Tables.{Laid}
+use Rattle.index.specs.Index.{Laid}
 use Rattle.book.specs.declared.Judged.the-variants.{Accepted}
 use Rattle.lists.specs.Writing.{resultLengthAt}
 use Rattle.evaluation.specs.Types.{Fitting}
@@ -16,15 +16,15 @@ use Rattle.evaluation.specs.declared.Answer.{Answer}
 use Rattle.scopes.specs.Steps.{givensFrom, enteredAt}
 
 -- the tables of an accepted book of n scopes
-pub record Tabled (bytes places counts orders : List ℕ) (n : ℕ) : Type 0 where
+pub record Tabled (bytes index orders : List ℕ) (n : ℕ) : Type 0 where
   pub accepted : judge bytes ≡ Accepted n
-  pub laid : Laid bytes places counts
+  pub laid : Laid bytes index
   pub stepOrders : (i : ℕ) → i < length (scopesOf bytes)
       → take (stepCount (scopeAt (scopesOf bytes) i)) (drop (i * 40) orders) ≡ stepOrder (scopeAt (scopesOf bytes) i)
 
 -- scope i is there, what is given fits its variables, and its results have room
-pub record Asked (bytes places counts orders : List ℕ) (n i : ℕ) (given memory : List ℕ) : Type 0 where
-  pub tabled : Tabled bytes places counts orders n
+pub record Asked (bytes index orders : List ℕ) (n i : ℕ) (given memory : List ℕ) : Type 0 where
+  pub tabled : Tabled bytes index orders n
   pub scope : i < n
   pub fitting : Fitting (scopeAt (scopesOf bytes) i .variables) (givensFrom given 0 (length (scopeAt (scopesOf bytes) i .variables)))
   pub room : resultLengthAt (scopesOf bytes) i ≤ length memory

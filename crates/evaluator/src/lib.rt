@@ -15,8 +15,7 @@ ghost use Rattle.evaluator.specs.Service.{Tabled, Asked, Replied, Evalua
 // Runs scope i of an accepted book of n scopes with what is given, and writes the results. No link is set yet.
 fn run_in(
     book: &[u8],
-    places: &[u16],
-    counts: &[u8],
+    index: &[u16],
     orders: &[u8],
     n: usize,
     i: usize,
@@ -24,27 +23,17 @@ fn run_in(
     links: &mut [u8],
     results: &mut [u8],
 ) -> Answer
-    requires { ⌜ Asked (now book) (now places) (now counts) (now orders) n i (now given) (now results) ⌝ }
-    requires { ⌜ Blanks (now book) (now places) (now counts) n (now links) ⌝ }
+    requires { ⌜ Asked (now book) (now index) (now orders) n i (now given) (now results) ⌝ }
+    requires { ⌜ Blanks (now book) (now index) n (now links) ⌝ }
     ensures { λ r. ⌜ Replied (now (book .entry)) i (now (given .entry)) (now (results .entry)) r (now (results .exit)) ⌝ }
 {
-    fill_all_links(book, places, counts, n, links);
+    fill_all_links(book, index, n, links);
     let mut own = [0u64; 32];
     let mut memo = [0u64; 1056];
-    match enter(
-        book,
-        places,
-        counts,
-        links,
-        orders,
-        i,
-        given,
-        &mut own,
-        &mut memo,
-    ) {
+    match enter(book, index, links, orders, i, given, &mut own, &mut memo) {
         Ran::Values(count) => {
-            let length = result_length(book, places, counts, i);
-            write_results(book, places, counts, i, &own, results);
+            let length = result_length(book, index, i);
+            write_results(book, index, i, &own, results);
             Answer::Values(count, length)
         }
         Ran::Ended(c, count) => Answer::Ended(c, count),
@@ -54,76 +43,66 @@ fn run_in(
 // Runs scope i of an accepted book of n scopes with what is given, and writes the results: with few links where there are few scopes.
 fn run(
     book: &[u8],
-    places: &[u16],
-    counts: &[u8],
+    index: &[u16],
     orders: &[u8],
     n: usize,
     i: usize,
     given: &[u64],
     results: &mut [u8],
 ) -> Answer
-    requires { ⌜ Asked (now book) (now places) (now counts) (now orders) n i (now given) (now results) ⌝ }
+    requires { ⌜ Asked (now book) (now index) (now orders) n i (now given) (now results) ⌝ }
     ensures { λ r. ⌜ Replied (now (book .entry)) i (now (given .entry)) (now (results .entry)) r (now (results .exit)) ⌝ }
 {
     if n <= 1 {
         let mut row = [255u8; 834];
-        return run_in(book, places, counts, orders, n, i, given, &mut row, results);
+        return run_in(book, index, orders, n, i, given, &mut row, results);
     }
     if n <= 8 {
         let mut few = [255u8; 6672];
-        return run_in(book, places, counts, orders, n, i, given, &mut few, results);
+        return run_in(book, index, orders, n, i, given, &mut few, results);
     }
     let mut all = [255u8; 26688];
-    run_in(book, places, counts, orders, n, i, given, &mut all, results)
+    run_in(book, index, orders, n, i, given, &mut all, results)
 }
 
 // Evaluates scope i of an accepted book of n scopes.
 fn evaluate_accepted(
     book: &[u8],
-    places: &[u16],
-    counts: &[u8],
+    index: &[u16],
     orders: &[u8],
     n: usize,
     i: usize,
     inputs: &[u8],
     results: &mut [u8],
 ) -> Answer
-    requires { ⌜ Tabled (now book) (now places) (now counts) (now orders) n ⌝ }
+    requires { ⌜ Tabled (now book) (now index) (now orders) n ⌝ }
     ensures { λ r. ⌜ Evaluated (now (book .entry)) i (now (inputs .entry)) (now (results .entry)) r (now (results .exit)) ⌝ }
 {
     if n <= i {
         return Answer::Refused(Refusal::NoSuchScope);
     }
     let mut given = [0u64; 32];
-    if !read_inputs(book, places, counts, i, inputs, &mut given) {
+    if !read_inputs(book, index, i, inputs, &mut given) {
         return Answer::Refused(Refusal::BadInput);
     }
-    if results.len() < result_length(book, places, counts, i) {
+    if results.len() < result_length(book, index, i) {
         return Answer::Refused(Refusal::BufferTooSmall);
     }
-    run(book, places, counts, orders, n, i, &given, results)
+    run(book, index, orders, n, i, &given, results)
 }
 
 // Evaluates a scope of a book with an input list. The results are written only where the run ends in values.
 pub fn evaluate(book: &[u8], scope: usize, inputs: &[u8], results: &mut [u8]) -> Answer
     ensures { λ r. ⌜ Evaluated (now (book .entry)) scope (now (inputs .entry)) (now (results .entry)) r (now (results .exit)) ⌝ }
 {
-    let mut places = [0u16; 13376];
-    let mut counts = [0u8; 128];
+    let mut index = [0u16; 13504];
     let mut blocks = [0u8; 32];
     let mut weights = [0u16; 32];
     let mut orders = [0u8; 1280];
-    let judged = judge_into(
-        book,
-        &mut places,
-        &mut counts,
-        &mut blocks,
-        &mut weights,
-        &mut orders,
-    );
+    let judged = judge_into(book, &mut index, &mut blocks, &mut weights, &mut orders);
     match judged {
         Judged::Accepted(n) => {
-            evaluate_accepted(book, &places, &counts, &orders, n, scope, inputs, results)
+            evaluate_accepted(book, &index, &orders, n, scope, inputs, results)
         }
         Judged::Refused(f) => Answer::Refused(Refusal::Book(f)),
     }

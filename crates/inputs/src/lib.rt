@@ -16,7 +16,7 @@ ghost use mathlib.Core.List.{map};
 ghost use Rattle.cells.specs.Cells.{givenOf};
 ghost use Rattle.book.specs.Decode.{scopesOf};
 ghost use Rattle.book.specs.References.{scopeAt};
-ghost use Rattle.book.specs.Tables.{Laid};
+ghost use Rattle.index.specs.Index.{Laid};
 ghost use Rattle.lists.specs.Inputs.{inputLength, inputType, inputValue, isGiven, badRecord};
 ghost use Rattle.lists.specs.Reading.{malformed, typed, Reading};
 
@@ -120,20 +120,13 @@ pub fn read_by(types: &[u8], inputs: &[u8], given: &mut [u64]) -> bool
 }
 
 // Reads the inputs of scope i into cells that are unset; whether the list is good.
-pub fn read_inputs(
-    book: &[u8],
-    places: &[u16],
-    counts: &[u8],
-    i: usize,
-    inputs: &[u8],
-    given: &mut [u64],
-) -> bool
-    requires { ⌜ Laid (now book) (now places) (now counts) ⌝ }
+pub fn read_inputs(book: &[u8], index: &[u16], i: usize, inputs: &[u8], given: &mut [u64]) -> bool
+    requires { ⌜ Laid (now book) (now index) ⌝ }
     requires { ⌜ length (scopeAt (scopesOf (now book)) i .variables) ≤ 32 ⌝ }
     requires { ⌜ now given ≡ replicate 32 0 ⌝ }
     ensures { λ r. ⌜ Reading (scopeAt (scopesOf (now (book .entry))) i .variables) (now (inputs .entry)) r (now (given .exit)) ⌝ }
 {
     let mut types = [0u8; 32];
-    let n = fill_types(book, places, counts, i, &mut types);
+    let n = fill_types(book, index, i, &mut types);
     read_by(&types[..n], inputs, given)
 }

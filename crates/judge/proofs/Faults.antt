@@ -34,15 +34,15 @@ never : (f : Fault) (n : ℕ) → Refused f ≡ Accepted n → ⊥
 never f n q = let z : _≡_ {A = ℕ} 0 1 = cc in omega arith
 
 -- a refused book has no tables
-pub refused : {bytes places counts blocks weights orders : List ℕ} {expected : Judged} {f : Fault} → Refused f ≡ expected
-    → Judging bytes places counts blocks weights orders expected (Refused f)
+pub refused : {bytes index blocks weights orders : List ℕ} {expected : Judged} {f : Fault} → Refused f ≡ expected
+    → Judging bytes index blocks weights orders expected (Refused f)
 refused {f = f} e = record { answer = e; tables = λ n q. absurd (never f n q) }
 
 -- what reading the records told
-pub read-sound : {bytes places counts : List ℕ} {r : Reading} {n : ℕ} → Recorded bytes places counts r → r ≡ Complete n → SoundRecords bytes places counts n
-read-sound {n = n} x e = record { sound = sym (x .answer) ∙ ap (λ (y : Reading). scannedBy y) e; filled = x .tables n e }
+pub read-sound : {bytes index : List ℕ} {r : Reading} {n : ℕ} → Recorded bytes index r → r ≡ Complete n → SoundRecords bytes index n
+read-sound {n = n} x e = record { sound = sym (x .answer) ∙ ap (λ (y : Reading). scannedBy y) e; filled = x .laid n e }
 
-pub read-fault : {bytes places counts : List ℕ} {r : Reading} {f : Fault} → Recorded bytes places counts r → r ≡ Reading·Faulty f → scan (records bytes) ≡ Faulty f
+pub read-fault : {bytes index : List ℕ} {r : Reading} {f : Fault} → Recorded bytes index r → r ≡ Reading·Faulty f → scan (records bytes) ≡ Faulty f
 read-fault x e = sym (x .answer) ∙ ap (λ (y : Reading). scannedBy y) e
 
 -- the order that was written, where it is whole

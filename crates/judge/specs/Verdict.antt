@@ -13,7 +13,7 @@ use Rattle.book.specs.declared.Scanned.the-variants.{Sound}
 use Rattle.scan.specs.Filling.{Filled}
 use Rattle.book.specs.Scopes as scopes
 use Rattle.book.specs.Steps.{stepCount, stepOrder, dependencyCycle}
-use Rattle.book.specs.Tables.{Laid}
+use Rattle.index.specs.Index.{Laid}
 use Rattle.steps.specs.Limits.{Tabled, Scoped}
 use Rattle.book.specs.declared.Fault.the-variants.{ScopeCycle, WeightExceeded, DependencyCycle}
 use Rattle.book.specs.declared.Judged.{Judged}
@@ -21,17 +21,12 @@ use Rattle.book.specs.declared.Judged.the-variants.{Accepted, Refused}
 
 -- the tables of an accepted book: its records, the order of its blocks, the weight of each scope, and the order of each scope's steps in a
 -- row of 40
-pub record Tables (bytes places counts blocks weights orders : List ℕ) : Type 0 where
-  pub laid : Laid bytes places counts
+pub record Tables (bytes index blocks weights orders : List ℕ) : Type 0 where
+  pub laid : Laid bytes index
   pub blockOrder : take (length (scopesOf bytes)) blocks ≡ scopes.blocks (scopesOf bytes)
   pub weightOf : (i : ℕ) → i < length (scopesOf bytes) → getD weights i 0 ≡ scopes.weight (scopesOf bytes) i
   pub stepOrders : (i : ℕ) → i < length (scopesOf bytes)
       → take (stepCount (scopeAt (scopesOf bytes) i)) (drop (i * 40) orders) ≡ stepOrder (scopeAt (scopesOf bytes) i)
-
--- tables that are still empty
-pub record Fresh (places counts : List ℕ) : Type 0 where
-  pub noPlaces : places ≡ replicate 13376 0
-  pub noCounts : counts ≡ replicate 128 0
 
 -- "then 6 to 12, each over the whole book": the last three of these
 unfoldable pub orderFaults : List Scope → Judged
@@ -42,13 +37,13 @@ orderFaults book =
     (Accepted (length book))))
 
 -- what the faults from 6 on rest on: the records of the book are sound, and the tables are theirs
-pub record SoundRecords (bytes places counts : List ℕ) (n : ℕ) : Type 0 where
+pub record SoundRecords (bytes index : List ℕ) (n : ℕ) : Type 0 where
   pub sound : scan (records bytes) ≡ Sound
-  pub filled : Filled bytes places counts n
+  pub filled : Filled bytes index n
 
 -- what the last three rest on: filled tables of a book within the limits in which no number dangles
-pub record Checked (bytes places counts : List ℕ) (n : ℕ) : Type 0 where
-  pub tabled : Tabled bytes places counts
+pub record Checked (bytes index : List ℕ) (n : ℕ) : Type 0 where
+  pub tabled : Tabled bytes index
   pub scoped : Scoped bytes n
   pub sound : dangles (scopesOf bytes) ≡ false
 
@@ -59,6 +54,6 @@ pub record Room (blocks weights orders : List ℕ) : Type 0 where
   pub orderRoom : 1280 ≤ length orders
 
 -- an answer, and of an accepted book the tables
-pub record Judging (bytes places counts blocks weights orders : List ℕ) (expected r : Judged) : Type 0 where
+pub record Judging (bytes index blocks weights orders : List ℕ) (expected r : Judged) : Type 0 where
   pub answer : r ≡ expected
-  pub tables : (n : ℕ) → r ≡ Accepted n → Tables bytes places counts blocks weights orders
+  pub tables : (n : ℕ) → r ≡ Accepted n → Tables bytes index blocks weights orders

@@ -10,32 +10,32 @@ use steps::fill_steps;
 use typing::has_mismatch;
 use weights::fill_weights;
 ghost use mathlib.Core.Path.{_≡_};
+ghost use lib.ListN.{replicate};
 ghost use Rattle.book.specs.Decode.{scopesOf};
 ghost use Rattle.book.specs.Judge.{wholeBook};
 ghost use Rattle.book.specs.Judge.{judge as Judge·judge};
-ghost use Rattle.judge.specs.Verdict.{Fresh, Room, SoundRecords, Checked, Judging, orderFaults};
+ghost use Rattle.judge.specs.Verdict.{Room, SoundRecords, Checked, Judging, orderFaults};
 
 // Faults 10 to 12, over calls and steps: fills the orders and the weights.
 fn judge_orders(
     book: &[u8],
-    places: &[u16],
-    counts: &[u8],
+    index: &[u16],
     scopes: usize,
     blocks: &mut [u8],
     weights: &mut [u16],
     orders: &mut [u8],
 ) -> Judged
-    requires { ⌜ Checked (now book) (now places) (now counts) scopes × Room (now blocks) (now weights) (now orders) ⌝ }
+    requires { ⌜ Checked (now book) (now index) scopes × Room (now blocks) (now weights) (now orders) ⌝ }
     ensures { λ r.
-        ⌜ Judging (now (book .entry)) (now (places .entry)) (now (counts .entry)) (now (blocks .exit)) (now (weights .exit)) (now (orders .exit)) (orderFaults (scopesOf (now (book .entry)))) r ⌝ }
+        ⌜ Judging (now (book .entry)) (now (index .entry)) (now (blocks .exit)) (now (weights .exit)) (now (orders .exit)) (orderFaults (scopesOf (now (book .entry)))) r ⌝ }
 {
-    if block_order(book, places, counts, scopes, blocks) != scopes {
+    if block_order(book, index, scopes, blocks) != scopes {
         return Judged::Refused(Fault::ScopeCycle);
     }
-    if fill_weights(book, places, counts, blocks, scopes, weights) {
+    if fill_weights(book, index, blocks, scopes, weights) {
         return Judged::Refused(Fault::WeightExceeded);
     }
-    if fill_steps(book, places, counts, scopes, orders) {
+    if fill_steps(book, index, scopes, orders) {
         return Judged::Refused(Fault::DependencyCycle);
     }
     Judged::Accepted(scopes)
@@ -44,51 +44,49 @@ fn judge_orders(
 // Faults 6 to 12 of a book whose records are sound, each over the whole book: fills the orders and the weights.
 fn judge_whole(
     book: &[u8],
-    places: &[u16],
-    counts: &[u8],
+    index: &[u16],
     scopes: usize,
     blocks: &mut [u8],
     weights: &mut [u16],
     orders: &mut [u8],
 ) -> Judged
-    requires { ⌜ SoundRecords (now book) (now places) (now counts) scopes × Room (now blocks) (now weights) (now orders) ⌝ }
+    requires { ⌜ SoundRecords (now book) (now index) scopes × Room (now blocks) (now weights) (now orders) ⌝ }
     ensures { λ r.
-        ⌜ Judging (now (book .entry)) (now (places .entry)) (now (counts .entry)) (now (blocks .exit)) (now (weights .exit)) (now (orders .exit)) (wholeBook (scopesOf (now (book .entry)))) r ⌝ }
+        ⌜ Judging (now (book .entry)) (now (index .entry)) (now (blocks .exit)) (now (weights .exit)) (now (orders .exit)) (wholeBook (scopesOf (now (book .entry)))) r ⌝ }
 {
-    let naming = find_naming(book, places, counts, scopes);
+    let naming = find_naming(book, index, scopes);
     if naming.dangles {
         return Judged::Refused(Fault::DanglingReference);
     }
     if naming.shares {
         return Judged::Refused(Fault::SharedNode);
     }
-    if has_mismatch(book, places, counts, scopes) {
+    if has_mismatch(book, index, scopes) {
         return Judged::Refused(Fault::TypeMismatch);
     }
-    if has_mixed(book, places, counts, scopes) {
+    if has_mixed(book, index, scopes) {
         return Judged::Refused(Fault::MixedClauses);
     }
-    judge_orders(book, places, counts, scopes, blocks, weights, orders)
+    judge_orders(book, index, scopes, blocks, weights, orders)
 }
 
 // Judges a book, and fills the tables of an accepted one: they are lent empty.
 pub fn judge_into(
     book: &[u8],
-    places: &mut [u16],
-    counts: &mut [u8],
+    index: &mut [u16],
     blocks: &mut [u8],
     weights: &mut [u16],
     orders: &mut [u8],
 ) -> Judged
-    requires { ⌜ Fresh (now places) (now counts) × Room (now blocks) (now weights) (now orders) ⌝ }
+    requires { ⌜ (now index ≡ replicate 13504 0) × Room (now blocks) (now weights) (now orders) ⌝ }
     ensures { λ r.
-        ⌜ Judging (now (book .entry)) (now (places .exit)) (now (counts .exit)) (now (blocks .exit)) (now (weights .exit)) (now (orders .exit)) (Judge·judge (now (book .entry))) r ⌝ }
+        ⌜ Judging (now (book .entry)) (now (index .exit)) (now (blocks .exit)) (now (weights .exit)) (now (orders .exit)) (Judge·judge (now (book .entry))) r ⌝ }
 {
     if 32768 < book.len() {
         return Judged::Refused(Fault::LimitExceeded);
     }
-    match read_records(book, places, counts) {
-        Reading::Complete(n) => judge_whole(book, places, counts, n, blocks, weights, orders),
+    match read_records(book, index) {
+        Reading::Complete(n) => judge_whole(book, index, n, blocks, weights, orders),
         Reading::Faulty(f) => Judged::Refused(f),
     }
 }
@@ -97,17 +95,9 @@ pub fn judge_into(
 pub fn judge(book: &[u8]) -> Judged
     ensures { λ r. ⌜ r ≡ Judge·judge (now (book .entry)) ⌝ }
 {
-    let mut places = [0u16; 13376];
-    let mut counts = [0u8; 128];
+    let mut index = [0u16; 13504];
     let mut blocks = [0u8; 32];
     let mut weights = [0u16; 32];
     let mut orders = [0u8; 1280];
-    judge_into(
-        book,
-        &mut places,
-        &mut counts,
-        &mut blocks,
-        &mut weights,
-        &mut orders,
-    )
+    judge_into(book, &mut index, &mut blocks, &mut weights, &mut orders)
 }

@@ -77,8 +77,8 @@ module _ (book : List Scope) (s : Scope) (variables : (j : ℕ) → length (scop
         parent = λ n l. named-parent n (getD (s .clauses) n noClause) (parts n (getD (s .clauses) n noClause) (named-clauses book s e n l noClause) .1);
       }
 
-pub sound-chained : (bytes places counts : List ℕ) → Sound bytes places counts → (i : ℕ) → Chained (scopeAt (scopesOf bytes) i .clauses)
-sound-chained bytes places counts g i =
+pub sound-chained : (bytes index : List ℕ) → Sound bytes index → (i : ℕ) → Chained (scopeAt (scopesOf bytes) i .clauses)
+sound-chained bytes index g i =
     let book = scopesOf bytes in
     chained book (scopeAt book i) (g .variables) (g .variables i) (g .subScopes i) (g .clauses i)
     (scope-sound book (g .named) i)

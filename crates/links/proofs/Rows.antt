@@ -25,16 +25,16 @@ pub row-part : (i : ℕ) (links : List ℕ) → take (i * 834 + 834 - i * 834) (
 row-part i links = let e : i * 834 + 834 - i * 834 ≡ 834 = omega arith in ap (λ (n : ℕ). take n (drop (i * 834) links)) e
 
 -- 32 rows of nothing but 255
-pub blanks : (bytes places counts : List ℕ) → Sound bytes places counts → (scopes : ℕ) → scopes ≤ 32
-    → Blanks bytes places counts scopes (replicate 26688 255)
-blanks bytes places counts s scopes l =
+pub blanks : (bytes index : List ℕ) → Sound bytes index → (scopes : ℕ) → scopes ≤ 32
+    → Blanks bytes index scopes (replicate 26688 255)
+blanks bytes index s scopes l =
     record {
       sound = s;
       size = omega (arith, length-replicate {A = ℕ} 26688 255);
       blank = λ k h. getD-replicate {A = ℕ} 26688 k 255 0 (omega arith);
     }
 
-module _ (bytes places counts : List ℕ) (scopes : ℕ) (from : List ℕ) (b : Blanks bytes places counts scopes from) where
+module _ (bytes index : List ℕ) (scopes : ℕ) (from : List ℕ) (b : Blanks bytes index scopes from) where
   pub begin : Filling bytes scopes from from 0
   begin = record { at = omega arith; long = refl; left = refl; linked = λ j l. absurd (omega arith) }
 
@@ -50,7 +50,7 @@ module _ (bytes places counts : List ℕ) (scopes : ℕ) (from : List ℕ) (b : 
       part-long = part-room links (i * 834) (i * 834 + 834 - i * 834) (omega (arith, g .long, b .size)) width
 
       -- the part that is lent
-      pub blank : Blank bytes places counts (take (i * 834 + 834 - i * 834) (drop (i * 834) links))
+      pub blank : Blank bytes index (take (i * 834 + 834 - i * 834) (drop (i * 834) links))
       blank =
           record {
             sound = b .sound;

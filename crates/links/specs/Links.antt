@@ -13,7 +13,7 @@ use lib.Dec.{eqb, ltb}
 use Rattle.book.specs.Syntax.{isRule}
 use Rattle.book.specs.Decode.{scopesOf}
 use Rattle.book.specs.References.{scopeAt, noClause, dangles}
-use Rattle.book.specs.Tables.{Laid}
+use Rattle.index.specs.Index.{Laid}
 use Rattle.book.specs.declared.Target.{Target}
 use Rattle.book.specs.declared.Clause.{Clause}
 
@@ -68,16 +68,16 @@ pub record Room (links : List ℕ) (n : ℕ) (c : Clause) : Type 0 where
   pub head : headOf c < 417
 
 -- what links rest on: the tables are those of the book, its scopes are within the limits, and nothing in it dangles
-pub record Sound (bytes places counts : List ℕ) : Type 0 where
-  pub laid : Laid bytes places counts
+pub record Sound (bytes index : List ℕ) : Type 0 where
+  pub laid : Laid bytes index
   pub variables : (i : ℕ) → length (scopeAt (scopesOf bytes) i .variables) ≤ 32
   pub subScopes : (i : ℕ) → length (scopeAt (scopesOf bytes) i .subScopes) ≤ 8
   pub clauses : (i : ℕ) → length (scopeAt (scopesOf bytes) i .clauses) ≤ 128
   pub named : dangles (scopesOf bytes) ≡ false
 
 -- no link is set
-pub record Blank (bytes places counts links : List ℕ) : Type 0 where
-  pub sound : Sound bytes places counts
+pub record Blank (bytes index links : List ℕ) : Type 0 where
+  pub sound : Sound bytes index
   pub size : length links ≡ 834
   pub blank : (k : ℕ) → k < 834 → getD links k 0 ≡ 255
 
@@ -86,8 +86,8 @@ abbrev pub row : ℕ → List ℕ → List ℕ
 row i links = take 834 (drop (i * 834) links)
 
 -- no link of any scope is set
-pub record Blanks (bytes places counts : List ℕ) (scopes : ℕ) (links : List ℕ) : Type 0 where
-  pub sound : Sound bytes places counts
+pub record Blanks (bytes index : List ℕ) (scopes : ℕ) (links : List ℕ) : Type 0 where
+  pub sound : Sound bytes index
   pub size : scopes * 834 ≤ length links
   pub blank : (k : ℕ) → k < scopes * 834 → getD links k 0 ≡ 255
 

@@ -2,8 +2,8 @@
 use book::Clause;
 use book::Consequence;
 use book::Target;
-use tables::clause_at;
-use tables::clause_count;
+use index::clause_at;
+use index::clause_count;
 ghost use mathlib.Core.Path.{_≡_};
 ghost use Rattle.book.specs.Syntax.{isRule};
 ghost use Rattle.links.specs.Links.{slotOf, headOf, withClause, Room, Blank, Linked, Blanks, AllLinked};
@@ -72,28 +72,28 @@ fn link_clause(links: &mut [u8], n: usize, c: Clause)
 }
 
 // The links of scope i, from its last clause to its first.
-pub fn fill_links(book: &[u8], places: &[u16], counts: &[u8], i: usize, links: &mut [u8])
-    requires { ⌜ Blank (now book) (now places) (now counts) (now links) ⌝ }
+pub fn fill_links(book: &[u8], index: &[u16], i: usize, links: &mut [u8])
+    requires { ⌜ Blank (now book) (now index) (now links) ⌝ }
     ensures { λ _. ⌜ Linked (now (book .entry)) i (now (links .exit)) ⌝ }
 {
-    let mut n = clause_count(book, places, counts, i);
+    let mut n = clause_count(book, index, i);
     while 0 < n {
         n -= 1;
-        let clause = clause_at(book, places, counts, i, n);
+        let clause = clause_at(book, index, i, n);
         link_clause(links, n, clause);
     }
 }
 
 // The links of all scopes, in a row of 834 bytes for each.
-pub fn fill_all_links(book: &[u8], places: &[u16], counts: &[u8], scopes: usize, links: &mut [u8])
-    requires { ⌜ Blanks (now book) (now places) (now counts) scopes (now links) ⌝ }
+pub fn fill_all_links(book: &[u8], index: &[u16], scopes: usize, links: &mut [u8])
+    requires { ⌜ Blanks (now book) (now index) scopes (now links) ⌝ }
     ensures { λ _. ⌜ AllLinked (now (book .entry)) scopes (now (links .exit)) ⌝ }
 {
     let mut i: usize = 0;
     while i < scopes {
         let a = i * WIDTH;
         let e = a + WIDTH;
-        fill_links(book, places, counts, i, &mut links[a..e]);
+        fill_links(book, index, i, &mut links[a..e]);
         i += 1;
     }
 }

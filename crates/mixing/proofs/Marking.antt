@@ -16,7 +16,7 @@ use Rattle.book.specs.Lists.{any}
 use Rattle.book.specs.Syntax.{Scope, sameTarget, isRule}
 use Rattle.book.specs.References.{scopeAt, noClause}
 use Rattle.book.specs.Mixing.{mixedPair, mixedIn}
-use Rattle.book.specs.Tables.{clauseAt}
+use Rattle.book.specs.Positions.{clauseAt}
 use Rattle.book.specs.declared.Consequence.{Consequence}
 use Rattle.book.specs.declared.Consequence.the-variants.{Of, Fixed}
 use Rattle.mixing.specs.Marks.{slotOf, markOf, mixedAt}

@@ -16,7 +16,7 @@ use lib.Dec.{eqb, ltb}
 use borrow.Author.Tests.{eq-eqb, ne-eqb, eqb-true, ltb-true}
 use Rattle.book.specs.Syntax.{Scope, sameTarget}
 use Rattle.book.specs.References.{scopeAt, noClause, namesCalled, namesTarget, clauseNames, dangles}
-use Rattle.book.specs.Tables.{clauseAt}
+use Rattle.book.specs.Positions.{clauseAt}
 use Rattle.book.specs.declared.Target.{Target}
 use Rattle.book.specs.Limits.{Within}
 use Rattle.mixing.specs.Marks.{slotOf}

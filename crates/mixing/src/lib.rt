@@ -1,15 +1,15 @@
 // Fault 9: a rule and a definition on one target.
 use book::Consequence;
 use book::Target;
-use tables::clause_at;
-use tables::clause_count;
+use index::clause_at;
+use index::clause_count;
 ghost use mathlib.Core.Path.{_≡_};
 ghost use mathlib.Core.Bool.{false};
 ghost use lib.ListN.{length};
 ghost use Rattle.book.specs.Decode.{scopesOf};
 ghost use Rattle.book.specs.References.{dangles};
 ghost use Rattle.book.specs.Mixing.{mixes};
-ghost use Rattle.book.specs.Tables.{Laid};
+ghost use Rattle.index.specs.Index.{Laid};
 ghost use Rattle.book.specs.Limits.{Within};
 ghost use Rattle.mixing.specs.Marks.{slotOf, markOf, mixedAt};
 
@@ -37,17 +37,17 @@ fn mark_of(consequence: Consequence) -> u8
 }
 
 // Whether a rule and a definition of scope i have one target: each clause marks its target, unless it finds the other mark there.
-fn mixed_at(book: &[u8], places: &[u16], counts: &[u8], i: usize) -> bool
-    requires { ⌜ Laid (now book) (now places) (now counts) ⌝
+fn mixed_at(book: &[u8], index: &[u16], i: usize) -> bool
+    requires { ⌜ Laid (now book) (now index) ⌝
         ∗ ⌜ dangles (scopesOf (now book)) ≡ false ⌝
         ∗ ⌜ Within (scopesOf (now book)) ⌝ }
     ensures { λ r. ⌜ r ≡ mixedAt (scopesOf (now (book .entry))) i ⌝ }
 {
     let mut seen = [0u8; 288];
-    let count = clause_count(book, places, counts, i);
+    let count = clause_count(book, index, i);
     let mut n: usize = 0;
     while n < count {
-        let clause = clause_at(book, places, counts, i, n);
+        let clause = clause_at(book, index, i, n);
         let target = clause.target;
         let consequence = clause.consequence;
         let at = slot_of(target);
@@ -64,8 +64,8 @@ fn mixed_at(book: &[u8], places: &[u16], counts: &[u8], i: usize) -> bool
 }
 
 // Fault 9: whether a rule and a definition have one target in a scope of a book of so many scopes.
-pub fn has_mixed(book: &[u8], places: &[u16], counts: &[u8], scopes: usize) -> bool
-    requires { ⌜ Laid (now book) (now places) (now counts) ⌝
+pub fn has_mixed(book: &[u8], index: &[u16], scopes: usize) -> bool
+    requires { ⌜ Laid (now book) (now index) ⌝
         ∗ ⌜ scopes ≡ length (scopesOf (now book)) ⌝
         ∗ ⌜ dangles (scopesOf (now book)) ≡ false ⌝
         ∗ ⌜ Within (scopesOf (now book)) ⌝ }
@@ -73,7 +73,7 @@ pub fn has_mixed(book: &[u8], places: &[u16], counts: &[u8], scopes: usize) -> b
 {
     let mut i: usize = 0;
     while i < scopes {
-        if mixed_at(book, places, counts, i) {
+        if mixed_at(book, index, i) {
             return true;
         }
         i += 1;

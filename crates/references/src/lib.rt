@@ -3,13 +3,13 @@ use book::Clause;
 use book::Consequence;
 use book::Node;
 use book::Target;
-use tables::clause_at;
-use tables::clause_count;
-use tables::node_at;
-use tables::node_count;
-use tables::sub_scope_at;
-use tables::sub_scope_count;
-use tables::variable_count;
+use index::clause_at;
+use index::clause_count;
+use index::node_at;
+use index::node_count;
+use index::sub_scope_at;
+use index::sub_scope_count;
+use index::variable_count;
 ghost use mathlib.Core.Path.{_≡_};
 ghost use mathlib.Core.List.{[], _∷_};
 ghost use lib.ListN.{length};
@@ -18,7 +18,7 @@ ghost use Rattle.book.specs.Syntax.{sameTarget};
 ghost use Rattle.book.specs.Decode.{scopesOf};
 ghost use Rattle.book.specs.References.{scopeAt, namesCalled, namesException, nodeNames, namesTarget, clauseNames};
 ghost use Rattle.book.specs.Sharing.{unless255, operands, clauseNodes};
-ghost use Rattle.book.specs.Tables.{Laid};
+ghost use Rattle.index.specs.Index.{Laid};
 ghost use Rattle.references.specs.Dangling.{bothBelow, defaultNames, parentNames, consequenceNames, subScopeDangles, clauseDangles};
 ghost use Rattle.references.specs.Marks.{Marking, clauseNamings};
 ghost use Rattle.references.specs.Named.{NodesNamed, NamedIn, Named};
@@ -44,13 +44,13 @@ fn both_below(n: usize, a: u8, b: u8) -> bool
 }
 
 // Whether scope i has sub-scope k, and the scope that it names has variable v.
-fn names_called(book: &[u8], places: &[u16], counts: &[u8], i: usize, k: u8, v: u8) -> bool
-    requires { ⌜ Laid (now book) (now places) (now counts) ⌝ }
+fn names_called(book: &[u8], index: &[u16], i: usize, k: u8, v: u8) -> bool
+    requires { ⌜ Laid (now book) (now index) ⌝ }
     ensures { λ r. ⌜ r ≡ namesCalled (scopesOf (now (book .entry))) (scopeAt (scopesOf (now (book .entry))) i) k v ⌝ }
 {
-    if below(sub_scope_count(book, places, counts, i), k) {
-        let called = sub_scope_at(book, places, counts, i, k as usize);
-        below(variable_count(book, places, counts, called), v)
+    if below(sub_scope_count(book, index, i), k) {
+        let called = sub_scope_at(book, index, i, k as usize);
+        below(variable_count(book, index, called), v)
     } else {
         false
     }
@@ -71,15 +71,15 @@ fn default_names(n: usize, x: u8, y: u8, z: u8, j: u8, c: u8) -> bool
 }
 
 // Whether node n of scope i names only what it may.
-fn node_names(book: &[u8], places: &[u16], counts: &[u8], i: usize, n: usize, node: Node) -> bool
-    requires { ⌜ Laid (now book) (now places) (now counts) ⌝ }
+fn node_names(book: &[u8], index: &[u16], i: usize, n: usize, node: Node) -> bool
+    requires { ⌜ Laid (now book) (now index) ⌝ }
     ensures { λ r. ⌜ r ≡ nodeNames (scopesOf (now (book .entry))) (scopeAt (scopesOf (now (book .entry))) i) n node ⌝ }
 {
     match node {
         Node::Constant(_) => true,
         Node::Number(_) => true,
-        Node::Own(v) => below(variable_count(book, places, counts, i), v),
-        Node::Called(k, v) => names_called(book, places, counts, i, k, v),
+        Node::Own(v) => below(variable_count(book, index, i), v),
+        Node::Called(k, v) => names_called(book, index, i, k, v),
         Node::Empty(_) => true,
         Node::Conflict(_) => true,
         Node::Unary(_, a) => below(n, a),
@@ -97,36 +97,28 @@ fn same_target(a: Target, b: Target) -> bool
 }
 
 // Whether a target is a variable of scope i or of one of its sub-scopes.
-fn names_target(book: &[u8], places: &[u16], counts: &[u8], i: usize, target: Target) -> bool
-    requires { ⌜ Laid (now book) (now places) (now counts) ⌝ }
+fn names_target(book: &[u8], index: &[u16], i: usize, target: Target) -> bool
+    requires { ⌜ Laid (now book) (now index) ⌝ }
     ensures { λ r. ⌜ r ≡ namesTarget (scopesOf (now (book .entry))) (scopeAt (scopesOf (now (book .entry))) i) target ⌝ }
 {
     let sub = target.sub;
     let variable = target.variable;
     if sub == 255 {
-        below(variable_count(book, places, counts, i), variable)
+        below(variable_count(book, index, i), variable)
     } else {
-        names_called(book, places, counts, i, sub, variable)
+        names_called(book, index, i, sub, variable)
     }
 }
 
 // Whether clause n of scope i, of a target, has no parent, or parent p of lower number with the same target.
-fn names_parent(
-    book: &[u8],
-    places: &[u16],
-    counts: &[u8],
-    i: usize,
-    n: usize,
-    p: u8,
-    target: Target,
-) -> bool
-    requires { ⌜ Laid (now book) (now places) (now counts) ⌝ }
+fn names_parent(book: &[u8], index: &[u16], i: usize, n: usize, p: u8, target: Target) -> bool
+    requires { ⌜ Laid (now book) (now index) ⌝ }
     ensures { λ r. ⌜ r ≡ parentNames (scopesOf (now (book .entry))) i n p target ⌝ }
 {
     if p == 255 {
         return true;
     }
-    let parent = clause_at(book, places, counts, i, p as usize);
+    let parent = clause_at(book, index, i, p as usize);
     let other = parent.target;
     below(n, p) & same_target(other, target)
 }
@@ -142,37 +134,29 @@ fn names_consequence(nodes: usize, consequence: Consequence) -> bool
 }
 
 // Whether clause n of scope i names only what it may.
-fn clause_names(
-    book: &[u8],
-    places: &[u16],
-    counts: &[u8],
-    i: usize,
-    n: usize,
-    clause: Clause,
-) -> bool
-    requires { ⌜ Laid (now book) (now places) (now counts) ⌝ }
+fn clause_names(book: &[u8], index: &[u16], i: usize, n: usize, clause: Clause) -> bool
+    requires { ⌜ Laid (now book) (now index) ⌝ }
     ensures { λ r. ⌜ r ≡ clauseNames (scopesOf (now (book .entry))) (scopeAt (scopesOf (now (book .entry))) i) n clause ⌝ }
 {
     let target = clause.target;
     let p = clause.parent;
     let condition = clause.condition;
     let consequence = clause.consequence;
-    let nodes = node_count(book, places, counts, i);
+    let nodes = node_count(book, index, i);
     let within = none_or_below(nodes, condition) & names_consequence(nodes, consequence);
-    names_target(book, places, counts, i, target)
-        & (names_parent(book, places, counts, i, n, p, target) & within)
+    names_target(book, index, i, target) & (names_parent(book, index, i, n, p, target) & within)
 }
 
 // Whether some sub-scope of scope i names no scope.
-fn sub_scope_dangles(book: &[u8], places: &[u16], counts: &[u8], scopes: usize, i: usize) -> bool
-    requires { ⌜ Laid (now book) (now places) (now counts) ⌝ }
+fn sub_scope_dangles(book: &[u8], index: &[u16], scopes: usize, i: usize) -> bool
+    requires { ⌜ Laid (now book) (now index) ⌝ }
     requires { ⌜ scopes ≡ length (scopesOf (now book)) ⌝ }
     ensures { λ r. ⌜ r ≡ subScopeDangles (scopesOf (now (book .entry))) i ⌝ }
 {
-    let count = sub_scope_count(book, places, counts, i);
+    let count = sub_scope_count(book, index, i);
     let mut k = 0;
     while k < count {
-        if scopes <= sub_scope_at(book, places, counts, i, k) {
+        if scopes <= sub_scope_at(book, index, i, k) {
             return true;
         }
         k += 1;
@@ -181,15 +165,15 @@ fn sub_scope_dangles(book: &[u8], places: &[u16], counts: &[u8], scopes: usize, 
 }
 
 // Whether some clause of scope i names what it may not.
-fn clause_dangles(book: &[u8], places: &[u16], counts: &[u8], i: usize) -> bool
-    requires { ⌜ Laid (now book) (now places) (now counts) ⌝ }
+fn clause_dangles(book: &[u8], index: &[u16], i: usize) -> bool
+    requires { ⌜ Laid (now book) (now index) ⌝ }
     ensures { λ r. ⌜ r ≡ clauseDangles (scopesOf (now (book .entry))) i ⌝ }
 {
-    let count = clause_count(book, places, counts, i);
+    let count = clause_count(book, index, i);
     let mut n = 0;
     while n < count {
-        let clause = clause_at(book, places, counts, i, n);
-        if !clause_names(book, places, counts, i, n, clause) {
+        let clause = clause_at(book, index, i, n);
+        if !clause_names(book, index, i, n, clause) {
             return true;
         }
         n += 1;
@@ -266,22 +250,15 @@ fn mark_clause(marks: &mut [u8], twice: bool, clause: Clause) -> bool
 }
 
 // Marks what the clauses of scope i name.
-fn mark_clauses(
-    book: &[u8],
-    places: &[u16],
-    counts: &[u8],
-    i: usize,
-    marks: &mut [u8],
-    twice: bool,
-) -> bool
-    requires { ⌜ Laid (now book) (now places) (now counts) ⌝ }
+fn mark_clauses(book: &[u8], index: &[u16], i: usize, marks: &mut [u8], twice: bool) -> bool
+    requires { ⌜ Laid (now book) (now index) ⌝ }
     ensures { λ r. ⌜ Marking (clauseNamings (scopesOf (now (book .entry))) i) (now (marks .entry)) twice r (now (marks .exit)) ⌝ }
 {
-    let count = clause_count(book, places, counts, i);
+    let count = clause_count(book, index, i);
     let mut found = twice;
     let mut n = 0;
     while n < count {
-        let clause = clause_at(book, places, counts, i, n);
+        let clause = clause_at(book, index, i, n);
         found = mark_clause(marks, found, clause);
         n += 1;
     }
@@ -289,16 +266,16 @@ fn mark_clauses(
 }
 
 // Marks what the nodes of scope i name, up to the first that names what it may not.
-fn name_nodes(book: &[u8], places: &[u16], counts: &[u8], i: usize, marks: &mut [u8]) -> Naming
-    requires { ⌜ Laid (now book) (now places) (now counts) ⌝ }
+fn name_nodes(book: &[u8], index: &[u16], i: usize, marks: &mut [u8]) -> Naming
+    requires { ⌜ Laid (now book) (now index) ⌝ }
     ensures { λ r. ⌜ NodesNamed (scopesOf (now (book .entry))) i (now (marks .entry)) r (now (marks .exit)) ⌝ }
 {
-    let count = node_count(book, places, counts, i);
+    let count = node_count(book, index, i);
     let mut found = false;
     let mut n = 0;
     while n < count {
-        let node = node_at(book, places, counts, i, n);
-        if !node_names(book, places, counts, i, n, node) {
+        let node = node_at(book, index, i, n);
+        if !node_names(book, index, i, n, node) {
             return Naming {
                 dangles: true,
                 shares: false,
@@ -314,8 +291,8 @@ fn name_nodes(book: &[u8], places: &[u16], counts: &[u8], i: usize, marks: &mut 
 }
 
 // Whether something dangles in scope i; where nothing does, whether a node is named more than once.
-fn names_in(book: &[u8], places: &[u16], counts: &[u8], scopes: usize, i: usize) -> Naming
-    requires { ⌜ Laid (now book) (now places) (now counts) ⌝ }
+fn names_in(book: &[u8], index: &[u16], scopes: usize, i: usize) -> Naming
+    requires { ⌜ Laid (now book) (now index) ⌝ }
     requires { ⌜ scopes ≡ length (scopesOf (now book)) ⌝ }
     ensures { λ r. ⌜ NamedIn (scopesOf (now (book .entry))) i r ⌝ }
 {
@@ -323,35 +300,35 @@ fn names_in(book: &[u8], places: &[u16], counts: &[u8], scopes: usize, i: usize)
         dangles: true,
         shares: false,
     };
-    if sub_scope_dangles(book, places, counts, scopes, i) {
+    if sub_scope_dangles(book, index, scopes, i) {
         return wrong;
     }
     let mut marks = [0u8; 256];
-    let nodes = name_nodes(book, places, counts, i, &mut marks);
+    let nodes = name_nodes(book, index, i, &mut marks);
     if nodes.dangles {
         return wrong;
     }
-    if clause_dangles(book, places, counts, i) {
+    if clause_dangles(book, index, i) {
         return wrong;
     }
     let found = nodes.shares;
     Naming {
         dangles: false,
-        shares: mark_clauses(book, places, counts, i, &mut marks, found),
+        shares: mark_clauses(book, index, i, &mut marks, found),
     }
 }
 
 // Faults 6 and 7 of a book of so many scopes, by the tables of the book, in one pass: whether something dangles; where nothing does,
 // whether a node is named more than once.
-pub fn find_naming(book: &[u8], places: &[u16], counts: &[u8], scopes: usize) -> Naming
-    requires { ⌜ Laid (now book) (now places) (now counts) ⌝ }
+pub fn find_naming(book: &[u8], index: &[u16], scopes: usize) -> Naming
+    requires { ⌜ Laid (now book) (now index) ⌝ }
     requires { ⌜ scopes ≡ length (scopesOf (now book)) ⌝ }
     ensures { λ r. ⌜ Named (scopesOf (now (book .entry))) r ⌝ }
 {
     let mut shares = false;
     let mut i = 0;
     while i < scopes {
-        let named = names_in(book, places, counts, scopes, i);
+        let named = names_in(book, index, scopes, i);
         if named.dangles {
             return named;
         }

@@ -3,17 +3,17 @@ use book::ValueType;
 use calculus::Value;
 use cells::given_at;
 use cells::value_of;
+use index::variable_count;
 use integers::put_number;
 use signatures::fill_types;
 use slices::put_byte;
-use tables::variable_count;
 use types::type_of;
 ghost use mathlib.Core.Path.{_≡_};
 ghost use Prim.Native.Nat.{_+_, _≤_};
 ghost use lib.ListN.{length};
 ghost use Rattle.book.specs.Decode.{scopesOf};
 ghost use Rattle.book.specs.References.{scopeAt};
-ghost use Rattle.book.specs.Tables.{Laid};
+ghost use Rattle.index.specs.Index.{Laid};
 ghost use Rattle.lists.specs.Results.{resultSize, resultLength, bit, resultRecord};
 ghost use Rattle.lists.specs.Results.{results as results·of};
 ghost use Rattle.lists.specs.Reading.{typed};
@@ -44,13 +44,13 @@ pub fn length_by(types: &[u8]) -> usize
 }
 
 // The length of the results of scope i.
-pub fn result_length(book: &[u8], places: &[u16], counts: &[u8], i: usize) -> usize
-    requires { ⌜ Laid (now book) (now places) (now counts) ⌝ }
+pub fn result_length(book: &[u8], index: &[u16], i: usize) -> usize
+    requires { ⌜ Laid (now book) (now index) ⌝ }
     requires { ⌜ length (scopeAt (scopesOf (now book)) i .variables) ≤ 32 ⌝ }
     ensures { λ r. ⌜ r ≡ resultLengthAt (scopesOf (now (book .entry))) i ⌝ }
 {
     let mut types = [0u8; 32];
-    let n = fill_types(book, places, counts, i, &mut types);
+    let n = fill_types(book, index, i, &mut types);
     length_by(&types[..n])
 }
 
@@ -96,19 +96,12 @@ pub fn write_by(n: usize, own: &[u64], results: &mut [u8])
 }
 
 // Writes the results of scope i: a record for each of its variables, from the cells that hold their values.
-pub fn write_results(
-    book: &[u8],
-    places: &[u16],
-    counts: &[u8],
-    i: usize,
-    own: &[u64],
-    results: &mut [u8],
-)
-    requires { ⌜ Laid (now book) (now places) (now counts) ⌝ }
+pub fn write_results(book: &[u8], index: &[u16], i: usize, own: &[u64], results: &mut [u8])
+    requires { ⌜ Laid (now book) (now index) ⌝ }
     requires { ⌜ length (scopeAt (scopesOf (now book)) i .variables) ≤ 32 ⌝ }
     requires { ⌜ Typed (scopeAt (scopesOf (now book)) i .variables) (now own) ⌝ }
     requires { ⌜ resultLengthAt (scopesOf (now book)) i ≤ length (now results) ⌝ }
     ensures { λ _. ⌜ now (results .exit) ≡ resultMemory (scopesOf (now (book .entry))) i (now (own .entry)) (now (results .entry)) ⌝ }
 {
-    write_by(variable_count(book, places, counts, i), own, results);
+    write_by(variable_count(book, index, i), own, results);
 }

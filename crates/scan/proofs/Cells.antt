@@ -1,57 +1,74 @@
--- Tables of 32 rows of w cells in one list, and what a store does to them. The table of counts has rows of 4, that of places rows of 418.
+-- The columns of an index, and what storing a record does to them.
+--     column-zero                 an index that is still empty
+--     stored-other                a column that is neither the record's own nor its sort's count
+--     count-own, place-own        these two
 -- Assumes nothing.
 use Prim.Native.Nat.{ℕ, _+_, _*_, _<_}
-use mathlib.Core.Path.{_≡_, refl}
+use mathlib.Core.Path.{_≡_, refl, _∙_}
 use mathlib.Core.Bool.{Bool, true, false, cond, _&&_}
 use mathlib.Core.List.{List}
 use native.Mathlib.Omega.{arith}
-use lib.ListN.{length, getD, set, replicate}
+use lib.ListN.{length, getD, set, replicate, length-set}
 use lib.Seq.{getD-set-same, getD-set-other}
 use lib.Dec.{ltb}
 use borrow.Author.Tests.{ltb-true, lt-ltb}
 use Rattle.order.proofs.Matrix.{zeros}
-use Rattle.book.specs.Tables.{countAt, placeAt}
+use Rattle.index.specs.Index.{indexAt}
+use Rattle.book.proofs.Sorts.{Sort, number, base, limit, number-below, base-below, base-above}
 
-unfoldable pub cellAt : ℕ → List ℕ → ℕ → ℕ → ℕ
-cellAt w xs i k = cond (ltb i 32 && ltb k w) (getD xs (i * w + k) 0) 0
+-- no two columns are at one place
+apart : (i k i' k' : ℕ) → k < 422 → k' < 422 → i * 422 + k ≡ i' * 422 + k' → (i ≡ i') × (k ≡ k')
+apart i k i' k' a b e = (omega arith, omega arith)
 
-pub count-cell : (xs : List ℕ) (i k : ℕ) → countAt xs i k ≡ cellAt 4 xs i k
-unfolding countAt cellAt
-count-cell xs i k = refl
+module _ (xs : List ℕ) (i k v : ℕ) (row : i < 32) (inside : k < 422) where
+  column-same : i * 422 + k < length xs → indexAt (set xs (i * 422 + k) v) i k ≡ v
+  unfolding indexAt
+  column-same h = rw (lt-ltb i 32 row, lt-ltb k 422 inside) (getD-set-same xs (i * 422 + k) v 0 h)
 
-pub place-cell : (xs : List ℕ) (i k : ℕ) → placeAt xs i k ≡ cellAt 418 xs i k
-unfolding placeAt cellAt
-place-cell xs i k = refl
-
--- no two cells are at one index
-abbrev pub Apart : ℕ → Type 0
-Apart w = (i k i' k' : ℕ) → k < w → k' < w → i * w + k ≡ i' * w + k' → (i ≡ i') × (k ≡ k')
-
-pub apart-counts : Apart 4
-apart-counts i k i' k' a b e = (omega arith, omega arith)
-
-pub apart-places : Apart 418
-apart-places i k i' k' a b e = (omega arith, omega arith)
-
-module _ (w : ℕ) (apart : Apart w) (xs : List ℕ) (i k v : ℕ) (row : i < 32) (column : k < w) where
-  pub cell-same : i * w + k < length xs → cellAt w (set xs (i * w + k) v) i k ≡ v
-  unfolding cellAt
-  cell-same h = rw (lt-ltb i 32 row, lt-ltb k w column) (getD-set-same xs (i * w + k) v 0 h)
-
-  pub cell-other : (i' k' : ℕ) → (i' ≡ i → k' ≡ k → ⊥) → cellAt w (set xs (i * w + k) v) i' k' ≡ cellAt w xs i' k'
-  unfolding cellAt
-  cell-other i' k' ne = go (ltb i' 32) (ltb k' w) refl
+  column-other : (i' k' : ℕ) → (i' ≡ i → k' ≡ k → ⊥) → indexAt (set xs (i * 422 + k) v) i' k' ≡ indexAt xs i' k'
+  unfolding indexAt
+  column-other i' k' ne = go (ltb i' 32) (ltb k' 422) refl
     where
-      go : (a b : Bool) → ltb k' w ≡ b → cond (a && b) (getD (set xs (i * w + k) v) (i' * w + k') 0) 0 ≡ cond (a && b) (getD xs (i' * w + k') 0) 0
+      go : (a b : Bool) → ltb k' 422 ≡ b → cond (a && b) (getD (set xs (i * 422 + k) v) (i' * 422 + k') 0) 0 ≡ cond (a && b) (getD xs (i' * 422 + k') 0) 0
       go true true e =
-          getD-set-other xs (i * w + k) (i' * w + k') v 0 (λ q. let r = apart i' k' i k (ltb-true k' w e) column q in ne (r .0) (r .1))
+          getD-set-other xs (i * 422 + k) (i' * 422 + k') v 0 (λ q. let r = apart i' k' i k (ltb-true k' 422 e) inside q in ne (r .0) (r .1))
       go true false e = refl
       go false b e = refl
 
-pub cell-zero : (w n i k : ℕ) → cellAt w (replicate {A = ℕ} n 0) i k ≡ 0
-unfolding cellAt
-cell-zero w n i k = go (ltb i 32 && ltb k w)
+pub column-zero : (n i k : ℕ) → indexAt (replicate {A = ℕ} n 0) i k ≡ 0
+unfolding indexAt
+column-zero n i k = go (ltb i 32 && ltb k 422)
   where
-    go : (b : Bool) → _≡_ {A = ℕ} (cond b (getD (replicate n 0) (i * w + k) 0) 0) 0
-    go true = zeros n (i * w + k)
+    go : (b : Bool) → _≡_ {A = ℕ} (cond b (getD (replicate n 0) (i * 422 + k) 0) 0) 0
+    go true = zeros n (i * 422 + k)
     go false = refl
+
+-- the index with one more record of a sort, the n-th of row i
+abbrev pub withRecord : List ℕ → ℕ → Sort → ℕ → ℕ → List ℕ
+withRecord xs i s n at = set (set xs (i * 422 + (base s + n)) at) (i * 422 + number s) (n + 1)
+
+module _ (xs : List ℕ) (i : ℕ) (s : Sort) (n at : ℕ) (row : i < 32) (fits : n < limit s) where
+  place-inside : base s + n < 422
+  place-inside = let b = base-below s in omega arith
+
+  count-inside : number s < 422
+  count-inside = let b = number-below s in omega arith
+
+  pub stored-other : (i' k : ℕ) → (i' ≡ i → k ≡ number s → ⊥) → (i' ≡ i → k ≡ base s + n → ⊥) → indexAt (withRecord xs i s n at) i' k ≡ indexAt xs i' k
+  stored-other i' k nc np =
+      column-other (set xs (i * 422 + (base s + n)) at) i (number s) (n + 1) row count-inside i' k nc
+      ∙ column-other xs i (base s + n) at row place-inside i' k np
+
+  pub count-own : length xs ≡ 13504 → indexAt (withRecord xs i s n at) i (number s) ≡ n + 1
+  count-own l =
+      let b = number-below s in
+      let e = length-set xs (i * 422 + (base s + n)) at in
+      column-same (set xs (i * 422 + (base s + n)) at) i (number s) (n + 1) row count-inside (omega arith)
+
+  pub place-own : length xs ≡ 13504 → indexAt (withRecord xs i s n at) i (base s + n) ≡ at
+  place-own l =
+      let b = number-below s in
+      let a = base-above s in
+      let h = place-inside in
+      column-other (set xs (i * 422 + (base s + n)) at) i (number s) (n + 1) row count-inside i (base s + n) (λ _ q. absurd (omega arith))
+      ∙ column-same xs i (base s + n) at row place-inside (omega arith)

@@ -1,4 +1,4 @@
--- The tables as they are filled, by sort and scope: the counts say how many records are placed, and what is left of the scope follows them.
+-- The index as it is filled, by sort and scope: the counts say how many records are placed, and what is left of the scope follows them.
 --     parts-start              nothing is placed
 --     parts-new, parts-turn    after a record that begins a scope, and after one of a sort
 --     count-end, placed-end    nothing is left
@@ -20,9 +20,10 @@ use Rattle.book.specs.Syntax.{Scope, emptyScope}
 use Rattle.book.specs.Records.{Met, stageOf, counted, start}
 use Rattle.book.specs.Decode.{Parsed, inFront}
 use Rattle.book.specs.References.{scopeAt}
-use Rattle.book.specs.Tables.{countAt, placeAt, Found}
-use Rattle.scan.proofs.Cells.{count-cell, place-cell, apart-counts, apart-places, cell-same, cell-other, cell-zero}
-use Rattle.book.proofs.Sorts.{Sort, number, stage, base, limit, count, Item, itemsOf, item, from, long, same-sort, number-below, base-below, bases-apart, count-new, scopes-new, scopes-turn, count-turn, items-none, begun, scopes-behind, items-turn}
+use Rattle.book.specs.Positions.{Found}
+use Rattle.index.specs.Index.{indexAt}
+use Rattle.scan.proofs.Cells.{withRecord, stored-other, count-own, place-own, column-zero}
+use Rattle.book.proofs.Sorts.{Sort, number, stage, base, limit, count, Item, itemsOf, item, from, long, same-sort, number-below, base-above, bases-apart, count-new, scopes-new, scopes-turn, count-turn, items-none, begun, scopes-behind, items-turn}
 
 -- What is left of a scope
 
@@ -83,22 +84,21 @@ rest-new p c i =
 
 -- One sort of records of one scope, of the scopes of a book
 
-pub record Part (bytes : List ℕ) (book : List Scope) (places counts : List ℕ) (t : Tally) (p : Parsed) (s : Sort) (i : ℕ) : Type 0 where
-  pub placed : (n : ℕ) (d : Item s) → n < countAt counts i (number s) → Found (from s) (long s) bytes (placeAt places i (base s + n)) (getD (itemsOf s (scopeAt book i)) n d)
-  pub left : drop (countAt counts i (number s)) (itemsOf s (scopeAt book i)) ≡ itemsOf s (rest (t .scopes) p i)
-  pub most : countAt counts i (number s) ≤ length (itemsOf s (scopeAt book i))
-  pub current : suc i ≡ t .scopes → countAt counts i (number s) ≡ count s t
-  pub later : t .scopes ≤ i → countAt counts i (number s) ≡ 0
+pub record Part (bytes : List ℕ) (book : List Scope) (index : List ℕ) (t : Tally) (p : Parsed) (s : Sort) (i : ℕ) : Type 0 where
+  pub placed : (n : ℕ) (d : Item s) → n < indexAt index i (number s) → Found (from s) (long s) bytes (indexAt index i (base s + n)) (getD (itemsOf s (scopeAt book i)) n d)
+  pub left : drop (indexAt index i (number s)) (itemsOf s (scopeAt book i)) ≡ itemsOf s (rest (t .scopes) p i)
+  pub most : indexAt index i (number s) ≤ length (itemsOf s (scopeAt book i))
+  pub current : suc i ≡ t .scopes → indexAt index i (number s) ≡ count s t
+  pub later : t .scopes ≤ i → indexAt index i (number s) ≡ 0
 
 -- all sorts and scopes
-abbrev pub Parts : List ℕ → List Scope → List ℕ → List ℕ → Tally → Parsed → Type 0
-Parts bytes book places counts t p = (s : Sort) (i : ℕ) → Part bytes book places counts t p s i
+abbrev pub Parts : List ℕ → List Scope → List ℕ → Tally → Parsed → Type 0
+Parts bytes book index t p = (s : Sort) (i : ℕ) → Part bytes book index t p s i
 
 -- nothing is placed yet
-pub parts-start : (bytes : List ℕ) (book : List Scope) (places : List ℕ) (n : ℕ) (p : Parsed) → p .scopes ≡ book
-    → Parts bytes book places (replicate n 0) start p
-parts-start bytes book places n p e s i =
-    let z : countAt (replicate n 0) i (number s) ≡ 0 = count-cell (replicate n 0) i (number s) ∙ cell-zero 4 n i (number s) in
+pub parts-start : (bytes : List ℕ) (book : List Scope) (n : ℕ) (p : Parsed) → p .scopes ≡ book → Parts bytes book (replicate n 0) start p
+parts-start bytes book n p e s i =
+    let z : indexAt (replicate n 0) i (number s) ≡ 0 = column-zero n i (number s) in
     record {
       placed = λ k d h. absurd (omega arith);
       left = rw (z, rest-start p i, e);
@@ -108,22 +108,22 @@ parts-start bytes book places n p e s i =
     }
 
 -- all is placed
-module _ (bytes : List ℕ) (book : List Scope) (places counts : List ℕ) (t : Tally) (s : Sort) (i : ℕ)
-    (part : Part bytes book places counts t (record { opened = emptyScope; scopes = [] }) s i) where
-  pub count-end : countAt counts i (number s) ≡ length (itemsOf s (scopeAt book i))
+module _ (bytes : List ℕ) (book : List Scope) (index : List ℕ) (t : Tally) (s : Sort) (i : ℕ)
+    (part : Part bytes book index t (record { opened = emptyScope; scopes = [] }) s i) where
+  pub count-end : indexAt index i (number s) ≡ length (itemsOf s (scopeAt book i))
   count-end =
-      let e : drop (countAt counts i (number s)) (itemsOf s (scopeAt book i)) ≡ [] = part .left ∙ ap (itemsOf s) (rest-end (t .scopes) i) ∙ items-none s in
+      let e : drop (indexAt index i (number s)) (itemsOf s (scopeAt book i)) ≡ [] = part .left ∙ ap (itemsOf s) (rest-end (t .scopes) i) ∙ items-none s in
       let l = ap length e in
-      let d = length-drop (countAt counts i (number s)) (itemsOf s (scopeAt book i)) in
+      let d = length-drop (indexAt index i (number s)) (itemsOf s (scopeAt book i)) in
       omega (arith, part .most)
 
-  pub placed-end : (n : ℕ) (d : Item s) → n < length (itemsOf s (scopeAt book i)) → Found (from s) (long s) bytes (placeAt places i (base s + n)) (getD (itemsOf s (scopeAt book i)) n d)
+  pub placed-end : (n : ℕ) (d : Item s) → n < length (itemsOf s (scopeAt book i)) → Found (from s) (long s) bytes (indexAt index i (base s + n)) (getD (itemsOf s (scopeAt book i)) n d)
   placed-end n d h = part .placed n d (rw count-end h)
 
 -- a record that begins a scope
-pub parts-new : (bytes : List ℕ) (book : List Scope) (places counts : List ℕ) (t : Tally) (m : Met) (p : Parsed) → stageOf m ≡ 1
-    → Parts bytes book places counts t (inFront m p) → Parts bytes book places counts (counted 1 t) p
-parts-new bytes book places counts t m p e old s i =
+pub parts-new : (bytes : List ℕ) (book : List Scope) (index : List ℕ) (t : Tally) (m : Met) (p : Parsed) → stageOf m ≡ 1
+    → Parts bytes book index t (inFront m p) → Parts bytes book index (counted 1 t) p
+parts-new bytes book index t m p e old s i =
     let q = scopes-new t in
     record {
       placed = old s i .placed;
@@ -134,41 +134,31 @@ parts-new bytes book places counts t m p e old s i =
     }
 
 -- a record of a sort, placed
-module _ (bytes : List ℕ) (book : List Scope) (places counts : List ℕ) (at : ℕ) (t : Tally) (m : Met) (p : Parsed) (s' : Sort)
+module _ (bytes : List ℕ) (book : List Scope) (index : List ℕ) (at : ℕ) (t : Tally) (m : Met) (p : Parsed) (s' : Sort)
     (e : stageOf m ≡ stage s') (says : Found (from s') (long s') bytes at (item s' m)) (j : ℕ) (here : suc j ≡ t .scopes) (row : j < 32)
-    (fits : count s' t < limit s') (lp : length places ≡ 13376) (lc : length counts ≡ 128)
+    (fits : count s' t < limit s') (size : length index ≡ 13504)
     (few : (s : Sort) (i : ℕ) → length (itemsOf s (scopeAt book i)) ≤ limit s)
-    (old : Parts bytes book places counts t (inFront m p)) where
-  abbrev newPlaces : List ℕ
-  newPlaces = set places (j * 418 + (base s' + count s' t)) at
+    (old : Parts bytes book index t (inFront m p)) where
+  abbrev new : List ℕ
+  new = withRecord index j s' (count s' t) at
 
-  abbrev newCounts : List ℕ
-  newCounts = set counts (j * 4 + number s') (count s' t + 1)
+  counted-own : indexAt new j (number s') ≡ count s' t + 1
+  counted-own = count-own index j s' (count s' t) at row fits size
 
-  counted-own : countAt newCounts j (number s') ≡ count s' t + 1
-  counted-own =
-      let b = number-below s' in
-      count-cell newCounts j (number s') ∙ cell-same 4 apart-counts counts j (number s') (count s' t + 1) row b (omega arith)
-
-  counted-other : (s : Sort) (i : ℕ) → (i ≡ j → number s ≡ number s' → ⊥) → countAt newCounts i (number s) ≡ countAt counts i (number s)
+  counted-other : (s : Sort) (i : ℕ) → (i ≡ j → number s ≡ number s' → ⊥) → indexAt new i (number s) ≡ indexAt index i (number s)
   counted-other s i ne =
-      count-cell newCounts i (number s)
-      ∙ cell-other 4 apart-counts counts j (number s') (count s' t + 1) row (number-below s') i (number s) ne
-      ∙ sym (count-cell counts i (number s))
+      let b = number-below s in
+      let a = base-above s' in
+      stored-other index j s' (count s' t) at row fits i (number s) ne (λ _ h. absurd (omega arith))
 
-  inside : base s' + count s' t < 418
-  inside = let b = base-below s' in omega arith
+  placed-own : indexAt new j (base s' + count s' t) ≡ at
+  placed-own = place-own index j s' (count s' t) at row fits size
 
-  place-own : placeAt newPlaces j (base s' + count s' t) ≡ at
-  place-own =
-      let b = inside in
-      place-cell newPlaces j (base s' + count s' t) ∙ cell-same 418 apart-places places j (base s' + count s' t) at row inside (omega arith)
-
-  place-other : (i k : ℕ) → (i ≡ j → k ≡ base s' + count s' t → ⊥) → placeAt newPlaces i k ≡ placeAt places i k
-  place-other i k ne =
-      place-cell newPlaces i k
-      ∙ cell-other 418 apart-places places j (base s' + count s' t) at row inside i k ne
-      ∙ sym (place-cell places i k)
+  placed-other : (s : Sort) (i n : ℕ) → (i ≡ j → base s + n ≡ base s' + count s' t → ⊥) → indexAt new i (base s + n) ≡ indexAt index i (base s + n)
+  placed-other s i n ne =
+      let b = number-below s' in
+      let a = base-above s in
+      stored-other index j s' (count s' t) at row fits i (base s + n) (λ _ h. absurd (omega arith)) ne
 
   -- what was left of the scope begins with this record
   left-own : drop (count s' t) (itemsOf s' (scopeAt book j)) ≡ item s' m ∷ itemsOf s' (p .opened)
@@ -198,7 +188,7 @@ module _ (bytes : List ℕ) (book : List Scope) (places counts : List ℕ) (at :
   unfolding turned
   scopes-same = scopes-turn s' t
 
-  own : Part bytes book newPlaces newCounts turned p s' j
+  own : Part bytes book new turned p s' j
   unfolding turned
   own =
       let sc = scopes-same in
@@ -211,15 +201,15 @@ module _ (bytes : List ℕ) (book : List Scope) (places counts : List ℕ) (at :
         later = λ h. absurd (omega arith);
       }
     where
-      at-own : (n : ℕ) (d : Item s') → n < count s' t + 1 → Found (from s') (long s') bytes (placeAt newPlaces j (base s' + n)) (getD (itemsOf s' (scopeAt book j)) n d)
+      at-own : (n : ℕ) (d : Item s') → n < count s' t + 1 → Found (from s') (long s') bytes (indexAt new j (base s' + n)) (getD (itemsOf s' (scopeAt book j)) n d)
       at-own n d h =
           ⊎-elim
           (λ (q : eqb n (count s' t) ≡ true).
-          rw (eqb-true n (count s' t) q, place-own, next-own d .0) says)
+          rw (eqb-true n (count s' t) q, placed-own, next-own d .0) says)
           (λ (q : eqb n (count s' t) ≡ false).
           let ne = eqb-false n (count s' t) q in
           let c = old s' j .current here in
-          rw (place-other j (base s' + n) (λ a b. ne (omega arith))) (old s' j .placed n d (omega arith)))
+          rw (placed-other s' j n (λ a b. ne (omega arith))) (old s' j .placed n d (omega arith)))
           (decide (eqb n (count s' t)))
 
   module _ (s : Sort) (i : ℕ) (ne : i ≡ j → number s ≡ number s' → ⊥) where
@@ -235,25 +225,25 @@ module _ (bytes : List ℕ) (book : List Scope) (places counts : List ℕ) (at :
         ap (itemsOf s) (rest-kept (inFront m p) i p (t .scopes) (eqb-false (suc i) (t .scopes) q) (scopes-behind s' m p e)))
         (decide (eqb (suc i) (t .scopes))))
 
-    elsewhere : (n : ℕ) → n < countAt counts i (number s) → i ≡ j → base s + n ≡ base s' + count s' t → ⊥
+    elsewhere : (n : ℕ) → n < indexAt index i (number s) → i ≡ j → base s + n ≡ base s' + count s' t → ⊥
     elsewhere n h a b =
         let f = few s i in
         bases-apart s s' (ne a) n (count s' t) (omega (arith, old s i .most)) fits b
 
-    other : Part bytes book newPlaces newCounts turned p s i
+    other : Part bytes book new turned p s i
     unfolding turned
     other =
         let same = counted-other s i ne in
         let sc = scopes-same in
         record {
-          placed = λ n d h. let h' : n < countAt counts i (number s) = omega arith in rw (place-other i (base s + n) (elsewhere n h')) (old s i .placed n d h');
+          placed = λ n d h. let h' : n < indexAt index i (number s) = omega arith in rw (placed-other s i n (elsewhere n h')) (old s i .placed n d h');
           left = rw same (old s i .left ∙ rest-same);
           most = rw same (old s i .most);
           current = λ h. same ∙ old s i .current (omega arith) ∙ sym (count-turn s s' t ∙ rw (ne-eqb (number s) (number s') (ne (omega arith))));
           later = λ h. same ∙ old s i .later (omega arith);
         }
 
-  pub parts-turn : Parts bytes book newPlaces newCounts (counted (stage s') t) p
+  pub parts-turn : Parts bytes book new (counted (stage s') t) p
   unfolding turned
   parts-turn s i =
       ⊎-elim

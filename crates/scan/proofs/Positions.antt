@@ -11,7 +11,7 @@ use Rattle.record.specs.Kinds.{shapeIn}
 use Rattle.record.specs.declared.Medium.the-variants.{Book}
 use Rattle.book.specs.declared.Tally.{Tally}
 use Rattle.book.specs.Records.{stageOf}
-use Rattle.book.specs.Tables.{variableFrom, subScopeFrom, nodeFrom, clauseFrom, nodeLength, Found}
+use Rattle.book.specs.Positions.{variableFrom, subScopeFrom, nodeFrom, clauseFrom, nodeLength, Found}
 use Rattle.scan.specs.Step.{metAt}
 use Rattle.book.proofs.Sound.{Clean}
 use Rattle.scan.proofs.Bodies.{variable-long, sub-long, clause-long, variable-body, sub-body, node-body, clause-body}

@@ -37,18 +37,18 @@ use Rattle.scan.specs.Step.{bookRecordAt, stepOf, metAt, stepAt, stepOve
 
 -- what stands at a position, as the pass takes it
 abbrev pub byRecord : List ℕ → ℕ → ℕ → List ℕ → Record → Step
-byRecord counts last scopes s End = Stop Truncated
-byRecord counts last scopes s Unknown = Stop UnknownKind
-byRecord counts last scopes s Record·Truncated = Stop Truncated
-byRecord counts last scopes s (Whole k st start n) = stepOver counts last scopes k st n (take n (drop start s))
+byRecord index last scopes s End = Stop Truncated
+byRecord index last scopes s Unknown = Stop UnknownKind
+byRecord index last scopes s Record·Truncated = Stop Truncated
+byRecord index last scopes s (Whole k st start n) = stepOver index last scopes k st n (take n (drop start s))
 
-module _ (counts : List ℕ) (last scopes : ℕ) (s : List ℕ) (k st start n : ℕ) where
+module _ (index : List ℕ) (last scopes : ℕ) (s : List ℕ) (k st start n : ℕ) where
   by-tests : (a b : Bool)
-      → byRecord counts last scopes s (pickRecord a Unknown (pickRecord b Record·Truncated (Whole k st start n)))
+      → byRecord index last scopes s (pickRecord a Unknown (pickRecord b Record·Truncated (Whole k st start n)))
       ≡ cond a (Stop UnknownKind)
       (cond b (Stop Truncated)
       (cond (not (a || follows last st)) (Stop OutOfOrder)
-      (cond (exceeds (counted st (tallyOf counts last scopes))) (Stop LimitExceeded)
+      (cond (exceeds (counted st (tallyOf index last scopes))) (Stop LimitExceeded)
       (cond (not b && invalid k (take n (drop start s))) (Stop InvalidByte)
       (Next st n)))))
   unfolding stepOver
@@ -56,27 +56,27 @@ module _ (counts : List ℕ) (last scopes : ℕ) (s : List ℕ) (k st start n : 
   by-tests false true = refl
   by-tests false false = refl
 
-pub step-record : (book : List ℕ) (at : ℕ) (counts : List ℕ) (last scopes : ℕ) → at < length book
-    → byRecord counts last scopes book (recordAt Book book at) ≡ stepAt book at (tallyOf counts last scopes)
+pub step-record : (book : List ℕ) (at : ℕ) (index : List ℕ) (last scopes : ℕ) → at < length book
+    → byRecord index last scopes book (recordAt Book book at) ≡ stepAt book at (tallyOf index last scopes)
 unfolding stepAt stepOf recordAt metAt tallyOf
-step-record book at counts last scopes h =
+step-record book at index last scopes h =
     rw (lt-ltb at (length book) h, length-drop (at + 1) book)
-    (by-tests counts last scopes book (getD book at 0) (shapeIn Book (getD book at 0) .stage) (at + 1) (shapeIn Book (getD book at 0) .length)
+    (by-tests index last scopes book (getD book at 0) (shapeIn Book (getD book at 0) .stage) (at + 1) (shapeIn Book (getD book at 0) .length)
     (eqb (shapeIn Book (getD book at 0) .stage) 0) (ltb (length book - (at + 1)) (shapeIn Book (getD book at 0) .length)))
 
 pub as-record : (book : List ℕ) (at : ℕ) (r : Record) → r ≡ bookRecordAt book at → r ≡ recordAt Book book at
 unfolding bookRecordAt
 as-record book at r e = e
 
-pub by-record : (book : List ℕ) (at : ℕ) (counts : List ℕ) (last scopes : ℕ) → at < length book → (r : Record) → r ≡ recordAt Book book at
-    → byRecord counts last scopes book r ≡ stepAt book at (tallyOf counts last scopes)
-by-record book at counts last scopes h r e = rw e (step-record book at counts last scopes h)
+pub by-record : (book : List ℕ) (at : ℕ) (index : List ℕ) (last scopes : ℕ) → at < length book → (r : Record) → r ≡ recordAt Book book at
+    → byRecord index last scopes book r ≡ stepAt book at (tallyOf index last scopes)
+by-record book at index last scopes h r e = rw e (step-record book at index last scopes h)
 
-pub whole-step : (book : List ℕ) (at : ℕ) (counts : List ℕ) (last scopes : ℕ) → at < length book → (k st start n : ℕ) → Whole k st start n ≡ recordAt Book book at
-    → (e : ℕ) → e ≡ start + n → stepOver counts last scopes k st n (take (e - start) (drop start book)) ≡ stepAt book at (tallyOf counts last scopes)
-whole-step book at counts last scopes h k st start n r e ee =
+pub whole-step : (book : List ℕ) (at : ℕ) (index : List ℕ) (last scopes : ℕ) → at < length book → (k st start n : ℕ) → Whole k st start n ≡ recordAt Book book at
+    → (e : ℕ) → e ≡ start + n → stepOver index last scopes k st n (take (e - start) (drop start book)) ≡ stepAt book at (tallyOf index last scopes)
+whole-step book at index last scopes h k st start n r e ee =
     let q : e - start ≡ n = omega arith in
-    rw q (by-record book at counts last scopes h (Whole k st start n) r)
+    rw q (by-record book at index last scopes h (Whole k st start n) r)
 
 -- a whole record ends within the book, and has a stage
 pub record Standing (book : List ℕ) (st start n : ℕ) : Type 0 where

@@ -1,4 +1,4 @@
--- Filling the tables of a book.
+-- Filling the index of a book.
 use Prim.Native.Nat.{ℕ, _+_, _-_, _*_, _≤_, _<_}
 use mathlib.Core.Path.{_≡_}
 use mathlib.Core.Bool.{cond}
@@ -10,39 +10,32 @@ use Rattle.book.specs.declared.Scanned.the-variants as scanned
 use Rattle.book.specs.Records.{records}
 use Rattle.book.specs.Decode.{scopesOf}
 use Rattle.book.specs.Judge.{scan}
-use Rattle.book.specs.Tables.{Laid}
+use Rattle.index.specs.Index.{Laid}
 use Rattle.scan.specs.Counting.{slotOf, numberOf, Counts}
 use Rattle.scan.specs.declared.Reading.{Reading}
 use Rattle.scan.specs.declared.Reading.the-variants.{Faulty, Complete}
 
--- the place of a record of a stage; a record of stage 1 has none
-unfoldable pub storedPlaces : List ℕ → List ℕ → ℕ → ℕ → ℕ → List ℕ
-storedPlaces places counts at s scopes = cond (ltb s 2) places (set places ((scopes - 1) * 418 + (slotOf s .base + numberOf counts s scopes)) at)
+-- the index with a record of a stage: where it begins, and one more of them; a record of stage 1 has no column
+unfoldable pub stored : List ℕ → ℕ → ℕ → ℕ → List ℕ
+stored index at s scopes =
+    cond (ltb s 2) index
+    (set (set index ((scopes - 1) * 422 + (slotOf s .base + numberOf index s scopes)) at) ((scopes - 1) * 422 + (s - 2)) (numberOf index s scopes + 1))
 
-unfoldable pub storedCounts : List ℕ → ℕ → ℕ → List ℕ
-storedCounts counts s scopes = cond (ltb s 2) counts (set counts ((scopes - 1) * 4 + (s - 2)) (numberOf counts s scopes + 1))
-
--- there is a place for one more record of a stage
-pub record Room (places counts : List ℕ) (at s scopes : ℕ) : Type 0 where
-  pub counted : Counts counts s scopes
-  pub placesLength : length places ≡ 13376
+-- there is a column for one more record of a stage
+pub record Room (index : List ℕ) (at s scopes : ℕ) : Type 0 where
+  pub counted : Counts index s scopes
   pub position : at < 65536
-  pub place : 2 ≤ s → slotOf s .base + numberOf counts s scopes < 418
-  pub number : 2 ≤ s → numberOf counts s scopes < 255
+  pub place : 2 ≤ s → slotOf s .base + numberOf index s scopes < 422
+  pub number : 2 ≤ s → numberOf index s scopes < 255
 
-pub record Stored (places counts : List ℕ) (at s scopes : ℕ) (places' counts' : List ℕ) : Type 0 where
-  pub placed : places' ≡ storedPlaces places counts at s scopes
-  pub counted : counts' ≡ storedCounts counts s scopes
-
--- a book that is not too long, and tables that are still empty
-pub record Blank (bytes places counts : List ℕ) : Type 0 where
+-- a book that is not too long, and an index that is still empty
+pub record Blank (bytes index : List ℕ) : Type 0 where
   pub short : length bytes ≤ 32768
-  pub noPlaces : places ≡ replicate 13376 0
-  pub noCounts : counts ≡ replicate 128 0
+  pub empty : index ≡ replicate 13504 0
 
--- the tables are those of the book, which has this many scopes
-pub record Filled (bytes places counts : List ℕ) (n : ℕ) : Type 0 where
-  pub laid : Laid bytes places counts
+-- the index is that of the book, which has this many scopes
+pub record Filled (bytes index : List ℕ) (n : ℕ) : Type 0 where
+  pub laid : Laid bytes index
   pub scopes : n ≡ length (scopesOf bytes)
 
 -- whether the records are sound
@@ -50,7 +43,7 @@ abbrev pub scannedBy : Reading → Scanned
 scannedBy (Faulty f) = scanned.Faulty f
 scannedBy (Complete n) = scanned.Sound
 
--- an answer, and of sound records the tables
-pub record Recorded (bytes places counts : List ℕ) (r : Reading) : Type 0 where
+-- an answer, and of sound records the index
+pub record Recorded (bytes index : List ℕ) (r : Reading) : Type 0 where
   pub answer : scannedBy r ≡ scan (records bytes)
-  pub tables : (n : ℕ) → r ≡ Complete n → Filled bytes places counts n
+  pub laid : (n : ℕ) → r ≡ Complete n → Filled bytes index n

@@ -37,8 +37,8 @@ stepAt bytes at t = stepOf (metAt bytes at t)
 
 -- of a whole record, the faults 3, 4 and 5
 unfoldable pub stepOver : List ℕ → ℕ → ℕ → ℕ → ℕ → ℕ → List ℕ → Step
-stepOver counts last scopes k s n body =
+stepOver index last scopes k s n body =
     cond (not (follows last s)) (Stop OutOfOrder)
-    (cond (exceeds (counted s (tallyOf counts last scopes))) (Stop LimitExceeded)
+    (cond (exceeds (counted s (tallyOf index last scopes))) (Stop LimitExceeded)
     (cond (invalid k body) (Stop InvalidByte)
     (Next s n)))

@@ -1,5 +1,10 @@
-// The pass over the records of a book: the faults 1 to 5, and the tables by which the records are found.
+// The pass over the records of a book: the faults 1 to 5, and the index by which the records are found.
 use book::Fault;
+use index::CLAUSES;
+use index::NODES;
+use index::ROW;
+use index::SUB_SCOPES;
+use index::VARIABLES;
 use record::Medium;
 use record::Record;
 use record::record_at;
@@ -10,7 +15,7 @@ ghost use Prim.Native.Nat.{_<_, _≤_};
 ghost use lib.ListN.{length};
 ghost use Rattle.scan.specs.Step.{bookRecordAt, stepAt, stepOver};
 ghost use Rattle.scan.specs.Counting.{slotOf, numberOf, scopesWith, tallyOf, Counts, Counting};
-ghost use Rattle.scan.specs.Filling.{Room, Stored, Blank, Recorded};
+ghost use Rattle.scan.specs.Filling.{Room, stored, Blank, Recorded};
 
 // A record: its first fault, or its stage and its body's length.
 enum Step {
@@ -18,7 +23,7 @@ enum Step {
     Next(usize, usize),
 }
 
-// Where the places of a stage begin in a scope, and how many records of it there may be.
+// The column of a scope's row where the positions of a stage begin, and how many records of it there may be.
 struct Slot {
     pub base: usize,
     pub limit: usize,
@@ -30,40 +35,46 @@ struct Reader<'a> {
     pub at: usize,
 }
 
-// What reading all records leaves: the first faulty one's first fault, or the tables of so many scopes.
+// What reading all records leaves: the first faulty one's first fault, or the index of so many scopes.
 pub enum Reading {
     Faulty(Fault),
     Complete(usize),
 }
 
-// The slot of a stage; stage 1 has no places.
+// The slot of a stage; stage 1 has no column.
 fn slot_of(stage: usize) -> Slot
     ensures { λ r. ⌜ r ≡ slotOf stage ⌝ }
 {
     match stage {
         1 => Slot { base: 0, limit: 32 },
-        2 => Slot { base: 0, limit: 32 },
-        3 => Slot { base: 32, limit: 8 },
+        2 => Slot {
+            base: VARIABLES,
+            limit: 32,
+        },
+        3 => Slot {
+            base: SUB_SCOPES,
+            limit: 8,
+        },
         4 => Slot {
-            base: 40,
+            base: NODES,
             limit: 250,
         },
         _ => Slot {
-            base: 290,
+            base: CLAUSES,
             limit: 128,
         },
     }
 }
 
 // How many records of a stage there are so far: scopes in the book, others in its last scope.
-fn number_of(counts: &[u8], stage: usize, scopes: usize) -> usize
-    requires { ⌜ Counts (now counts) stage scopes ⌝ }
-    ensures { λ r. ⌜ r ≡ numberOf (now (counts .entry)) stage scopes ⌝ }
+fn number_of(index: &[u16], stage: usize, scopes: usize) -> usize
+    requires { ⌜ Counts (now index) stage scopes ⌝ }
+    ensures { λ r. ⌜ r ≡ numberOf (now (index .entry)) stage scopes ⌝ }
 {
     if stage < 2 {
         return scopes;
     }
-    counts[(scopes - 1) * 4 + (stage - 2)] as usize
+    index[(scopes - 1) * ROW + (stage - 2)] as usize
 }
 
 // What stands at a position of a book.
@@ -94,9 +105,9 @@ fn read_from(book: &[u8], at: usize) -> Record
     next(open_at(book, at))
 }
 
-// A whole record after one of the stage `last`, the tables having those before it.
+// A whole record after one of the stage `last`, the index having those before it.
 fn step_over(
-    counts: &[u8],
+    index: &[u16],
     last: usize,
     scopes: usize,
     kind: u8,
@@ -104,14 +115,14 @@ fn step_over(
     length: usize,
     body: &[u8],
 ) -> Step
-    requires { ⌜ Counting (now counts) last scopes × (1 ≤ stage) × (stage ≤ 5) ⌝ }
-    ensures { λ r. ⌜ r ≡ stepOver (now (counts .entry)) last scopes kind stage length (now (body .entry)) ⌝ }
+    requires { ⌜ Counting (now index) last scopes × (1 ≤ stage) × (stage ≤ 5) ⌝ }
+    ensures { λ r. ⌜ r ≡ stepOver (now (index .entry)) last scopes kind stage length (now (body .entry)) ⌝ }
 {
     if !may_follow(last, stage) {
         return Step::Stop(Fault::OutOfOrder);
     }
     let slot = slot_of(stage);
-    if slot.limit <= number_of(counts, stage, scopes) {
+    if slot.limit <= number_of(index, stage, scopes) {
         return Step::Stop(Fault::LimitExceeded);
     }
     if is_invalid(kind, body) {
@@ -120,10 +131,10 @@ fn step_over(
     Step::Next(stage, length)
 }
 
-// The record at a position, after one of the stage `last`, the tables having those before it.
-fn step_at(book: &[u8], counts: &[u8], at: usize, last: usize, scopes: usize) -> Step
-    requires { ⌜ (at < length (now book)) × Counting (now counts) last scopes ⌝ }
-    ensures { λ r. ⌜ r ≡ stepAt (now (book .entry)) at (tallyOf (now (counts .entry)) last scopes) ⌝ }
+// The record at a position, after one of the stage `last`, the index having those before it.
+fn step_at(book: &[u8], index: &[u16], at: usize, last: usize, scopes: usize) -> Step
+    requires { ⌜ (at < length (now book)) × Counting (now index) last scopes ⌝ }
+    ensures { λ r. ⌜ r ≡ stepAt (now (book .entry)) at (tallyOf (now (index .entry)) last scopes) ⌝ }
 {
     match read_from(book, at) {
         Record::End => Step::Stop(Fault::Truncated),
@@ -131,25 +142,25 @@ fn step_at(book: &[u8], counts: &[u8], at: usize, last: usize, scopes: usize) ->
         Record::Truncated => Step::Stop(Fault::Truncated),
         Record::Whole(kind, stage, start, length) => {
             let body = &book[start..start + length];
-            step_over(counts, last, scopes, kind, stage, length, body)
+            step_over(index, last, scopes, kind, stage, length, body)
         }
     }
 }
 
-// Stores where a record of a stage begins, and that its scope has one more of them. Scopes themselves have no place.
-fn store(places: &mut [u16], counts: &mut [u8], at: usize, stage: usize, scopes: usize)
-    requires { ⌜ Room (now places) (now counts) at stage scopes ⌝ }
-    ensures { λ _. ⌜ Stored (now (places .entry)) (now (counts .entry)) at stage scopes (now (places .exit)) (now (counts .exit)) ⌝ }
+// Stores where a record of a stage begins, and that its scope has one more of them. Scopes themselves have no column.
+fn store(index: &mut [u16], at: usize, stage: usize, scopes: usize)
+    requires { ⌜ Room (now index) at stage scopes ⌝ }
+    ensures { λ _. ⌜ now (index .exit) ≡ stored (now (index .entry)) at stage scopes ⌝ }
 {
     if stage < 2 {
         return;
     }
     let slot = slot_of(stage);
     let base = slot.base;
-    let number = number_of(counts, stage, scopes);
+    let number = number_of(index, stage, scopes);
     let row = scopes - 1;
-    places[row * 418 + (base + number)] = at as u16;
-    counts[row * 4 + (stage - 2)] = (number + 1) as u8;
+    index[row * ROW + (base + number)] = at as u16;
+    index[row * ROW + (stage - 2)] = (number + 1) as u16;
 }
 
 // The number of scopes with a record of a stage.
@@ -160,21 +171,21 @@ fn scopes_with(stage: usize, scopes: usize) -> usize
     if stage == 1 { scopes + 1 } else { scopes }
 }
 
-// Reads the records of a book in one pass: the first faulty one's first fault, or the tables by which the records are found.
-pub fn read_records(book: &[u8], places: &mut [u16], counts: &mut [u8]) -> Reading
-    requires { ⌜ Blank (now book) (now places) (now counts) ⌝ }
-    ensures { λ r. ⌜ Recorded (now (book .entry)) (now (places .exit)) (now (counts .exit)) r ⌝ }
+// Reads the records of a book in one pass: the first faulty one's first fault, or the index by which the records are found.
+pub fn read_records(book: &[u8], index: &mut [u16]) -> Reading
+    requires { ⌜ Blank (now book) (now index) ⌝ }
+    ensures { λ r. ⌜ Recorded (now (book .entry)) (now (index .exit)) r ⌝ }
 {
     let mut last: usize = 0;
     let mut scopes: usize = 0;
     let mut at: usize = 0;
     while at < book.len() {
-        match step_at(book, counts, at, last, scopes) {
+        match step_at(book, index, at, last, scopes) {
             Step::Stop(f) => {
                 return Reading::Faulty(f);
             }
             Step::Next(stage, n) => {
-                store(places, counts, at, stage, scopes);
+                store(index, at, stage, scopes);
                 scopes = scopes_with(stage, scopes);
                 last = stage;
                 at = at + 1 + n;

@@ -22,7 +22,7 @@ use Rattle.book.specs.Decode.{scopesOf}
 use Rattle.book.specs.References.{scopeAt}
 use Rattle.book.specs.Scopes.{blocks}
 use Rattle.book.specs.Steps.{stepCount, stepOrder}
-use Rattle.book.specs.Tables.{subScopeAt}
+use Rattle.book.specs.Positions.{subScopeAt}
 use Rattle.acceptance.specs.Accepted.{AcceptedBook}
 use Rattle.order.proofs.Among.{among-none}
 use Rattle.order.proofs.Booleans.{decide}
@@ -81,7 +81,7 @@ place-at (x ∷ xs) w h =
 abbrev pub rank : List ℕ → ℕ → ℕ
 rank bytes i = placeOf (blocks (scopesOf bytes)) i
 
-module _ {bytes places counts links orders : List ℕ} {i : ℕ} {own₀ memo₀ : List ℕ} (e : Entry bytes places counts links orders i own₀ memo₀) where
+module _ {bytes index links orders : List ℕ} {i : ℕ} {own₀ memo₀ : List ℕ} (e : Entry bytes index links orders i own₀ memo₀) where
   abbrev book : List Scope
   book = scopesOf bytes
 
@@ -94,7 +94,7 @@ module _ {bytes places counts links orders : List ℕ} {i : ℕ} {own₀ memo₀
   pub scope-few : i < 32
   scope-few = omega (arith, e .scope, accepted .scopes)
 
-  pub row-ready : Ready bytes places counts (take 834 (drop (i * 834) links)) i
+  pub row-ready : Ready bytes index (take 834 (drop (i * 834) links)) i
   row-ready = record { sound = e .world .sound; linked = e .world .linked .rows i (e .scope) }
 
   step-at : (n : ℕ) → n < stepCount s → getD orders (i * 40 + n) 0 ≡ getD (stepOrder s) n 0
@@ -119,7 +119,7 @@ module _ {bytes places counts links orders : List ℕ} {i : ℕ} {own₀ memo₀
       subst (λ (z : ℕ). rank bytes z < rank bytes i) (sym is) (place-first (blocks book) (rank bytes i) (getD (s .subScopes) k 0) first)
 
   pub callee : (k j : ℕ) (part memo : List ℕ) → k < length (s .subScopes) → j ≡ subScopeAt book i k → length part ≡ 32 → Known bytes memo
-      → Entry bytes places counts links orders j part memo
+      → Entry bytes index links orders j part memo
   unfolding subScopeAt
   callee k j part memo l is room known =
       let f = accepted-formed bytes (length book) (e .world .accepted) in
@@ -131,7 +131,7 @@ module _ {bytes places counts links orders : List ℕ} {i : ℕ} {own₀ memo₀
       }
 
   -- what is known can be read and written
-  pub noting : {own memo : List ℕ} → length own ≡ 32 → Known bytes memo → Noting bytes places counts i own memo
+  pub noting : {own memo : List ℕ} → length own ≡ 32 → Known bytes memo → Noting bytes index i own memo
   noting room known = record { laid = e .world .sound .laid; scope = scope-few; room = room; known = known }
 
   pub begins : (given own : List ℕ) → length own ≡ 32 → Running bytes i given own (replicate 256 0) (replicate 32 0) 1 0

@@ -48,7 +48,7 @@ none-came bytes i given r own h c = record { size = c .size; same = c .same ∙ 
 
 -- Rows
 
-module _ {bytes places counts : List ℕ} {i : ℕ} {own memo : List ℕ} (n : Noting bytes places counts i own memo) where
+module _ {bytes index : List ℕ} {i : ℕ} {own memo : List ℕ} (n : Noting bytes index i own memo) where
   pub row-room : RowRoom i own memo
   row-room = record { row = n .scope; room = n .room; size = n .known .size }
 

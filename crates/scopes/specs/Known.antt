@@ -6,7 +6,7 @@ use mathlib.Core.List.{List, []}
 use lib.ListN.{length}
 use Rattle.memo.specs.Rows.{Kept}
 use Rattle.book.specs.Decode.{scopesOf}
-use Rattle.book.specs.Tables.{Laid}
+use Rattle.index.specs.Index.{Laid}
 use Rattle.scopes.specs.Steps.{World, Came}
 use Rattle.scopes.specs.declared.Ran.the-variants.{Values}
 
@@ -15,8 +15,8 @@ abbrev pub Known : List ℕ → List ℕ → Type 0
 Known bytes memo = Kept (λ i count cells. Came bytes i [] (Values count) cells) memo
 
 -- the row of scope i can be read and written
-pub record Noting (bytes places counts : List ℕ) (i : ℕ) (own memo : List ℕ) : Type 0 where
-  pub laid : Laid bytes places counts
+pub record Noting (bytes index : List ℕ) (i : ℕ) (own memo : List ℕ) : Type 0 where
+  pub laid : Laid bytes index
   pub scope : i < 32
   pub room : length own ≡ 32
   pub known : Known bytes memo
@@ -27,8 +27,8 @@ pub record Recalled (bytes : List ℕ) (i : ℕ) (given : List ℕ) (r : ℕ) (o
   pub found : (r ≡ 0 → ⊥) → Came bytes i given (Values r) own
 
 -- scope i can be entered
-pub record Entry (bytes places counts links orders : List ℕ) (i : ℕ) (own memo : List ℕ) : Type 0 where
-  pub world : World bytes places counts links orders
+pub record Entry (bytes index links orders : List ℕ) (i : ℕ) (own memo : List ℕ) : Type 0 where
+  pub world : World bytes index links orders
   pub scope : i < length (scopesOf bytes)
   pub room : length own ≡ 32
   pub known : Known bytes memo

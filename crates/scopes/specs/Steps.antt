@@ -40,8 +40,8 @@ pub record Stored (before : List ℕ) (at : ℕ) (v : Value) (after : List ℕ) 
   pub there : (x : ℕ) → (x ≡ at → ⊥) → givenAt after x ≡ givenAt before x
 
 -- a tree of scope i can be evaluated, and variable v has a cell
-pub record Filling (bytes places counts links : List ℕ) (i : ℕ) (cells : List ℕ) (v : ℕ) : Type 0 where
-  pub ready : Ready bytes places counts links i
+pub record Filling (bytes index links : List ℕ) (i : ℕ) (cells : List ℕ) (v : ℕ) : Type 0 where
+  pub ready : Ready bytes index links i
   pub room : v < length cells
 
 -- a value is in a cell; where there is none, the cells are as they were
@@ -108,8 +108,8 @@ abbrev pub overView : Outcome → List Given → Over
 overView (Gives v) gs = all gs
 overView (Ends c) gs = stopped c
 
-pub record HandsAll (bytes places counts links : List ℕ) (i k : ℕ) (handed : List ℕ) : Type 0 where
-  pub ready : Ready bytes places counts links i
+pub record HandsAll (bytes index links : List ℕ) (i k : ℕ) (handed : List ℕ) : Type 0 where
+  pub ready : Ready bytes index links i
   pub number : k < 8
   pub room : length handed ≡ 32
 
@@ -119,9 +119,9 @@ pub record HandedAll (bytes own called : List ℕ) (i k : ℕ) (r : Outcome) (ha
       ≡ overAll (envOf own called) (scopeAt (scopesOf bytes) i) k 0 (calledCount (scopesOf bytes) i k)
 
 -- the tables that a run rests on
-pub record World (bytes places counts links orders : List ℕ) : Type 0 where
+pub record World (bytes index links orders : List ℕ) : Type 0 where
   pub accepted : judge bytes ≡ Accepted (length (scopesOf bytes))
-  pub sound : Sound bytes places counts
+  pub sound : Sound bytes index
   pub linked : AllLinked bytes (length (scopesOf bytes)) links
   pub stepOrders : (i : ℕ) → i < length (scopesOf bytes)
       → take (stepCount (scopeAt (scopesOf bytes) i)) (drop (i * 40) orders) ≡ stepOrder (scopeAt (scopesOf bytes) i)

@@ -5,14 +5,14 @@ use calculus::Outcome;
 use calculus::Value;
 use cells::cell_of;
 use cells::given_at;
+use index::sub_scope_at;
+use index::sub_scope_count;
+use index::variable_count;
 use memo::none_given;
 use memo::recall;
 use memo::remember;
 use slices::byte_at;
 use slices::part_of;
-use tables::sub_scope_at;
-use tables::sub_scope_count;
-use tables::variable_count;
 use trees::eval_tree;
 use trees::has_clause;
 ghost use mathlib.Core.Path.{_≡_};
@@ -47,8 +47,7 @@ fn put_cell(cells: &mut [u64], at: usize, v: Value)
 // The value of own variable x of scope i: what is given, or what its default tree comes to.
 fn step_value(
     book: &[u8],
-    places: &[u16],
-    counts: &[u8],
+    index: &[u16],
     links: &[u8],
     given: &[u64],
     own: &[u64],
@@ -56,12 +55,12 @@ fn step_value(
     i: usize,
     x: u8,
 ) -> Outcome
-    requires { ⌜ Ready (now book) (now places) (now counts) (now links) i ⌝ }
+    requires { ⌜ Ready (now book) (now index) (now links) i ⌝ }
     ensures { λ r. ⌜ r ≡ stepOutcome (now (book .entry)) (now (given .entry)) (now (own .entry)) (now (called .entry)) i x ⌝ }
 {
     let g = given_at(given, x as usize);
     match g {
-        Given::Absent => eval_tree(book, places, counts, links, own, called, i, 255, x),
+        Given::Absent => eval_tree(book, index, links, own, called, i, 255, x),
         Given::Present(v) => Outcome::Gives(v),
     }
 }
@@ -69,8 +68,7 @@ fn step_value(
 // Sets own variable x of scope i to the value of its step. The cause where it has none.
 fn set_variable(
     book: &[u8],
-    places: &[u16],
-    counts: &[u8],
+    index: &[u16],
     links: &[u8],
     given: &[u64],
     own: &mut [u64],
@@ -78,11 +76,11 @@ fn set_variable(
     i: usize,
     x: u8,
 ) -> Outcome
-    requires { ⌜ Filling (now book) (now places) (now counts) (now links) i (now own) x ⌝ }
+    requires { ⌜ Filling (now book) (now index) (now links) i (now own) x ⌝ }
     ensures { λ r.
         ⌜ Assigned (now (book .entry)) (now (given .entry)) (now (own .entry)) (now (called .entry)) i x r (now (own .exit)) ⌝ }
 {
-    let o = step_value(book, places, counts, links, given, own, called, i, x);
+    let o = step_value(book, index, links, given, own, called, i, x);
     match o {
         Outcome::Gives(v) => {
             put_cell(own, x as usize, v);
@@ -96,8 +94,7 @@ fn set_variable(
 // tree has no value.
 fn hand_one(
     book: &[u8],
-    places: &[u16],
-    counts: &[u8],
+    index: &[u16],
     links: &[u8],
     own: &[u64],
     called: &[u64],
@@ -106,15 +103,15 @@ fn hand_one(
     v: u8,
     handed: &mut [u64],
 ) -> Outcome
-    requires { ⌜ Filling (now book) (now places) (now counts) (now links) i (now handed) v ⌝ }
+    requires { ⌜ Filling (now book) (now index) (now links) i (now handed) v ⌝ }
     ensures { λ r.
         ⌜ HandedOne (now (book .entry)) (now (own .entry)) (now (called .entry)) i k v (now (handed .entry)) r (now (handed .exit)) ⌝ }
 {
-    if !has_clause(book, places, counts, links, i, k, v) {
+    if !has_clause(book, index, links, i, k, v) {
         handed[v as usize] = 0;
         return Outcome::Gives(Value::Truth(true));
     }
-    let o = eval_tree(book, places, counts, links, own, called, i, k, v);
+    let o = eval_tree(book, index, links, own, called, i, k, v);
     match o {
         Outcome::Gives(y) => {
             put_cell(handed, v as usize, y);
@@ -127,8 +124,7 @@ fn hand_one(
 // Hands over the variables of sub-scope k of scope i in their order, up to the first whose override tree has no value.
 fn hand_over(
     book: &[u8],
-    places: &[u16],
-    counts: &[u8],
+    index: &[u16],
     links: &[u8],
     own: &[u64],
     called: &[u64],
@@ -136,26 +132,15 @@ fn hand_over(
     k: usize,
     handed: &mut [u64],
 ) -> Outcome
-    requires { ⌜ HandsAll (now book) (now places) (now counts) (now links) i k (now handed) ⌝ }
+    requires { ⌜ HandsAll (now book) (now index) (now links) i k (now handed) ⌝ }
     ensures { λ r.
         ⌜ HandedAll (now (book .entry)) (now (own .entry)) (now (called .entry)) i k r (now (handed .exit)) ⌝ }
 {
-    let j = sub_scope_at(book, places, counts, i, k);
-    let count = variable_count(book, places, counts, j);
+    let j = sub_scope_at(book, index, i, k);
+    let count = variable_count(book, index, j);
     let mut v: usize = 0;
     while v < count {
-        let o = hand_one(
-            book,
-            places,
-            counts,
-            links,
-            own,
-            called,
-            i,
-            k as u8,
-            v as u8,
-            handed,
-        );
+        let o = hand_one(book, index, links, own, called, i, k as u8, v as u8, handed);
         match o {
             Outcome::Gives(_) => {}
             Outcome::Ends(_) => return o,
@@ -168,44 +153,41 @@ fn hand_over(
 // Where nothing is given and what scope i then comes to is known: puts its values into `own`, and the count of scopes entered; else 0.
 fn recall_scope(
     book: &[u8],
-    places: &[u16],
-    counts: &[u8],
+    index: &[u16],
     i: usize,
     given: &[u64],
     memo: &[u64],
     own: &mut [u64],
 ) -> usize
-    requires { ⌜ Noting (now book) (now places) (now counts) i (now own) (now memo) ⌝ }
+    requires { ⌜ Noting (now book) (now index) i (now own) (now memo) ⌝ }
     ensures { λ r. ⌜ Recalled (now (book .entry)) i (now (given .entry)) r (now (own .exit)) ⌝ }
 {
-    let bare = none_given(given, variable_count(book, places, counts, i));
+    let bare = none_given(given, variable_count(book, index, i));
     recall(memo, i, bare, own)
 }
 
 // Keeps what scope i came to, where nothing was given.
 fn remember_scope(
     book: &[u8],
-    places: &[u16],
-    counts: &[u8],
+    index: &[u16],
     i: usize,
     given: &[u64],
     count: usize,
     own: &[u64],
     memo: &mut [u64],
 )
-    requires { ⌜ Noting (now book) (now places) (now counts) i (now own) (now memo) ⌝ }
+    requires { ⌜ Noting (now book) (now index) i (now own) (now memo) ⌝ }
     requires { ⌜ Came (now book) i (now given) (Values count) (now own) ⌝ }
     ensures { λ _. ⌜ Known (now (book .entry)) (now (memo .exit)) ⌝ }
 {
-    let bare = none_given(given, variable_count(book, places, counts, i));
+    let bare = none_given(given, variable_count(book, index, i));
     remember(own, count, i, bare, memo);
 }
 
 // Enters scope i: runs its steps in their order, and leaves the values of its variables in `own`. What is known is not run again.
 pub fn enter(
     book: &[u8],
-    places: &[u16],
-    counts: &[u8],
+    index: &[u16],
     links: &[u8],
     orders: &[u8],
     i: usize,
@@ -213,17 +195,17 @@ pub fn enter(
     own: &mut [u64],
     memo: &mut [u64],
 ) -> Ran
-    requires { ⌜ Entry (now book) (now places) (now counts) (now links) (now orders) i (now own) (now memo) ⌝ }
+    requires { ⌜ Entry (now book) (now index) (now links) (now orders) i (now own) (now memo) ⌝ }
     ensures { λ r. ⌜ Came (now (book .entry)) i (now (given .entry)) r (now (own .exit)) ⌝ }
     ensures { λ _. ⌜ Known (now (book .entry)) (now (memo .exit)) ⌝ }
 {
-    let known = recall_scope(book, places, counts, i, given, memo, own);
+    let known = recall_scope(book, index, i, given, memo, own);
     if 0 < known {
         return Ran::Values(known);
     }
     let row = part_of(links, i * LINKS, LINKS);
-    let variables = variable_count(book, places, counts, i);
-    let steps = variables + sub_scope_count(book, places, counts, i);
+    let variables = variable_count(book, index, i);
+    let steps = variables + sub_scope_count(book, index, i);
     let mut called = [0u64; 256];
     let mut handed = [0u64; 32];
     let mut count: usize = 1;
@@ -232,25 +214,25 @@ pub fn enter(
         let x = byte_at(orders, i * STEPS + n);
         n += 1;
         if (x as usize) < variables {
-            match set_variable(book, places, counts, row, given, own, &called, i, x) {
+            match set_variable(book, index, row, given, own, &called, i, x) {
                 Outcome::Gives(_) => {}
                 Outcome::Ends(c) => return Ran::Ended(c, count),
             }
         } else {
             let k = (x as usize) - variables;
-            match hand_over(book, places, counts, row, own, &called, i, k, &mut handed) {
+            match hand_over(book, index, row, own, &called, i, k, &mut handed) {
                 Outcome::Gives(_) => {}
                 Outcome::Ends(c) => return Ran::Ended(c, count),
             }
-            let j = sub_scope_at(book, places, counts, i, k);
+            let j = sub_scope_at(book, index, i, k);
             let from = k * VARIABLES;
             let part = &mut called[from..from + VARIABLES];
-            match enter(book, places, counts, links, orders, j, &handed, part, memo) {
+            match enter(book, index, links, orders, j, &handed, part, memo) {
                 Ran::Values(m) => count += m,
                 Ran::Ended(c, m) => return Ran::Ended(c, count + m),
             }
         }
     }
-    remember_scope(book, places, counts, i, given, count, own, memo);
+    remember_scope(book, index, i, given, count, own, memo);
     Ran::Values(count)
 }

@@ -17,7 +17,7 @@ use Rattle.book.specs.Lists.{any}
 use Rattle.book.specs.Syntax.{Scope, emptyScope}
 use Rattle.book.specs.References.{scopeAt}
 use Rattle.book.specs.Scopes.{calls}
-use Rattle.book.specs.Tables.{subScopeAt}
+use Rattle.book.specs.Positions.{subScopeAt}
 use Rattle.steps.specs.Edges.{oneEdge, callEdges, Marked}
 use Rattle.order.proofs.Booleans.{decide}
 use Rattle.order.proofs.Booleans.{eqb-swap}

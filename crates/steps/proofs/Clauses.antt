@@ -16,7 +16,7 @@ use Rattle.book.specs.Syntax.{Scope}
 use Rattle.book.specs.References.{scopeAt, noClause}
 use Rattle.book.specs.Trees.{conditionTerm, consequenceTerm, termBelow, termOf}
 use Rattle.book.specs.Steps.{reads, stepOf, clauseReads, dependsOn}
-use Rattle.book.specs.Tables.{clauseAt}
+use Rattle.book.specs.Positions.{clauseAt}
 use Rattle.book.specs.declared.Consequence.{Consequence}
 use Rattle.book.specs.declared.Consequence.the-variants.{Of, Fixed}
 use Rattle.book.specs.declared.Clause.{Clause}

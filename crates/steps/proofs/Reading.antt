@@ -23,7 +23,7 @@ use Rattle.book.specs.Syntax.{Scope}
 use Rattle.book.specs.References.{scopeAt}
 use Rattle.book.specs.Trees.{exception, nodeTerm, termBelow}
 use Rattle.book.specs.Steps.{reads, readsAny}
-use Rattle.book.specs.Tables.{nodeAt}
+use Rattle.book.specs.Positions.{nodeAt}
 use Rattle.book.specs.declared.Node.{Node}
 use Rattle.book.specs.declared.Node.the-variants as node
 use Rattle.book.proofs.Node.{the-type}
@@ -165,7 +165,7 @@ module _ (book : List Scope) (i row limit n : ℕ) where
         let q = leaf (length (scopeAt book i .variables)) nd h in
         read-operands from from (q .0) (rw (q .1) (each-none (readEdges book i row n) from))
 
-pub can-mark : (bytes places counts : List ℕ) (i limit n : ℕ) (from to : List ℕ) → CanMark bytes places counts i limit from → n < limit
-    → length to ≡ length from → CanMark bytes places counts i n to
-can-mark bytes places counts i limit n from to g l e =
+pub can-mark : (bytes index : List ℕ) (i limit n : ℕ) (from to : List ℕ) → CanMark bytes index i limit from → n < limit
+    → length to ≡ length from → CanMark bytes index i n to
+can-mark bytes index i limit n from to g l e =
     record { tables = g .tables; below = omega (arith, g .below); size = e ∙ g .size }

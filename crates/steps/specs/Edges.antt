@@ -12,7 +12,7 @@ use Rattle.book.specs.References.{scopeAt}
 use Rattle.book.specs.Scopes.{calls}
 use Rattle.book.specs.Trees.{termBelow}
 use Rattle.book.specs.Steps.{reads, stepOf, clauseReads}
-use Rattle.book.specs.Tables.{clauseAt}
+use Rattle.book.specs.Positions.{clauseAt}
 use Rattle.steps.specs.Limits.{Tabled}
 use Rattle.book.specs.declared.Clause.{Clause}
 
@@ -44,7 +44,7 @@ pub record Marked (from to : List ℕ) (f : ℕ → ℕ → Bool) : Type 0 where
   pub edges : (x y : ℕ) → x < 40 → y < 40 → edgeOf to x y ≡ (edgeOf from x y || f x y)
 
 -- what marking reads rests on: the tables, a limit up to all nodes of the scope, and a matrix of 40 rows
-pub record CanMark (bytes places counts : List ℕ) (i limit : ℕ) (deps : List ℕ) : Type 0 where
-  pub tables : Tabled bytes places counts
+pub record CanMark (bytes index : List ℕ) (i limit : ℕ) (deps : List ℕ) : Type 0 where
+  pub tables : Tabled bytes index
   pub below : limit ≤ length (scopeAt (scopesOf bytes) i .nodes)
   pub size : length deps ≡ 1600

@@ -8,11 +8,11 @@ use Rattle.book.specs.Decode.{scopesOf}
 use Rattle.book.specs.References.{dangles}
 use Rattle.book.specs.Limits.{Within}
 use Rattle.book.specs.Scopes.{blocks}
-use Rattle.book.specs.Tables.{Laid}
+use Rattle.index.specs.Index.{Laid}
 
 -- the tables are those of the book, and its scopes are within the limits
-pub record Tabled (bytes places counts : List ℕ) : Type 0 where
-  pub laid : Laid bytes places counts
+pub record Tabled (bytes index : List ℕ) : Type 0 where
+  pub laid : Laid bytes index
   pub within : Within (scopesOf bytes)
 
 -- the book has that many scopes, 32 at most

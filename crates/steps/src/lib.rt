@@ -2,15 +2,15 @@
 use book::Clause;
 use book::Consequence;
 use book::Node;
+use index::clause_at;
+use index::clause_count;
+use index::node_at;
+use index::node_count;
+use index::sub_scope_at;
+use index::sub_scope_count;
+use index::variable_count;
 use order::Ordered;
 use order::fill_order;
-use tables::clause_at;
-use tables::clause_count;
-use tables::node_at;
-use tables::node_count;
-use tables::sub_scope_at;
-use tables::sub_scope_count;
-use tables::variable_count;
 ghost use mathlib.Core.Path.{_≡_};
 ghost use Prim.Native.Nat.{_+_, _≤_};
 ghost use lib.ListN.{length};
@@ -20,7 +20,7 @@ ghost use Rattle.book.specs.Decode.{scopesOf};
 ghost use Rattle.book.specs.Scopes.{calls, blocks};
 ghost use Rattle.book.specs.References.{scopeAt};
 ghost use Rattle.book.specs.Steps.{stepCount, dependsOn, stepOrder};
-ghost use Rattle.book.specs.Tables.{Laid};
+ghost use Rattle.index.specs.Index.{Laid};
 ghost use Rattle.steps.specs.Limits.{Scoped, Tabled};
 ghost use Rattle.steps.specs.Edges.{oneEdge, callEdges, readEdges, stepWith, clauseEdges, Marked, CanMark};
 ghost use Rattle.steps.specs.Answers.{Written, StepsFilled};
@@ -43,27 +43,27 @@ fn mark(deps: &mut [u8], v: usize, w: usize)
 }
 
 // Marks the scopes that scope i calls.
-fn mark_calls(book: &[u8], places: &[u16], counts: &[u8], i: usize, deps: &mut [u8])
-    requires { ⌜ Laid (now book) (now places) (now counts) × (length (now deps) ≡ 1600) ⌝ }
+fn mark_calls(book: &[u8], index: &[u16], i: usize, deps: &mut [u8])
+    requires { ⌜ Laid (now book) (now index) × (length (now deps) ≡ 1600) ⌝ }
     ensures { λ _. ⌜ Marked (now (deps .entry)) (now (deps .exit)) (callEdges (scopesOf (now (book .entry))) i) ⌝ }
 {
-    let count = sub_scope_count(book, places, counts, i);
+    let count = sub_scope_count(book, index, i);
     let mut k: usize = 0;
     while k < count {
-        let called = sub_scope_at(book, places, counts, i, k);
+        let called = sub_scope_at(book, index, i, k);
         mark(deps, i, called);
         k += 1;
     }
 }
 
 // Marks the calls of every scope.
-fn fill_calls(book: &[u8], places: &[u16], counts: &[u8], scopes: usize, deps: &mut [u8])
-    requires { ⌜ Laid (now book) (now places) (now counts) × Scoped (now book) scopes × (length (now deps) ≡ 1600) ⌝ }
+fn fill_calls(book: &[u8], index: &[u16], scopes: usize, deps: &mut [u8])
+    requires { ⌜ Laid (now book) (now index) × Scoped (now book) scopes × (length (now deps) ≡ 1600) ⌝ }
     ensures { λ _. ⌜ Marked (now (deps .entry)) (now (deps .exit)) (calls (scopesOf (now (book .entry)))) ⌝ }
 {
     let mut i: usize = 0;
     while i < scopes {
-        mark_calls(book, places, counts, i, deps);
+        mark_calls(book, index, i, deps);
         i += 1;
     }
 }
@@ -81,67 +81,60 @@ fn write_order(deps: &[u8], n: usize, out: &mut [u8]) -> usize
 
 // The order of the book's blocks, written from the first byte of `out`; no later byte changes. Answers its length: fewer than all
 // scopes exactly where there is a scope cycle.
-pub fn block_order(
-    book: &[u8],
-    places: &[u16],
-    counts: &[u8],
-    scopes: usize,
-    out: &mut [u8],
-) -> usize
-    requires { ⌜ Laid (now book) (now places) (now counts) × Scoped (now book) scopes × (32 ≤ length (now out)) ⌝ }
+pub fn block_order(book: &[u8], index: &[u16], scopes: usize, out: &mut [u8]) -> usize
+    requires { ⌜ Laid (now book) (now index) × Scoped (now book) scopes × (32 ≤ length (now out)) ⌝ }
     ensures { λ r. ⌜ Written (blocks (scopesOf (now (book .entry)))) (now (out .entry)) r (now (out .exit)) ⌝ }
 {
     let mut deps = [0u8; 1600];
-    fill_calls(book, places, counts, scopes, &mut deps);
+    fill_calls(book, index, scopes, &mut deps);
     write_order(&deps, scopes, out)
 }
 
 // The step of the call of sub-scope k of scope i.
-fn call_step(book: &[u8], places: &[u16], counts: &[u8], i: usize, k: u8) -> usize
-    requires { ⌜ Tabled (now book) (now places) (now counts) ⌝ }
+fn call_step(book: &[u8], index: &[u16], i: usize, k: u8) -> usize
+    requires { ⌜ Tabled (now book) (now index) ⌝ }
     ensures { λ r. ⌜ r ≡ length (scopeAt (scopesOf (now (book .entry))) i .variables) + k ⌝ }
 {
-    variable_count(book, places, counts, i) + k as usize
+    variable_count(book, index, i) + k as usize
 }
 
 // Marks, in a row, what node n reads, with the nodes under it. Only nodes below the limit count.
 fn mark_reads(
     book: &[u8],
-    places: &[u16],
-    counts: &[u8],
+    index: &[u16],
     i: usize,
     row: usize,
     limit: usize,
     n: u8,
     deps: &mut [u8],
 )
-    requires { ⌜ CanMark (now book) (now places) (now counts) i limit (now deps) ⌝ }
+    requires { ⌜ CanMark (now book) (now index) i limit (now deps) ⌝ }
     ensures { λ _. ⌜ Marked (now (deps .entry)) (now (deps .exit)) (readEdges (scopesOf (now (book .entry))) i row limit n) ⌝ }
 {
     let at = n as usize;
     if limit <= at {
         return;
     }
-    match node_at(book, places, counts, i, at) {
+    match node_at(book, index, i, at) {
         Node::Constant(_) | Node::Number(_) | Node::Empty(_) | Node::Conflict(_) => {}
         Node::Own(x) => mark(deps, row, x as usize),
-        Node::Called(k, _) => mark(deps, row, call_step(book, places, counts, i, k)),
-        Node::Unary(_, a) => mark_reads(book, places, counts, i, row, at, a, deps),
+        Node::Called(k, _) => mark(deps, row, call_step(book, index, i, k)),
+        Node::Unary(_, a) => mark_reads(book, index, i, row, at, a, deps),
         Node::Binary(_, a, b) => {
-            mark_reads(book, places, counts, i, row, at, a, deps);
-            mark_reads(book, places, counts, i, row, at, b, deps)
+            mark_reads(book, index, i, row, at, a, deps);
+            mark_reads(book, index, i, row, at, b, deps)
         }
         Node::Choice(c, a, b) => {
-            mark_reads(book, places, counts, i, row, at, c, deps);
-            mark_reads(book, places, counts, i, row, at, a, deps);
-            mark_reads(book, places, counts, i, row, at, b, deps)
+            mark_reads(book, index, i, row, at, c, deps);
+            mark_reads(book, index, i, row, at, a, deps);
+            mark_reads(book, index, i, row, at, b, deps)
         }
         Node::Default(x, y, z, j, c) => {
-            mark_reads(book, places, counts, i, row, at, x, deps);
-            mark_reads(book, places, counts, i, row, at, y, deps);
-            mark_reads(book, places, counts, i, row, at, z, deps);
-            mark_reads(book, places, counts, i, row, at, j, deps);
-            mark_reads(book, places, counts, i, row, at, c, deps)
+            mark_reads(book, index, i, row, at, x, deps);
+            mark_reads(book, index, i, row, at, y, deps);
+            mark_reads(book, index, i, row, at, z, deps);
+            mark_reads(book, index, i, row, at, j, deps);
+            mark_reads(book, index, i, row, at, c, deps)
         }
     }
 }
@@ -160,72 +153,66 @@ fn step_with(variables: usize, clause: Clause) -> usize
 }
 
 // Marks, in the row of its step, what clause c reads.
-fn mark_clause(book: &[u8], places: &[u16], counts: &[u8], i: usize, c: usize, deps: &mut [u8])
-    requires { ⌜ Tabled (now book) (now places) (now counts) × (length (now deps) ≡ 1600) ⌝ }
+fn mark_clause(book: &[u8], index: &[u16], i: usize, c: usize, deps: &mut [u8])
+    requires { ⌜ Tabled (now book) (now index) × (length (now deps) ≡ 1600) ⌝ }
     ensures { λ _. ⌜ Marked (now (deps .entry)) (now (deps .exit)) (clauseEdges (scopesOf (now (book .entry))) i c) ⌝ }
 {
-    let clause = clause_at(book, places, counts, i, c);
-    let variables = variable_count(book, places, counts, i);
+    let clause = clause_at(book, index, i, c);
+    let variables = variable_count(book, index, i);
     let row = step_with(variables, clause);
-    let limit = node_count(book, places, counts, i);
-    mark_reads(book, places, counts, i, row, limit, clause.condition, deps);
+    let limit = node_count(book, index, i);
+    mark_reads(book, index, i, row, limit, clause.condition, deps);
     let consequence = clause.consequence;
     match consequence {
-        Consequence::Of(n) => mark_reads(book, places, counts, i, row, limit, n, deps),
+        Consequence::Of(n) => mark_reads(book, index, i, row, limit, n, deps),
         Consequence::Fixed(_) => {}
     }
 }
 
 // Marks what every step of scope i depends on.
-fn fill_reads(book: &[u8], places: &[u16], counts: &[u8], i: usize, deps: &mut [u8])
-    requires { ⌜ Tabled (now book) (now places) (now counts) × (length (now deps) ≡ 1600) ⌝ }
+fn fill_reads(book: &[u8], index: &[u16], i: usize, deps: &mut [u8])
+    requires { ⌜ Tabled (now book) (now index) × (length (now deps) ≡ 1600) ⌝ }
     ensures { λ _. ⌜ Marked (now (deps .entry)) (now (deps .exit)) (dependsOn (scopeAt (scopesOf (now (book .entry))) i)) ⌝ }
 {
-    let count = clause_count(book, places, counts, i);
+    let count = clause_count(book, index, i);
     let mut c: usize = 0;
     while c < count {
-        mark_clause(book, places, counts, i, c, deps);
+        mark_clause(book, index, i, c, deps);
         c += 1;
     }
 }
 
 // How many steps scope i has: one for each variable and for each sub-scope.
-fn step_count(book: &[u8], places: &[u16], counts: &[u8], i: usize) -> usize
-    requires { ⌜ Tabled (now book) (now places) (now counts) ⌝ }
+fn step_count(book: &[u8], index: &[u16], i: usize) -> usize
+    requires { ⌜ Tabled (now book) (now index) ⌝ }
     ensures { λ r. ⌜ r ≡ stepCount (scopeAt (scopesOf (now (book .entry))) i) ⌝ }
 {
-    variable_count(book, places, counts, i) + sub_scope_count(book, places, counts, i)
+    variable_count(book, index, i) + sub_scope_count(book, index, i)
 }
 
 // The order of scope i's steps, written from the first byte of `out`; no later byte changes. Answers its length: fewer than all steps
 // exactly where there is a dependency cycle.
-fn step_order(book: &[u8], places: &[u16], counts: &[u8], i: usize, out: &mut [u8]) -> usize
-    requires { ⌜ Tabled (now book) (now places) (now counts) × (40 ≤ length (now out)) ⌝ }
+fn step_order(book: &[u8], index: &[u16], i: usize, out: &mut [u8]) -> usize
+    requires { ⌜ Tabled (now book) (now index) × (40 ≤ length (now out)) ⌝ }
     ensures { λ r. ⌜ Written (stepOrder (scopeAt (scopesOf (now (book .entry))) i)) (now (out .entry)) r (now (out .exit)) ⌝ }
 {
     let mut deps = [0u8; 1600];
-    fill_reads(book, places, counts, i, &mut deps);
-    let steps = step_count(book, places, counts, i);
+    fill_reads(book, index, i, &mut deps);
+    let steps = step_count(book, index, i);
     write_order(&deps, steps, out)
 }
 
 // The order of every scope's steps, in a row of 40 bytes for each scope. Answers whether some scope has a dependency cycle.
-pub fn fill_steps(
-    book: &[u8],
-    places: &[u16],
-    counts: &[u8],
-    scopes: usize,
-    orders: &mut [u8],
-) -> bool
-    requires { ⌜ Tabled (now book) (now places) (now counts) × Scoped (now book) scopes × (1280 ≤ length (now orders)) ⌝ }
+pub fn fill_steps(book: &[u8], index: &[u16], scopes: usize, orders: &mut [u8]) -> bool
+    requires { ⌜ Tabled (now book) (now index) × Scoped (now book) scopes × (1280 ≤ length (now orders)) ⌝ }
     ensures { λ r. ⌜ StepsFilled (scopesOf (now (book .entry))) r (now (orders .exit)) ⌝ }
 {
     let mut i: usize = 0;
     while i < scopes {
         let a = i * WIDTH;
         let e = a + WIDTH;
-        let taken = step_order(book, places, counts, i, &mut orders[a..e]);
-        let steps = step_count(book, places, counts, i);
+        let taken = step_order(book, index, i, &mut orders[a..e]);
+        let steps = step_count(book, index, i);
         if taken != steps {
             return true;
         }

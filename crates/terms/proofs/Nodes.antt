@@ -18,7 +18,7 @@ use Rattle.calculus.specs.declared.Gathered.{Gathered}
 use Rattle.calculus.specs.declared.Gathered.the-variants.{SoFar, Ended}
 use Rattle.book.specs.Decode.{scopesOf}
 use Rattle.book.specs.References.{scopeAt}
-use Rattle.book.specs.Tables.{nodeAt}
+use Rattle.book.specs.Positions.{nodeAt}
 use Rattle.book.specs.Trees.{exception, nodeTerm, termBelow}
 use Rattle.book.specs.declared.Node.{Node}
 use Rattle.book.specs.declared.Node.the-variants.{Default}

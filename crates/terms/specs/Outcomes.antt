@@ -16,7 +16,7 @@ use Rattle.calculus.specs.declared.Gathered.the-variants.{SoFar, Ended}
 use Rattle.cells.specs.Cells.{givenAt, held}
 use Rattle.book.specs.Decode.{scopesOf}
 use Rattle.book.specs.References.{scopeAt}
-use Rattle.book.specs.Tables.{Laid}
+use Rattle.index.specs.Index.{Laid}
 use Rattle.book.specs.Trees.{termBelow, termOf, conditionTerm, consequenceTerm}
 use Rattle.book.specs.declared.Consequence.{Consequence}
 
@@ -68,6 +68,6 @@ isNothing (SoFar Many) = false
 isNothing (Ended c) = false
 
 -- the tables are those of the book, and the limit is at most the number of nodes of scope i
-pub record Limited (bytes places counts : List ℕ) (i limit : ℕ) : Type 0 where
-  pub laid : Laid bytes places counts
+pub record Limited (bytes index : List ℕ) (i limit : ℕ) : Type 0 where
+  pub laid : Laid bytes index
   pub few : limit ≤ length (scopeAt (scopesOf bytes) i .nodes)

@@ -130,7 +130,7 @@ module _ (s : Scope) (t : Target) (g : Chained (s .clauses)) where
       (any-leads (isBase t) (hasTarget t) (s .clauses) (s .clauses)
       (λ j l e. any-at (hasTarget t) (s .clauses) j l (both (hasTarget t (getD (s .clauses) j noClause)) _ e .0)))
 
-module _ (bytes places counts links : List ℕ) (i : ℕ) (w : Ready bytes places counts links i) (k v : ℕ)
+module _ (bytes index links : List ℕ) (i : ℕ) (w : Ready bytes index links i) (k v : ℕ)
     (slot : ℕ) (at : slot ≡ slotOf (calledTarget k v)) where
   abbrev scope : Scope
   scope = scopeAt (scopesOf bytes) i
@@ -139,7 +139,7 @@ module _ (bytes places counts links : List ℕ) (i : ℕ) (w : Ready bytes place
   target = calledTarget k v
 
   chained : Chained (scope .clauses)
-  chained = sound-chained bytes places counts (w .sound) i
+  chained = sound-chained bytes index (w .sound) i
 
   pub slot-few : slot < 289
   slot-few = omega (arith, slot-bound target)

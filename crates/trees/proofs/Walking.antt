@@ -23,7 +23,7 @@ use Rattle.calculus.proofs.Exceptions.{exceptions-ended}
 use Rattle.book.specs.Syntax.{Scope}
 use Rattle.book.specs.Decode.{scopesOf}
 use Rattle.book.specs.References.{scopeAt, noClause}
-use Rattle.book.specs.Tables.{clauseAt}
+use Rattle.book.specs.Positions.{clauseAt}
 use Rattle.book.specs.declared.Clause.{Clause}
 use Rattle.terms.specs.Outcomes.{envOf, conditionOutcome, consequenceOutcome}
 use Rattle.links.specs.Links.{headOf, inChain, firstFrom}
@@ -48,7 +48,7 @@ pub record Walking (bytes own called : List ℕ) (i k : ℕ) (g : Gathered) (c :
   pub has : c < length (clausesOf bytes i) → inChain k (getD (clausesOf bytes i) c noClause) ≡ true
   pub left : chainOutcome bytes own called i k ≡ exceptions (envOf own called) g (chainFrom (scopeAt (scopesOf bytes) i) k c)
 
-module _ (bytes places counts links own called : List ℕ) (i k : ℕ) (w : Walk bytes places counts links i k) where
+module _ (bytes index links own called : List ℕ) (i k : ℕ) (w : Walk bytes index links i k) where
   abbrev scope : Scope
   scope = scopeAt (scopesOf bytes) i
 
@@ -56,7 +56,7 @@ module _ (bytes places counts links own called : List ℕ) (i k : ℕ) (w : Walk
   cs = scope .clauses
 
   chained : Chained cs
-  chained = sound-chained bytes places counts (w .ready .sound) i
+  chained = sound-chained bytes index (w .ready .sound) i
 
   pub begin : (c : ℕ) → c ≡ getD links k 0 → Walking bytes own called i k (SoFar Nothing) c
   unfolding chainOutcome
@@ -81,7 +81,7 @@ module _ (bytes places counts links own called : List ℕ) (i k : ℕ) (w : Walk
       pub deeper : k < 289 + c
       deeper = omega (arith, here, chained-head cs chained c l)
 
-      pub next-walk : Walk bytes places counts links i (289 + c)
+      pub next-walk : Walk bytes index links i (289 + c)
       next-walk = let few = chained .few in record { ready = w .ready; head = omega arith }
 
       following : (d : ℕ) → d ≡ getD links (417 + c) 0 → d ≡ firstFrom (inChain k) (suc c) (drop (suc c) cs)

@@ -16,7 +16,7 @@ use Rattle.book.specs.Lists.{any}
 use Rattle.book.specs.Syntax.{Scope}
 use Rattle.book.specs.Decode.{scopesOf}
 use Rattle.book.specs.References.{scopeAt}
-use Rattle.book.specs.Tables.{clauseAt}
+use Rattle.book.specs.Positions.{clauseAt}
 use Rattle.book.specs.Trees.{select, clauseTerms, hasTarget, tree, calledTarget}
 use Rattle.terms.specs.Outcomes.{envOf, conditionOutcome, consequenceOutcome}
 use Rattle.links.specs.Links.{inChain, Sound, Linked}
@@ -49,11 +49,11 @@ unfoldable pub clauseFor : List ℕ → ℕ → ℕ → ℕ → Bool
 clauseFor bytes i k v = any (hasTarget (calledTarget k v)) (scopeAt (scopesOf bytes) i .clauses)
 
 -- the book is sound, and the links are those of scope i
-pub record Ready (bytes places counts links : List ℕ) (i : ℕ) : Type 0 where
-  pub sound : Sound bytes places counts
+pub record Ready (bytes index links : List ℕ) (i : ℕ) : Type 0 where
+  pub sound : Sound bytes index
   pub linked : Linked bytes i links
 
 -- and a chain begins in the cell
-pub record Walk (bytes places counts links : List ℕ) (i cell : ℕ) : Type 0 where
-  pub ready : Ready bytes places counts links i
+pub record Walk (bytes index links : List ℕ) (i cell : ℕ) : Type 0 where
+  pub ready : Ready bytes index links i
   pub head : cell < 417

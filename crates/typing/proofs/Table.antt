@@ -1,5 +1,4 @@
 -- The table of types of a scope's nodes: it is filled in number order, and gives each node's type.
---     few             a scope has fewer than 256 nodes
 --     Table           the types of the nodes below n stand in the table; start and turn
 --     told            a node fits by the table so far where it fits by the whole one
 --     mismatch-found, clause-left    what the searches find, mismatchAt finds
@@ -19,7 +18,7 @@ use Rattle.book.specs.Syntax.{Scope, noNode}
 use Rattle.book.specs.Lists.{anyFrom}
 use Rattle.book.specs.References.{scopeAt, namesException, nodeNames, dangles}
 use Rattle.book.specs.Typing.{nodeType, typeBelow, typeOfNode, exceptionFits, nodeFits, mismatchIn}
-use Rattle.book.specs.Tables.{countAt, nodeAt}
+use Rattle.book.specs.Positions.{nodeAt}
 use Rattle.book.specs.declared.ValueType.{ValueType}
 use Rattle.book.specs.declared.ValueType.the-variants.{YesNo, Numeric}
 use Rattle.book.specs.declared.Node.{Node}
@@ -29,14 +28,6 @@ use Rattle.book.proofs.Searches.{any-from}
 use Rattle.book.proofs.Naming.{named-nodes, scope-sound}
 use Rattle.order.proofs.Matrix.{zeros}
 use Rattle.typing.specs.Types.{byteOf, typeIn, typeOver, nodeSuits, clauseSuits, clauseMisfits, mismatchAt}
-
-either : (b : Bool) (x m : ℕ) → x < m → 0 < m → cond b x 0 < m
-either true x m h z = h
-either false x m h z = z
-
-pub few : (counts : List ℕ) (i n : ℕ) → getD counts (i * 4 + 2) 0 < 256 → countAt counts i 2 ≡ n → n < 256
-unfolding countAt
-few counts i n h e = rw (← e) (either (ltb i 32 && ltb 2 4) (getD counts (i * 4 + 2) 0) 256 h (omega arith))
 
 blank : (m k : ℕ) → typeIn (replicate m 0) k ≡ YesNo
 unfolding typeIn

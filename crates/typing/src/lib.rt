@@ -6,13 +6,13 @@ use book::Target;
 use book::ValueType;
 use calculus::Binary;
 use calculus::Unary;
+use index::clause_at;
+use index::clause_count;
+use index::node_at;
+use index::node_count;
+use index::sub_scope_at;
+use index::variable_at;
 use slices::byte_at;
-use tables::clause_at;
-use tables::clause_count;
-use tables::node_at;
-use tables::node_count;
-use tables::sub_scope_at;
-use tables::variable_at;
 use types::operand_type;
 use types::same_type;
 use types::unary_type;
@@ -22,7 +22,7 @@ ghost use lib.ListN.{length};
 ghost use Rattle.book.specs.Decode.{scopesOf};
 ghost use Rattle.book.specs.Typing.{binaryType, mismatches};
 ghost use Rattle.book.specs.References.{dangles};
-ghost use Rattle.book.specs.Tables.{Laid};
+ghost use Rattle.index.specs.Index.{Laid};
 ghost use Rattle.typing.specs.Types.{byteOf, typeIn, ownType, calledType, typeOfTarget, typeOver, namedFits};
 ghost use Rattle.typing.specs.Types.{typeOfConsequence, nodeSuits, clauseSuits, clauseMisfits, mismatchAt};
 
@@ -61,59 +61,46 @@ fn binary_type(op: Binary) -> ValueType
 }
 
 // The type of variable v of scope i.
-fn own_type(book: &[u8], places: &[u16], counts: &[u8], i: usize, v: u8) -> ValueType
-    requires { ⌜ Laid (now book) (now places) (now counts) ⌝ }
+fn own_type(book: &[u8], index: &[u16], i: usize, v: u8) -> ValueType
+    requires { ⌜ Laid (now book) (now index) ⌝ }
     ensures { λ r. ⌜ r ≡ ownType (scopesOf (now (book .entry))) i v ⌝ }
 {
-    let variable = variable_at(book, places, counts, i, v as usize);
+    let variable = variable_at(book, index, i, v as usize);
     variable.holds
 }
 
 // The type of variable v of sub-scope k of scope i.
-fn called_type(book: &[u8], places: &[u16], counts: &[u8], i: usize, k: u8, v: u8) -> ValueType
-    requires { ⌜ Laid (now book) (now places) (now counts) ⌝ }
+fn called_type(book: &[u8], index: &[u16], i: usize, k: u8, v: u8) -> ValueType
+    requires { ⌜ Laid (now book) (now index) ⌝ }
     ensures { λ r. ⌜ r ≡ calledType (scopesOf (now (book .entry))) i k v ⌝ }
 {
-    own_type(
-        book,
-        places,
-        counts,
-        sub_scope_at(book, places, counts, i, k as usize),
-        v,
-    )
+    own_type(book, index, sub_scope_at(book, index, i, k as usize), v)
 }
 
 // The type of a target of scope i.
-fn target_type(book: &[u8], places: &[u16], counts: &[u8], i: usize, target: Target) -> ValueType
-    requires { ⌜ Laid (now book) (now places) (now counts) ⌝ }
+fn target_type(book: &[u8], index: &[u16], i: usize, target: Target) -> ValueType
+    requires { ⌜ Laid (now book) (now index) ⌝ }
     ensures { λ r. ⌜ r ≡ typeOfTarget (scopesOf (now (book .entry))) i target ⌝ }
 {
     let sub = target.sub;
     let variable = target.variable;
     if sub == 255 {
-        own_type(book, places, counts, i, variable)
+        own_type(book, index, i, variable)
     } else {
-        called_type(book, places, counts, i, sub, variable)
+        called_type(book, index, i, sub, variable)
     }
 }
 
 // The type of a node of scope i, the table having those of lower nodes.
-fn type_over(
-    book: &[u8],
-    places: &[u16],
-    counts: &[u8],
-    i: usize,
-    types: &[u8],
-    node: Node,
-) -> ValueType
-    requires { ⌜ Laid (now book) (now places) (now counts) ⌝ }
+fn type_over(book: &[u8], index: &[u16], i: usize, types: &[u8], node: Node) -> ValueType
+    requires { ⌜ Laid (now book) (now index) ⌝ }
     ensures { λ r. ⌜ r ≡ typeOver (scopesOf (now (book .entry))) i (now (types .entry)) node ⌝ }
 {
     match node {
         Node::Constant(_) => ValueType::YesNo,
         Node::Number(_) => ValueType::Numeric,
-        Node::Own(v) => own_type(book, places, counts, i, v),
-        Node::Called(k, v) => called_type(book, places, counts, i, k, v),
+        Node::Own(v) => own_type(book, index, i, v),
+        Node::Called(k, v) => called_type(book, index, i, k, v),
         Node::Empty(t) => t,
         Node::Conflict(t) => t,
         Node::Unary(op, _) => unary_type(op),
@@ -174,35 +161,28 @@ fn consequence_type(types: &[u8], consequence: Consequence) -> ValueType
 }
 
 // Whether a clause of scope i has a yes/no condition and a consequence of its target's type.
-fn clause_suits(
-    book: &[u8],
-    places: &[u16],
-    counts: &[u8],
-    i: usize,
-    types: &[u8],
-    clause: Clause,
-) -> bool
-    requires { ⌜ Laid (now book) (now places) (now counts) ⌝ }
+fn clause_suits(book: &[u8], index: &[u16], i: usize, types: &[u8], clause: Clause) -> bool
+    requires { ⌜ Laid (now book) (now index) ⌝ }
     ensures { λ r. ⌜ r ≡ clauseSuits (scopesOf (now (book .entry))) i (now (types .entry)) clause ⌝ }
 {
     let target = clause.target;
     let condition = clause.condition;
     let consequence = clause.consequence;
     let given = consequence_type(types, consequence);
-    let wanted = target_type(book, places, counts, i, target);
+    let wanted = target_type(book, index, i, target);
     named_fits(types, ValueType::YesNo, condition) & same_type(given, wanted)
 }
 
 // Whether some clause of scope i does not fit.
-fn clause_misfits(book: &[u8], places: &[u16], counts: &[u8], i: usize, types: &[u8]) -> bool
-    requires { ⌜ Laid (now book) (now places) (now counts) ⌝ }
+fn clause_misfits(book: &[u8], index: &[u16], i: usize, types: &[u8]) -> bool
+    requires { ⌜ Laid (now book) (now index) ⌝ }
     ensures { λ r. ⌜ r ≡ clauseMisfits (scopesOf (now (book .entry))) i (now (types .entry)) ⌝ }
 {
-    let count = clause_count(book, places, counts, i);
+    let count = clause_count(book, index, i);
     let mut n: usize = 0;
     while n < count {
-        let clause = clause_at(book, places, counts, i, n);
-        if !clause_suits(book, places, counts, i, types, clause) {
+        let clause = clause_at(book, index, i, n);
+        if !clause_suits(book, index, i, types, clause) {
             return true;
         }
         n += 1;
@@ -212,35 +192,35 @@ fn clause_misfits(book: &[u8], places: &[u16], counts: &[u8], i: usize, types: &
 
 // Whether some node or clause of scope i does not fit. The types of its nodes are found in number order, and kept as bytes: a node
 // names only lower ones, so the table so far tells whether it fits.
-fn mismatch_at(book: &[u8], places: &[u16], counts: &[u8], i: usize) -> bool
-    requires { ⌜ Laid (now book) (now places) (now counts) ⌝ ∗ ⌜ dangles (scopesOf (now book)) ≡ false ⌝ }
+fn mismatch_at(book: &[u8], index: &[u16], i: usize) -> bool
+    requires { ⌜ Laid (now book) (now index) ⌝ ∗ ⌜ dangles (scopesOf (now book)) ≡ false ⌝ }
     ensures { λ r. ⌜ r ≡ mismatchAt (scopesOf (now (book .entry))) i ⌝ }
 {
     let mut types = [0u8; 256];
-    let count = node_count(book, places, counts, i);
+    let count = node_count(book, index, i);
     let mut n: usize = 0;
     while n < count {
-        let node = node_at(book, places, counts, i, n);
+        let node = node_at(book, index, i, n);
         if !node_suits(&types, node) {
             return true;
         }
-        let t = type_over(book, places, counts, i, &types, node);
+        let t = type_over(book, index, i, &types, node);
         types[n] = byte_of(t);
         n += 1;
     }
-    clause_misfits(book, places, counts, i, &types)
+    clause_misfits(book, index, i, &types)
 }
 
 // Fault 8: whether a type does not fit somewhere in a book of so many scopes.
-pub fn has_mismatch(book: &[u8], places: &[u16], counts: &[u8], scopes: usize) -> bool
-    requires { ⌜ Laid (now book) (now places) (now counts) ⌝
+pub fn has_mismatch(book: &[u8], index: &[u16], scopes: usize) -> bool
+    requires { ⌜ Laid (now book) (now index) ⌝
         ∗ ⌜ scopes ≡ length (scopesOf (now book)) ⌝
         ∗ ⌜ dangles (scopesOf (now book)) ≡ false ⌝ }
     ensures { λ r. ⌜ r ≡ mismatches (scopesOf (now (book .entry))) ⌝ }
 {
     let mut i: usize = 0;
     while i < scopes {
-        if mismatch_at(book, places, counts, i) {
+        if mismatch_at(book, index, i) {
             return true;
         }
         i += 1;

@@ -19,7 +19,7 @@ use Rattle.book.specs.Syntax.{Scope}
 use Rattle.book.specs.Decode.{scopesOf}
 use Rattle.book.specs.References.{scopeAt}
 use Rattle.book.specs.Scopes.{blocks, sum, weight}
-use Rattle.book.specs.Tables.{subScopeAt}
+use Rattle.book.specs.Positions.{subScopeAt}
 use Rattle.steps.specs.Limits.{Scoped, WholeOrder}
 use Rattle.weights.specs.Weighing.{weightBy, Weighed}
 use Rattle.order.proofs.Booleans.{decide}

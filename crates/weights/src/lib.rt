@@ -1,6 +1,6 @@
 // Fault 11: the weights of the scopes, along the order of blocks.
-use tables::sub_scope_at;
-use tables::sub_scope_count;
+use index::sub_scope_at;
+use index::sub_scope_count;
 ghost use mathlib.Core.Path.{_≡_};
 ghost use Prim.Native.Nat.{_≤_};
 ghost use lib.ListN.{length};
@@ -21,15 +21,15 @@ fn weight_at(weights: &[u16], j: usize) -> usize
 }
 
 // The weight of scope i, by those of the sub-scopes that it calls.
-fn weigh(book: &[u8], places: &[u16], counts: &[u8], i: usize, weights: &[u16]) -> usize
-    requires { ⌜ Tabled (now book) (now places) (now counts) ⌝ }
+fn weigh(book: &[u8], index: &[u16], i: usize, weights: &[u16]) -> usize
+    requires { ⌜ Tabled (now book) (now index) ⌝ }
     ensures { λ r. ⌜ r ≡ weightBy (now (weights .entry)) (scopeAt (scopesOf (now (book .entry))) i) ⌝ }
 {
-    let count = sub_scope_count(book, places, counts, i);
+    let count = sub_scope_count(book, index, i);
     let mut total: usize = 1;
     let mut k: usize = 0;
     while k < count {
-        let called = sub_scope_at(book, places, counts, i, k);
+        let called = sub_scope_at(book, index, i, k);
         total += weight_at(weights, called);
         k += 1;
     }
@@ -39,19 +39,18 @@ fn weigh(book: &[u8], places: &[u16], counts: &[u8], i: usize, weights: &[u16]) 
 // The weights of all scopes, by their numbers, for an order of all blocks. Answers whether one is above 4,096, and stops there.
 pub fn fill_weights(
     book: &[u8],
-    places: &[u16],
-    counts: &[u8],
+    index: &[u16],
     blocks: &[u8],
     scopes: usize,
     weights: &mut [u16],
 ) -> bool
-    requires { ⌜ Tabled (now book) (now places) (now counts) × Scoped (now book) scopes × WholeOrder (now book) (now blocks) scopes × (32 ≤ length (now weights)) ⌝ }
+    requires { ⌜ Tabled (now book) (now index) × Scoped (now book) scopes × WholeOrder (now book) (now blocks) scopes × (32 ≤ length (now weights)) ⌝ }
     ensures { λ r. ⌜ Weighed (scopesOf (now (book .entry))) r (now (weights .exit)) ⌝ }
 {
     let mut k: usize = 0;
     while k < scopes {
         let i = blocks[k] as usize;
-        let w = weigh(book, places, counts, i, weights);
+        let w = weigh(book, index, i, weights);
         if 4096 < w {
             return true;
         }

@@ -18,12 +18,9 @@ slice-aggregate-judge-into-3 c = search needs
 slice-aggregate-judge-into-4 : tie.Need-slice-aggregate-judge-into-4
 slice-aggregate-judge-into-4 c = search needs
 
-slice-aggregate-judge-into-5 : tie.Need-slice-aggregate-judge-into-5
-slice-aggregate-judge-into-5 c = search needs
-
 judge-into-requires : tie.Need-judge-into-requires
 judge-into-requires c κs =
-    (record { noPlaces = refl; noCounts = refl }, record { blockRoom = search needs; weightRoom = search needs; orderRoom = search needs })
+    (refl, record { blockRoom = search needs; weightRoom = search needs; orderRoom = search needs })
 
 enum-known-judged : tie.Need-enum-known-judged
 enum-known-judged c = search needs
@@ -37,14 +34,11 @@ slice-aggregate-compile-accepted-2 c = search needs
 slice-aggregate-compile-accepted-3 : tie.Need-slice-aggregate-compile-accepted-3
 slice-aggregate-compile-accepted-3 c = search needs
 
-slice-aggregate-compile-accepted-4 : tie.Need-slice-aggregate-compile-accepted-4
-slice-aggregate-compile-accepted-4 c = search needs
-
 compile-accepted-requires : tie.Need-compile-accepted-requires
 compile-accepted-requires c κs =
-    let t = c .before .before .before .before .before .before .before .before .before .before .before .before .before .judge-into .ensures .tables _ (c .before .before .before .before .before .before .judged .given .1) in
+    let t = c .before .before .before .before .before .before .before .before .before .before .before .judge-into .ensures .tables _ (c .before .before .before .before .before .judged .given .1) in
     record {
-      accepted = sym (c .before .before .before .before .before .before .before .before .before .before .before .before .before .judge-into .ensures .answer) ∙ c .before .before .before .before .before .before .judged .given .1;
+      accepted = sym (c .before .before .before .before .before .before .before .before .before .before .before .judge-into .ensures .answer) ∙ c .before .before .before .before .before .judged .given .1;
       laid = t .laid;
       blockOrder = t .blockOrder;
       stepOrders = t .stepOrders;
@@ -62,7 +56,7 @@ returns c =
 
 returns-2 : tie.Need-returns-2
 returns-2 c =
-    refused (sym (c .before .before .before .before .before .before .before .before .judge-into .ensures .answer) ∙ c .before .judged2 .given .1)
+    refused (sym (c .before .before .before .before .before .before .before .judge-into .ensures .answer) ∙ c .before .judged2 .given .1)
 
 pub compile-spec : {M : Type 1} → statement M
 compile-spec =
@@ -72,13 +66,11 @@ compile-spec =
     slice-aggregate-judge-into-2
     slice-aggregate-judge-into-3
     slice-aggregate-judge-into-4
-    slice-aggregate-judge-into-5
     judge-into-requires
     enum-known-judged
     slice-aggregate-compile-accepted
     slice-aggregate-compile-accepted-2
     slice-aggregate-compile-accepted-3
-    slice-aggregate-compile-accepted-4
     compile-accepted-requires
     enum-known-judged-2
     same-length

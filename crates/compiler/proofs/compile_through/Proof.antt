@@ -20,7 +20,7 @@ same-length c = search needs
 -- src/lib.rt:742:9
 returns : tie.Need-returns
 returns c =
-    short _ _ (c .before .before .before .before .before .before .before .before .before .before .before .before .pre .accepted) (c .before .before .before .emit-blocks .ensures) (c .if1 .taken)
+    short _ _ (c .before .before .before .before .before .before .before .before .before .before .before .pre .accepted) (c .before .before .before .emit-blocks .ensures) (c .if1 .taken)
 
 -- src/lib.rt:745:21
 sub-start : tie.Need-sub-start
@@ -50,7 +50,7 @@ slice-aggregate-copy c =
 -- src/lib.rt:746:9
 copy-requires : tie.Need-copy-requires
 copy-requires c κs =
-    rest-long (c .before .before .before .before .before .before .before .emit-blocks .last .1 .1 .1 .1 .1 .1 .0) _ _ (c .before .before .before .if2 .taken) (c .before .before .before .before .if1 .left)
+    rest-long (c .before .before .before .before .before .before .before .emit-blocks .last .1 .1 .1 .1 .1 .0) _ _ (c .before .before .before .if2 .taken) (c .before .before .before .before .if1 .left)
 
 -- src/lib.rt:748:62
 slice-relend-prefix-emit-blocks : tie.Need-slice-relend-prefix-emit-blocks
@@ -76,7 +76,7 @@ same-length-3 c = search needs
 -- src/lib.rt:727:1
 returns-2 : tie.Need-returns-2
 returns-2 c =
-    moved _ _ (c .before .before .before .before .before .before .before .before .before .before .before .before .before .before .before .before .before .before .before .pre .accepted) (c .before .before .before .before .before .before .before .before .before .before .emit-blocks .ensures) (c .before .before .before .before .before .before .before .if1 .left) (c .before .before .before .before .before .before .if2 .taken) (c .before .before .copy .ensures)
+    moved _ _ (c .before .before .before .before .before .before .before .before .before .before .before .before .before .before .before .before .before .before .pre .accepted) (c .before .before .before .before .before .before .before .before .before .before .emit-blocks .ensures) (c .before .before .before .before .before .before .before .if1 .left) (c .before .before .before .before .before .before .if2 .taken) (c .before .before .copy .ensures)
 
 -- src/lib.rt:727:1
 same-length-4 : tie.Need-same-length-4
@@ -89,7 +89,7 @@ same-length-5 c = search needs
 -- src/lib.rt:727:1
 returns-3 : tie.Need-returns-3
 returns-3 c =
-    written _ _ (c .before .before .before .before .before .before .before .before .before .before .before .before .before .before .before .before .before .pre .accepted) (c .before .before .before .before .before .before .before .before .emit-blocks .ensures) (c .before .before .before .before .before .if1 .left) refl (c .before .before .emit-blocks2 .ensures)
+    written _ _ (c .before .before .before .before .before .before .before .before .before .before .before .before .before .before .before .before .pre .accepted) (c .before .before .before .before .before .before .before .before .emit-blocks .ensures) (c .before .before .before .before .before .if1 .left) refl (c .before .before .emit-blocks2 .ensures)
 
 pub compile-through-spec : {M : Type 1} → statement M
 compile-through-spec =

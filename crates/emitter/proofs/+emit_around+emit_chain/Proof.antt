@@ -16,34 +16,34 @@ use Rattle.emitter.proofs.+emit_around+emit_chain.Lts-emit_around as em
 use Rattle.emitter.proofs.emit_chain.Reads as emit-chain
 use Rattle.emitter.proofs.emit_chain.Kinds as emit-chain-kinds
 use Rattle.emitter.proofs.+emit_around+emit_chain.Lts-emit_chain as emit-chain-lts
-use Rattle.tables.proofs.clause_count.Reads as clause-count-reads
+use Rattle.index.proofs.clause_count.Reads as clause-count-reads
 use Rattle.emitter.proofs.emit_rest.Reads as emit-rest-reads
 use Rattle.emitter.proofs.put_caught.Reads as put-caught-reads
 use Rattle.emitter.proofs.put_far.Reads as put-far-reads
 use Rattle.emitter.proofs.put_one.Reads as put-one-reads
 use Rattle.slices.proofs.byte_at.Reads as byte-at-reads
 
-abbrev μ-emit-around : Measures 5 emit-around-kinds.ps ℕ
-μ-emit-around κs a = 2 * (256 - a .1 .1 .1 .1 .1 .0) + 1
+abbrev μ-emit-around : Measures 4 emit-around-kinds.ps ℕ
+μ-emit-around κs a = 2 * (256 - a .1 .1 .1 .1 .0) + 1
 
-abbrev μ-emit-chain : Measures 5 emit-chain-kinds.ps ℕ
-μ-emit-chain κs a = 2 * (256 - a .1 .1 .1 .1 .1 .0)
+abbrev μ-emit-chain : Measures 4 emit-chain-kinds.ps ℕ
+μ-emit-chain κs a = 2 * (256 - a .1 .1 .1 .1 .0)
 
-abbrev emit-around-at : ℕ → In 5 emit-around-kinds.ps
+abbrev emit-around-at : ℕ → In 4 emit-around-kinds.ps
 emit-around-at t =
-    and 5 emit-around-kinds.ps (is 5 emit-around-kinds.ps μ-emit-around t) emit-around.Pre
+    and 4 emit-around-kinds.ps (is 4 emit-around-kinds.ps μ-emit-around t) emit-around.Pre
 
-abbrev emit-around-below : ℕ → In 5 emit-around-kinds.ps
+abbrev emit-around-below : ℕ → In 4 emit-around-kinds.ps
 emit-around-below t =
-    and 5 emit-around-kinds.ps (falls 5 emit-around-kinds.ps _<_ μ-emit-around t) emit-around.Pre
+    and 4 emit-around-kinds.ps (falls 4 emit-around-kinds.ps _<_ μ-emit-around t) emit-around.Pre
 
-abbrev emit-chain-at : ℕ → In 5 emit-chain-kinds.ps
+abbrev emit-chain-at : ℕ → In 4 emit-chain-kinds.ps
 emit-chain-at t =
-    and 5 emit-chain-kinds.ps (is 5 emit-chain-kinds.ps μ-emit-chain t) emit-chain.Pre
+    and 4 emit-chain-kinds.ps (is 4 emit-chain-kinds.ps μ-emit-chain t) emit-chain.Pre
 
-abbrev emit-chain-below : ℕ → In 5 emit-chain-kinds.ps
+abbrev emit-chain-below : ℕ → In 4 emit-chain-kinds.ps
 emit-chain-below t =
-    and 5 emit-chain-kinds.ps (falls 5 emit-chain-kinds.ps _<_ μ-emit-chain t) emit-chain.Pre
+    and 4 emit-chain-kinds.ps (falls 4 emit-chain-kinds.ps _<_ μ-emit-chain t) emit-chain.Pre
 
 abbrev R-emit-around : ℕ → emit-around-lts.Claims
 R-emit-around t =
@@ -55,7 +55,7 @@ R-emit-chain t =
 
 emit-around-clause-count-requires : (t : ℕ) → emit-around-lts.Need-clause-count-requires (R-emit-around t) (emit-around-at t) emit-around.Post
 emit-around-clause-count-requires t c κs =
-    c .before .before .before .before .before .pre .1 .0 .sound .laid
+    c .before .before .before .before .pre .1 .0 .sound .laid
 
 emit-around-returns : (t : ℕ) → emit-around-lts.Need-returns (R-emit-around t) (emit-around-at t) emit-around.Post
 emit-around-returns t c =
@@ -63,15 +63,15 @@ emit-around-returns t c =
 
 emit-around-put-far-requires : (t : ℕ) → emit-around-lts.Need-put-far-requires (R-emit-around t) (emit-around-at t) emit-around.Post
 emit-around-put-far-requires t c κs =
-    omega (arith, size-around (siblings-here _ _ _ _ (c .before .before .before .before .before .before .before .before .args .i) (c .before .before .before .before .before .before .before .before .pre .1 .0) (c .before .before .before .before .before .before .before .before .args .first) (omega (arith, c .before .before .clause-count .ensures, c .before .if1 .left)) _ refl), c .before .before .before .before .before .before .before .before .pre .1 .1)
+    omega (arith, size-around (siblings-here _ _ _ (c .before .before .before .before .before .before .before .args .i) (c .before .before .before .before .before .before .before .pre .1 .0) (c .before .before .before .before .before .before .before .args .first) (omega (arith, c .before .before .clause-count .ensures, c .before .if1 .left)) _ refl), c .before .before .before .before .before .before .before .pre .1 .1)
 
 emit-around-emit-chain-requires : (t : ℕ) → emit-around-lts.Need-emit-chain-requires (R-emit-around t) (emit-around-at t) emit-around.Post
 emit-around-emit-chain-requires t c κs =
-    (omega (arith, c .before .before .before .before .before .before .before .before .before .before .before .before .pre .0), (c .before .before .before .before .before .before .before .before .before .before .before .before .pre .1 .0, omega (arith, size-around (siblings-here _ _ _ _ (c .before .before .before .before .before .before .before .before .before .before .before .before .args .i) (c .before .before .before .before .before .before .before .before .before .before .before .before .pre .1 .0) (c .before .before .before .before .before .before .before .before .before .before .before .before .args .first) (omega (arith, c .before .before .before .before .before .before .clause-count .ensures, c .before .before .before .before .before .if1 .left)) _ refl), c .before .before .before .before .before .before .before .before .before .before .before .before .pre .1 .1, c .before .before .before .put-far .ensures .next)))
+    (omega (arith, c .before .before .before .before .before .before .before .before .before .before .before .pre .0), (c .before .before .before .before .before .before .before .before .before .before .before .pre .1 .0, omega (arith, size-around (siblings-here _ _ _ (c .before .before .before .before .before .before .before .before .before .before .before .args .i) (c .before .before .before .before .before .before .before .before .before .before .before .pre .1 .0) (c .before .before .before .before .before .before .before .before .before .before .before .args .first) (omega (arith, c .before .before .before .before .before .before .clause-count .ensures, c .before .before .before .before .before .if1 .left)) _ refl), c .before .before .before .before .before .before .before .before .before .before .before .pre .1 .1, c .before .before .before .put-far .ensures .next)))
 
 emit-around-put-one-requires : (t : ℕ) → emit-around-lts.Need-put-one-requires (R-emit-around t) (emit-around-at t) emit-around.Post
 emit-around-put-one-requires t c κs =
-    omega (arith, size-around (siblings-here _ _ _ _ (c .before .before .before .before .before .before .before .before .before .before .before .before .before .before .before .before .args .i) (c .before .before .before .before .before .before .before .before .before .before .before .before .before .before .before .before .pre .1 .0) (c .before .before .before .before .before .before .before .before .before .before .before .before .before .before .before .before .args .first) (omega (arith, c .before .before .before .before .before .before .before .before .before .before .clause-count .ensures, c .before .before .before .before .before .before .before .before .before .if1 .left)) _ refl), c .before .before .before .before .before .before .before .before .before .before .before .before .before .before .before .before .pre .1 .1, c .before .before .before .before .before .before .before .put-far .ensures .next, c .before .before .before .emit-chain .ensures .next)
+    omega (arith, size-around (siblings-here _ _ _ (c .before .before .before .before .before .before .before .before .before .before .before .before .before .before .before .args .i) (c .before .before .before .before .before .before .before .before .before .before .before .before .before .before .before .pre .1 .0) (c .before .before .before .before .before .before .before .before .before .before .before .before .before .before .before .args .first) (omega (arith, c .before .before .before .before .before .before .before .before .before .before .clause-count .ensures, c .before .before .before .before .before .before .before .before .before .if1 .left)) _ refl), c .before .before .before .before .before .before .before .before .before .before .before .before .before .before .before .pre .1 .1, c .before .before .before .before .before .before .before .put-far .ensures .next, c .before .before .before .emit-chain .ensures .next)
 
 emit-around-same-length : (t : ℕ) → emit-around-lts.Need-same-length (R-emit-around t) (emit-around-at t) emit-around.Post
 emit-around-same-length t c =
@@ -79,11 +79,11 @@ emit-around-same-length t c =
 
 emit-around-returns-2 : (t : ℕ) → emit-around-lts.Need-returns-2 (R-emit-around t) (emit-around-at t) emit-around.Post
 emit-around-returns-2 t c =
-    around-also _ (siblings-here _ _ _ _ (c .before .before .before .before .before .before .before .before .before .before .before .before .before .before .before .before .before .before .before .args .i) (c .before .before .before .before .before .before .before .before .before .before .before .before .before .before .before .before .before .before .before .pre .1 .0) (c .before .before .before .before .before .before .before .before .before .before .before .before .before .before .before .before .before .before .before .args .first) (omega (arith, c .before .before .before .before .before .before .before .before .before .before .before .before .before .clause-count .ensures, c .before .before .before .before .before .before .before .before .before .before .before .before .if1 .left)) _ refl) (c .before .before .before .before .before .before .before .before .before .before .put-far .ensures) (c .before .before .before .before .before .before .emit-chain .ensures) (c .before .before .put-one .ensures)
+    around-also _ (siblings-here _ _ _ (c .before .before .before .before .before .before .before .before .before .before .before .before .before .before .before .before .before .before .args .i) (c .before .before .before .before .before .before .before .before .before .before .before .before .before .before .before .before .before .before .pre .1 .0) (c .before .before .before .before .before .before .before .before .before .before .before .before .before .before .before .before .before .before .args .first) (omega (arith, c .before .before .before .before .before .before .before .before .before .before .before .before .before .clause-count .ensures, c .before .before .before .before .before .before .before .before .before .before .before .before .if1 .left)) _ refl) (c .before .before .before .before .before .before .before .before .before .before .put-far .ensures) (c .before .before .before .before .before .before .emit-chain .ensures) (c .before .before .put-one .ensures)
 
 emit-chain-clause-count-requires : (t : ℕ) → emit-chain-lts.Need-clause-count-requires (R-emit-chain t) (emit-chain-at t) emit-chain.Post
 emit-chain-clause-count-requires t c κs =
-    c .before .before .before .before .before .pre .1 .0 .sound .laid
+    c .before .before .before .before .pre .1 .0 .sound .laid
 
 emit-chain-returns : (t : ℕ) → emit-chain-lts.Need-returns (R-emit-chain t) (emit-chain-at t) emit-chain.Post
 emit-chain-returns t c =
@@ -91,7 +91,7 @@ emit-chain-returns t c =
 
 emit-chain-add-byte-at : (t : ℕ) → emit-chain-lts.Need-add-byte-at (R-emit-chain t) (emit-chain-at t) emit-chain.Post
 emit-chain-add-byte-at t c =
-    omega (arith, few _ _ _ _ (c .before .before .before .before .before .before .before .args .i) (c .before .before .before .before .before .before .before .pre .1 .0), c .before .clause-count .ensures, c .if1 .left)
+    omega (arith, few _ _ _ (c .before .before .before .before .before .before .args .i) (c .before .before .before .before .before .before .pre .1 .0), c .before .clause-count .ensures, c .if1 .left)
 
 emit-chain-byte-at-requires : (t : ℕ) → emit-chain-lts.Need-byte-at-requires (R-emit-chain t) (emit-chain-at t) emit-chain.Post
 emit-chain-byte-at-requires t c κs = search needs
@@ -101,7 +101,7 @@ emit-chain-cast-next t c = search needs
 
 emit-chain-add-byte-at-2 : (t : ℕ) → emit-chain-lts.Need-add-byte-at-2 (R-emit-chain t) (emit-chain-at t) emit-chain.Post
 emit-chain-add-byte-at-2 t c =
-    omega (arith, few _ _ _ _ (c .before .before .before .before .before .before .before .before .args .i) (c .before .before .before .before .before .before .before .before .pre .1 .0), c .before .before .clause-count .ensures, c .before .if1 .left)
+    omega (arith, few _ _ _ (c .before .before .before .before .before .before .before .args .i) (c .before .before .before .before .before .before .before .pre .1 .0), c .before .before .clause-count .ensures, c .before .if1 .left)
 
 emit-chain-byte-at-requires-2 : (t : ℕ) → emit-chain-lts.Need-byte-at-requires-2 (R-emit-chain t) (emit-chain-at t) emit-chain.Post
 emit-chain-byte-at-requires-2 t c κs = search needs
@@ -111,15 +111,15 @@ emit-chain-cast-first t c = search needs
 
 emit-chain-emit-chain-requires : (t : ℕ) → emit-chain-lts.Need-emit-chain-requires (R-emit-chain t) (emit-chain-at t) emit-chain.Post
 emit-chain-emit-chain-requires t c κs =
-    (omega (arith, next-higher _ _ _ _ (c .before .before .before .before .before .before .before .before .before .before .args .i) (c .before .before .before .before .before .before .before .before .before .before .pre .1 .0) (c .before .before .before .before .before .before .before .before .before .before .args .c) (omega (arith, c .before .before .before .before .clause-count .ensures, c .before .before .before .if1 .left)) _ (c .before .before .byte-at .ensures), few _ _ _ _ (c .before .before .before .before .before .before .before .before .before .before .args .i) (c .before .before .before .before .before .before .before .before .before .before .pre .1 .0), c .before .before .before .before .clause-count .ensures, c .before .before .before .if1 .left, c .before .before .before .before .before .before .before .before .before .before .pre .0), (c .before .before .before .before .before .before .before .before .before .before .pre .1 .0, omega (arith, size-also (siblings-here _ _ _ _ (c .before .before .before .before .before .before .before .before .before .before .args .i) (c .before .before .before .before .before .before .before .before .before .before .pre .1 .0) (c .before .before .before .before .before .before .before .before .before .before .args .c) (omega (arith, c .before .before .before .before .clause-count .ensures, c .before .before .before .if1 .left)) _ (c .before .before .byte-at .ensures)), clause-size _ _ _ _ (c .before .before .before .before .before .before .before .before .before .before .args .i) (c .before .before .before .before .before .before .before .before .before .before .pre .1 .0) (c .before .before .before .before .before .before .before .before .before .before .args .c) (omega (arith, c .before .before .before .before .clause-count .ensures, c .before .before .before .if1 .left)) _ (c .before .byte-at2 .ensures), c .before .before .before .before .before .before .before .before .before .before .pre .1 .1)))
+    (omega (arith, next-higher _ _ _ (c .before .before .before .before .before .before .before .before .before .args .i) (c .before .before .before .before .before .before .before .before .before .pre .1 .0) (c .before .before .before .before .before .before .before .before .before .args .c) (omega (arith, c .before .before .before .before .clause-count .ensures, c .before .before .before .if1 .left)) _ (c .before .before .byte-at .ensures), few _ _ _ (c .before .before .before .before .before .before .before .before .before .args .i) (c .before .before .before .before .before .before .before .before .before .pre .1 .0), c .before .before .before .before .clause-count .ensures, c .before .before .before .if1 .left, c .before .before .before .before .before .before .before .before .before .pre .0), (c .before .before .before .before .before .before .before .before .before .pre .1 .0, omega (arith, size-also (siblings-here _ _ _ (c .before .before .before .before .before .before .before .before .before .args .i) (c .before .before .before .before .before .before .before .before .before .pre .1 .0) (c .before .before .before .before .before .before .before .before .before .args .c) (omega (arith, c .before .before .before .before .clause-count .ensures, c .before .before .before .if1 .left)) _ (c .before .before .byte-at .ensures)), clause-size _ _ _ (c .before .before .before .before .before .before .before .before .before .args .i) (c .before .before .before .before .before .before .before .before .before .pre .1 .0) (c .before .before .before .before .before .before .before .before .before .args .c) (omega (arith, c .before .before .before .before .clause-count .ensures, c .before .before .before .if1 .left)) _ (c .before .byte-at2 .ensures), c .before .before .before .before .before .before .before .before .before .pre .1 .1)))
 
 emit-chain-put-caught-requires : (t : ℕ) → emit-chain-lts.Need-put-caught-requires (R-emit-chain t) (emit-chain-at t) emit-chain.Post
 emit-chain-put-caught-requires t c κs =
-    omega (arith, size-also (siblings-here _ _ _ _ (c .before .before .before .before .before .before .before .before .before .before .before .before .before .before .args .i) (c .before .before .before .before .before .before .before .before .before .before .before .before .before .before .pre .1 .0) (c .before .before .before .before .before .before .before .before .before .before .before .before .before .before .args .c) (omega (arith, c .before .before .before .before .before .before .before .before .clause-count .ensures, c .before .before .before .before .before .before .before .if1 .left)) _ (c .before .before .before .before .before .before .byte-at .ensures)), clause-size _ _ _ _ (c .before .before .before .before .before .before .before .before .before .before .before .before .before .before .args .i) (c .before .before .before .before .before .before .before .before .before .before .before .before .before .before .pre .1 .0) (c .before .before .before .before .before .before .before .before .before .before .before .before .before .before .args .c) (omega (arith, c .before .before .before .before .before .before .before .before .clause-count .ensures, c .before .before .before .before .before .before .before .if1 .left)) _ (c .before .before .before .before .before .byte-at2 .ensures), c .before .before .before .before .before .before .before .before .before .before .before .before .before .before .pre .1 .1, c .before .before .before .emit-chain .ensures .next)
+    omega (arith, size-also (siblings-here _ _ _ (c .before .before .before .before .before .before .before .before .before .before .before .before .before .args .i) (c .before .before .before .before .before .before .before .before .before .before .before .before .before .pre .1 .0) (c .before .before .before .before .before .before .before .before .before .before .before .before .before .args .c) (omega (arith, c .before .before .before .before .before .before .before .before .clause-count .ensures, c .before .before .before .before .before .before .before .if1 .left)) _ (c .before .before .before .before .before .before .byte-at .ensures)), clause-size _ _ _ (c .before .before .before .before .before .before .before .before .before .before .before .before .before .args .i) (c .before .before .before .before .before .before .before .before .before .before .before .before .before .pre .1 .0) (c .before .before .before .before .before .before .before .before .before .before .before .before .before .args .c) (omega (arith, c .before .before .before .before .before .before .before .before .clause-count .ensures, c .before .before .before .before .before .before .before .if1 .left)) _ (c .before .before .before .before .before .byte-at2 .ensures), c .before .before .before .before .before .before .before .before .before .before .before .before .before .pre .1 .1, c .before .before .before .emit-chain .ensures .next)
 
 emit-chain-emit-rest-requires : (t : ℕ) → emit-chain-lts.Need-emit-rest-requires (R-emit-chain t) (emit-chain-at t) emit-chain.Post
 emit-chain-emit-rest-requires t c κs =
-    (c .before .before .before .before .before .before .before .before .before .before .before .before .before .before .before .before .before .before .pre .1 .0 .sound .laid, omega (arith, size-also (siblings-here _ _ _ _ (c .before .before .before .before .before .before .before .before .before .before .before .before .before .before .before .before .before .before .args .i) (c .before .before .before .before .before .before .before .before .before .before .before .before .before .before .before .before .before .before .pre .1 .0) (c .before .before .before .before .before .before .before .before .before .before .before .before .before .before .before .before .before .before .args .c) (omega (arith, c .before .before .before .before .before .before .before .before .before .before .before .before .clause-count .ensures, c .before .before .before .before .before .before .before .before .before .before .before .if1 .left)) _ (c .before .before .before .before .before .before .before .before .before .before .byte-at .ensures)), clause-size _ _ _ _ (c .before .before .before .before .before .before .before .before .before .before .before .before .before .before .before .before .before .before .args .i) (c .before .before .before .before .before .before .before .before .before .before .before .before .before .before .before .before .before .before .pre .1 .0) (c .before .before .before .before .before .before .before .before .before .before .before .before .before .before .before .before .before .before .args .c) (omega (arith, c .before .before .before .before .before .before .before .before .before .before .before .before .clause-count .ensures, c .before .before .before .before .before .before .before .before .before .before .before .if1 .left)) _ (c .before .before .before .before .before .before .before .before .before .byte-at2 .ensures), c .before .before .before .before .before .before .before .before .before .before .before .before .before .before .before .before .before .before .pre .1 .1, c .before .before .before .before .before .before .before .emit-chain .ensures .next, c .before .before .before .put-caught .ensures .next))
+    (c .before .before .before .before .before .before .before .before .before .before .before .before .before .before .before .before .before .pre .1 .0 .sound .laid, omega (arith, size-also (siblings-here _ _ _ (c .before .before .before .before .before .before .before .before .before .before .before .before .before .before .before .before .before .args .i) (c .before .before .before .before .before .before .before .before .before .before .before .before .before .before .before .before .before .pre .1 .0) (c .before .before .before .before .before .before .before .before .before .before .before .before .before .before .before .before .before .args .c) (omega (arith, c .before .before .before .before .before .before .before .before .before .before .before .before .clause-count .ensures, c .before .before .before .before .before .before .before .before .before .before .before .if1 .left)) _ (c .before .before .before .before .before .before .before .before .before .before .byte-at .ensures)), clause-size _ _ _ (c .before .before .before .before .before .before .before .before .before .before .before .before .before .before .before .before .before .args .i) (c .before .before .before .before .before .before .before .before .before .before .before .before .before .before .before .before .before .pre .1 .0) (c .before .before .before .before .before .before .before .before .before .before .before .before .before .before .before .before .before .args .c) (omega (arith, c .before .before .before .before .before .before .before .before .before .before .before .before .clause-count .ensures, c .before .before .before .before .before .before .before .before .before .before .before .if1 .left)) _ (c .before .before .before .before .before .before .before .before .before .byte-at2 .ensures), c .before .before .before .before .before .before .before .before .before .before .before .before .before .before .before .before .before .pre .1 .1, c .before .before .before .before .before .before .before .emit-chain .ensures .next, c .before .before .before .put-caught .ensures .next))
 
 emit-chain-sub-emit-around : (t : ℕ) → emit-chain-lts.Need-sub-emit-around (R-emit-chain t) (emit-chain-at t) emit-chain.Post
 emit-chain-sub-emit-around t c =
@@ -127,7 +127,7 @@ emit-chain-sub-emit-around t c =
 
 emit-chain-emit-around-requires : (t : ℕ) → emit-chain-lts.Need-emit-around-requires (R-emit-chain t) (emit-chain-at t) emit-chain.Post
 emit-chain-emit-around-requires t c κs =
-    (omega (arith, first-higher _ _ _ _ (c .before .before .before .before .before .before .before .before .before .before .before .before .before .before .before .before .before .before .before .before .before .before .args .i) (c .before .before .before .before .before .before .before .before .before .before .before .before .before .before .before .before .before .before .before .before .before .before .pre .1 .0) (c .before .before .before .before .before .before .before .before .before .before .before .before .before .before .before .before .before .before .before .before .before .before .args .c) (omega (arith, c .before .before .before .before .before .before .before .before .before .before .before .before .before .before .before .before .clause-count .ensures, c .before .before .before .before .before .before .before .before .before .before .before .before .before .before .before .if1 .left)) _ (c .before .before .before .before .before .before .before .before .before .before .before .before .before .byte-at2 .ensures), few _ _ _ _ (c .before .before .before .before .before .before .before .before .before .before .before .before .before .before .before .before .before .before .before .before .before .before .args .i) (c .before .before .before .before .before .before .before .before .before .before .before .before .before .before .before .before .before .before .before .before .before .before .pre .1 .0), c .before .before .before .before .before .before .before .before .before .before .before .before .before .before .before .before .clause-count .ensures, c .before .before .before .before .before .before .before .before .before .before .before .before .before .before .before .if1 .left, c .before .before .before .before .before .before .before .before .before .before .before .before .before .before .before .before .before .before .before .before .before .before .pre .0), (c .before .before .before .before .before .before .before .before .before .before .before .before .before .before .before .before .before .before .before .before .before .before .pre .1 .0, omega (arith, size-also (siblings-here _ _ _ _ (c .before .before .before .before .before .before .before .before .before .before .before .before .before .before .before .before .before .before .before .before .before .before .args .i) (c .before .before .before .before .before .before .before .before .before .before .before .before .before .before .before .before .before .before .before .before .before .before .pre .1 .0) (c .before .before .before .before .before .before .before .before .before .before .before .before .before .before .before .before .before .before .before .before .before .before .args .c) (omega (arith, c .before .before .before .before .before .before .before .before .before .before .before .before .before .before .before .before .clause-count .ensures, c .before .before .before .before .before .before .before .before .before .before .before .before .before .before .before .if1 .left)) _ (c .before .before .before .before .before .before .before .before .before .before .before .before .before .before .byte-at .ensures)), clause-size _ _ _ _ (c .before .before .before .before .before .before .before .before .before .before .before .before .before .before .before .before .before .before .before .before .before .before .args .i) (c .before .before .before .before .before .before .before .before .before .before .before .before .before .before .before .before .before .before .before .before .before .before .pre .1 .0) (c .before .before .before .before .before .before .before .before .before .before .before .before .before .before .before .before .before .before .before .before .before .before .args .c) (omega (arith, c .before .before .before .before .before .before .before .before .before .before .before .before .before .before .before .before .clause-count .ensures, c .before .before .before .before .before .before .before .before .before .before .before .before .before .before .before .if1 .left)) _ (c .before .before .before .before .before .before .before .before .before .before .before .before .before .byte-at2 .ensures), c .before .before .before .before .before .before .before .before .before .before .before .before .before .before .before .before .before .before .before .before .before .before .pre .1 .1, c .before .before .before .before .before .before .before .before .before .before .before .emit-chain .ensures .next, c .before .before .before .before .before .before .before .put-caught .ensures .next, c .before .before .before .emit-rest .ensures .next)))
+    (omega (arith, first-higher _ _ _ (c .before .before .before .before .before .before .before .before .before .before .before .before .before .before .before .before .before .before .before .before .before .args .i) (c .before .before .before .before .before .before .before .before .before .before .before .before .before .before .before .before .before .before .before .before .before .pre .1 .0) (c .before .before .before .before .before .before .before .before .before .before .before .before .before .before .before .before .before .before .before .before .before .args .c) (omega (arith, c .before .before .before .before .before .before .before .before .before .before .before .before .before .before .before .before .clause-count .ensures, c .before .before .before .before .before .before .before .before .before .before .before .before .before .before .before .if1 .left)) _ (c .before .before .before .before .before .before .before .before .before .before .before .before .before .byte-at2 .ensures), few _ _ _ (c .before .before .before .before .before .before .before .before .before .before .before .before .before .before .before .before .before .before .before .before .before .args .i) (c .before .before .before .before .before .before .before .before .before .before .before .before .before .before .before .before .before .before .before .before .before .pre .1 .0), c .before .before .before .before .before .before .before .before .before .before .before .before .before .before .before .before .clause-count .ensures, c .before .before .before .before .before .before .before .before .before .before .before .before .before .before .before .if1 .left, c .before .before .before .before .before .before .before .before .before .before .before .before .before .before .before .before .before .before .before .before .before .pre .0), (c .before .before .before .before .before .before .before .before .before .before .before .before .before .before .before .before .before .before .before .before .before .pre .1 .0, omega (arith, size-also (siblings-here _ _ _ (c .before .before .before .before .before .before .before .before .before .before .before .before .before .before .before .before .before .before .before .before .before .args .i) (c .before .before .before .before .before .before .before .before .before .before .before .before .before .before .before .before .before .before .before .before .before .pre .1 .0) (c .before .before .before .before .before .before .before .before .before .before .before .before .before .before .before .before .before .before .before .before .before .args .c) (omega (arith, c .before .before .before .before .before .before .before .before .before .before .before .before .before .before .before .before .clause-count .ensures, c .before .before .before .before .before .before .before .before .before .before .before .before .before .before .before .if1 .left)) _ (c .before .before .before .before .before .before .before .before .before .before .before .before .before .before .byte-at .ensures)), clause-size _ _ _ (c .before .before .before .before .before .before .before .before .before .before .before .before .before .before .before .before .before .before .before .before .before .args .i) (c .before .before .before .before .before .before .before .before .before .before .before .before .before .before .before .before .before .before .before .before .before .pre .1 .0) (c .before .before .before .before .before .before .before .before .before .before .before .before .before .before .before .before .before .before .before .before .before .args .c) (omega (arith, c .before .before .before .before .before .before .before .before .before .before .before .before .before .before .before .before .clause-count .ensures, c .before .before .before .before .before .before .before .before .before .before .before .before .before .before .before .if1 .left)) _ (c .before .before .before .before .before .before .before .before .before .before .before .before .before .byte-at2 .ensures), c .before .before .before .before .before .before .before .before .before .before .before .before .before .before .before .before .before .before .before .before .before .pre .1 .1, c .before .before .before .before .before .before .before .before .before .before .before .emit-chain .ensures .next, c .before .before .before .before .before .before .before .put-caught .ensures .next, c .before .before .before .emit-rest .ensures .next)))
 
 emit-chain-sub-put-far : (t : ℕ) → emit-chain-lts.Need-sub-put-far (R-emit-chain t) (emit-chain-at t) emit-chain.Post
 emit-chain-sub-put-far t c =
@@ -135,11 +135,11 @@ emit-chain-sub-put-far t c =
 
 emit-chain-add-put-far : (t : ℕ) → emit-chain-lts.Need-add-put-far (R-emit-chain t) (emit-chain-at t) emit-chain.Post
 emit-chain-add-put-far t c =
-    omega (arith, size-also (siblings-here _ _ _ _ (c .before .before .before .before .before .before .before .before .before .before .before .before .before .before .before .before .before .before .before .before .before .before .before .before .before .before .args .i) (c .before .before .before .before .before .before .before .before .before .before .before .before .before .before .before .before .before .before .before .before .before .before .before .before .before .before .pre .1 .0) (c .before .before .before .before .before .before .before .before .before .before .before .before .before .before .before .before .before .before .before .before .before .before .before .before .before .before .args .c) (omega (arith, c .before .before .before .before .before .before .before .before .before .before .before .before .before .before .before .before .before .before .before .before .clause-count .ensures, c .before .before .before .before .before .before .before .before .before .before .before .before .before .before .before .before .before .before .before .if1 .left)) _ (c .before .before .before .before .before .before .before .before .before .before .before .before .before .before .before .before .before .before .byte-at .ensures)), clause-size _ _ _ _ (c .before .before .before .before .before .before .before .before .before .before .before .before .before .before .before .before .before .before .before .before .before .before .before .before .before .before .args .i) (c .before .before .before .before .before .before .before .before .before .before .before .before .before .before .before .before .before .before .before .before .before .before .before .before .before .before .pre .1 .0) (c .before .before .before .before .before .before .before .before .before .before .before .before .before .before .before .before .before .before .before .before .before .before .before .before .before .before .args .c) (omega (arith, c .before .before .before .before .before .before .before .before .before .before .before .before .before .before .before .before .before .before .before .before .clause-count .ensures, c .before .before .before .before .before .before .before .before .before .before .before .before .before .before .before .before .before .before .before .if1 .left)) _ (c .before .before .before .before .before .before .before .before .before .before .before .before .before .before .before .before .before .byte-at2 .ensures), c .before .before .before .before .before .before .before .before .before .before .before .before .before .before .before .before .before .before .before .before .before .before .before .before .before .before .pre .1 .1, c .before .before .before .before .before .before .before .before .before .before .before .before .before .before .before .emit-chain .ensures .next, c .before .before .before .before .before .before .before .before .before .before .before .put-caught .ensures .next, c .before .before .before .before .before .before .before .emit-rest .ensures .next, c .before .before .before .emit-around .ensures .next)
+    omega (arith, size-also (siblings-here _ _ _ (c .before .before .before .before .before .before .before .before .before .before .before .before .before .before .before .before .before .before .before .before .before .before .before .before .before .args .i) (c .before .before .before .before .before .before .before .before .before .before .before .before .before .before .before .before .before .before .before .before .before .before .before .before .before .pre .1 .0) (c .before .before .before .before .before .before .before .before .before .before .before .before .before .before .before .before .before .before .before .before .before .before .before .before .before .args .c) (omega (arith, c .before .before .before .before .before .before .before .before .before .before .before .before .before .before .before .before .before .before .before .before .clause-count .ensures, c .before .before .before .before .before .before .before .before .before .before .before .before .before .before .before .before .before .before .before .if1 .left)) _ (c .before .before .before .before .before .before .before .before .before .before .before .before .before .before .before .before .before .before .byte-at .ensures)), clause-size _ _ _ (c .before .before .before .before .before .before .before .before .before .before .before .before .before .before .before .before .before .before .before .before .before .before .before .before .before .args .i) (c .before .before .before .before .before .before .before .before .before .before .before .before .before .before .before .before .before .before .before .before .before .before .before .before .before .pre .1 .0) (c .before .before .before .before .before .before .before .before .before .before .before .before .before .before .before .before .before .before .before .before .before .before .before .before .before .args .c) (omega (arith, c .before .before .before .before .before .before .before .before .before .before .before .before .before .before .before .before .before .before .before .before .clause-count .ensures, c .before .before .before .before .before .before .before .before .before .before .before .before .before .before .before .before .before .before .before .if1 .left)) _ (c .before .before .before .before .before .before .before .before .before .before .before .before .before .before .before .before .before .byte-at2 .ensures), c .before .before .before .before .before .before .before .before .before .before .before .before .before .before .before .before .before .before .before .before .before .before .before .before .before .pre .1 .1, c .before .before .before .before .before .before .before .before .before .before .before .before .before .before .before .emit-chain .ensures .next, c .before .before .before .before .before .before .before .before .before .before .before .put-caught .ensures .next, c .before .before .before .before .before .before .before .emit-rest .ensures .next, c .before .before .before .emit-around .ensures .next)
 
 emit-chain-put-far-requires : (t : ℕ) → emit-chain-lts.Need-put-far-requires (R-emit-chain t) (emit-chain-at t) emit-chain.Post
 emit-chain-put-far-requires t c κs =
-    omega (arith, size-also (siblings-here _ _ _ _ (c .before .before .before .before .before .before .before .before .before .before .before .before .before .before .before .before .before .before .before .before .before .before .before .before .before .before .args .i) (c .before .before .before .before .before .before .before .before .before .before .before .before .before .before .before .before .before .before .before .before .before .before .before .before .before .before .pre .1 .0) (c .before .before .before .before .before .before .before .before .before .before .before .before .before .before .before .before .before .before .before .before .before .before .before .before .before .before .args .c) (omega (arith, c .before .before .before .before .before .before .before .before .before .before .before .before .before .before .before .before .before .before .before .before .clause-count .ensures, c .before .before .before .before .before .before .before .before .before .before .before .before .before .before .before .before .before .before .before .if1 .left)) _ (c .before .before .before .before .before .before .before .before .before .before .before .before .before .before .before .before .before .before .byte-at .ensures)), clause-size _ _ _ _ (c .before .before .before .before .before .before .before .before .before .before .before .before .before .before .before .before .before .before .before .before .before .before .before .before .before .before .args .i) (c .before .before .before .before .before .before .before .before .before .before .before .before .before .before .before .before .before .before .before .before .before .before .before .before .before .before .pre .1 .0) (c .before .before .before .before .before .before .before .before .before .before .before .before .before .before .before .before .before .before .before .before .before .before .before .before .before .before .args .c) (omega (arith, c .before .before .before .before .before .before .before .before .before .before .before .before .before .before .before .before .before .before .before .before .clause-count .ensures, c .before .before .before .before .before .before .before .before .before .before .before .before .before .before .before .before .before .before .before .if1 .left)) _ (c .before .before .before .before .before .before .before .before .before .before .before .before .before .before .before .before .before .byte-at2 .ensures), c .before .before .before .before .before .before .before .before .before .before .before .before .before .before .before .before .before .before .before .before .before .before .before .before .before .before .pre .1 .1, c .before .before .before .before .before .before .before .before .before .before .before .before .before .before .before .emit-chain .ensures .next, c .before .before .before .before .before .before .before .before .before .before .before .put-caught .ensures .next, c .before .before .before .before .before .before .before .emit-rest .ensures .next, c .before .before .before .emit-around .ensures .next)
+    omega (arith, size-also (siblings-here _ _ _ (c .before .before .before .before .before .before .before .before .before .before .before .before .before .before .before .before .before .before .before .before .before .before .before .before .before .args .i) (c .before .before .before .before .before .before .before .before .before .before .before .before .before .before .before .before .before .before .before .before .before .before .before .before .before .pre .1 .0) (c .before .before .before .before .before .before .before .before .before .before .before .before .before .before .before .before .before .before .before .before .before .before .before .before .before .args .c) (omega (arith, c .before .before .before .before .before .before .before .before .before .before .before .before .before .before .before .before .before .before .before .before .clause-count .ensures, c .before .before .before .before .before .before .before .before .before .before .before .before .before .before .before .before .before .before .before .if1 .left)) _ (c .before .before .before .before .before .before .before .before .before .before .before .before .before .before .before .before .before .before .byte-at .ensures)), clause-size _ _ _ (c .before .before .before .before .before .before .before .before .before .before .before .before .before .before .before .before .before .before .before .before .before .before .before .before .before .args .i) (c .before .before .before .before .before .before .before .before .before .before .before .before .before .before .before .before .before .before .before .before .before .before .before .before .before .pre .1 .0) (c .before .before .before .before .before .before .before .before .before .before .before .before .before .before .before .before .before .before .before .before .before .before .before .before .before .args .c) (omega (arith, c .before .before .before .before .before .before .before .before .before .before .before .before .before .before .before .before .before .before .before .before .clause-count .ensures, c .before .before .before .before .before .before .before .before .before .before .before .before .before .before .before .before .before .before .before .if1 .left)) _ (c .before .before .before .before .before .before .before .before .before .before .before .before .before .before .before .before .before .byte-at2 .ensures), c .before .before .before .before .before .before .before .before .before .before .before .before .before .before .before .before .before .before .before .before .before .before .before .before .before .pre .1 .1, c .before .before .before .before .before .before .before .before .before .before .before .before .before .before .before .emit-chain .ensures .next, c .before .before .before .before .before .before .before .before .before .before .before .put-caught .ensures .next, c .before .before .before .before .before .before .before .emit-rest .ensures .next, c .before .before .before .emit-around .ensures .next)
 
 emit-chain-same-length : (t : ℕ) → emit-chain-lts.Need-same-length (R-emit-chain t) (emit-chain-at t) emit-chain.Post
 emit-chain-same-length t c =
@@ -147,8 +147,8 @@ emit-chain-same-length t c =
 
 emit-chain-returns-2 : (t : ℕ) → emit-chain-lts.Need-returns-2 (R-emit-chain t) (emit-chain-at t) emit-chain.Post
 emit-chain-returns-2 t c =
-    emits-also (siblings-here _ _ _ _ (c .before .before .before .before .before .before .before .before .before .before .before .before .before .before .before .before .before .before .before .before .before .before .before .before .before .before .before .before .before .args .i) (c .before .before .before .before .before .before .before .before .before .before .before .before .before .before .before .before .before .before .before .before .before .before .before .before .before .before .before .before .before .pre .1 .0) (c .before .before .before .before .before .before .before .before .before .before .before .before .before .before .before .before .before .before .before .before .before .before .before .before .before .before .before .before .before .args .c) (omega (arith, c .before .before .before .before .before .before .before .before .before .before .before .before .before .before .before .before .before .before .before .before .before .before .before .clause-count .ensures, c .before .before .before .before .before .before .before .before .before .before .before .before .before .before .before .before .before .before .before .before .before .before .if1 .left)) _ (c .before .before .before .before .before .before .before .before .before .before .before .before .before .before .before .before .before .before .before .before .before .byte-at .ensures)) (c .before .before .before .before .before .before .before .before .before .before .before .before .before .before .before .before .before .before .emit-chain .ensures) (c .before .before .before .before .before .before .before .before .before .before .before .before .before .before .put-caught .ensures)
-    (emits-clause _ _ _ _ (c .before .before .before .before .before .before .before .before .before .before .before .before .before .before .before .before .before .before .before .before .before .before .before .before .before .before .before .before .before .args .i) (c .before .before .before .before .before .before .before .before .before .before .before .before .before .before .before .before .before .before .before .before .before .before .before .before .before .before .before .before .before .pre .1 .0) (c .before .before .before .before .before .before .before .before .before .before .before .before .before .before .before .before .before .before .before .before .before .before .before .before .before .before .before .before .before .args .c) (omega (arith, c .before .before .before .before .before .before .before .before .before .before .before .before .before .before .before .before .before .before .before .before .before .before .before .clause-count .ensures, c .before .before .before .before .before .before .before .before .before .before .before .before .before .before .before .before .before .before .before .before .before .before .if1 .left)) _ (c .before .before .before .before .before .before .before .before .before .before .before .before .before .before .before .before .before .before .before .before .byte-at2 .ensures) (c .before .before .before .before .before .before .before .before .before .before .emit-rest .ensures) refl (c .before .before .before .before .before .before .emit-around .ensures)) refl (c .before .before .put-far .ensures)
+    emits-also (siblings-here _ _ _ (c .before .before .before .before .before .before .before .before .before .before .before .before .before .before .before .before .before .before .before .before .before .before .before .before .before .before .before .before .args .i) (c .before .before .before .before .before .before .before .before .before .before .before .before .before .before .before .before .before .before .before .before .before .before .before .before .before .before .before .before .pre .1 .0) (c .before .before .before .before .before .before .before .before .before .before .before .before .before .before .before .before .before .before .before .before .before .before .before .before .before .before .before .before .args .c) (omega (arith, c .before .before .before .before .before .before .before .before .before .before .before .before .before .before .before .before .before .before .before .before .before .before .before .clause-count .ensures, c .before .before .before .before .before .before .before .before .before .before .before .before .before .before .before .before .before .before .before .before .before .before .if1 .left)) _ (c .before .before .before .before .before .before .before .before .before .before .before .before .before .before .before .before .before .before .before .before .before .byte-at .ensures)) (c .before .before .before .before .before .before .before .before .before .before .before .before .before .before .before .before .before .before .emit-chain .ensures) (c .before .before .before .before .before .before .before .before .before .before .before .before .before .before .put-caught .ensures)
+    (emits-clause _ _ _ (c .before .before .before .before .before .before .before .before .before .before .before .before .before .before .before .before .before .before .before .before .before .before .before .before .before .before .before .before .args .i) (c .before .before .before .before .before .before .before .before .before .before .before .before .before .before .before .before .before .before .before .before .before .before .before .before .before .before .before .before .pre .1 .0) (c .before .before .before .before .before .before .before .before .before .before .before .before .before .before .before .before .before .before .before .before .before .before .before .before .before .before .before .before .args .c) (omega (arith, c .before .before .before .before .before .before .before .before .before .before .before .before .before .before .before .before .before .before .before .before .before .before .before .clause-count .ensures, c .before .before .before .before .before .before .before .before .before .before .before .before .before .before .before .before .before .before .before .before .before .before .if1 .left)) _ (c .before .before .before .before .before .before .before .before .before .before .before .before .before .before .before .before .before .before .before .before .byte-at2 .ensures) (c .before .before .before .before .before .before .before .before .before .before .emit-rest .ensures) refl (c .before .before .before .before .before .before .emit-around .ensures)) refl (c .before .before .put-far .ensures)
 
 pub +emit-around+emit-chain-spec : {M : Type 1} → statement M
 +emit-around+emit-chain-spec = close μ-emit-around μ-emit-chain (λ t. emit-around-lts.spec (R-emit-around t)

@@ -32,7 +32,7 @@ use Rattle.emitter.proofs.+emit_below+emit_branches+emit_default+emit_e
 use Rattle.emitter.proofs.emit_exception.Reads as emit-exception
 use Rattle.emitter.proofs.emit_exception.Kinds as emit-exception-kinds
 use Rattle.emitter.proofs.+emit_below+emit_branches+emit_default+emit_exception.Lts-emit_exception as emit-exception-lts
-use Rattle.tables.proofs.node_at.Reads as node-at-reads
+use Rattle.index.proofs.node_at.Reads as node-at-reads
 use Rattle.emitter.proofs.binary_kind.Reads as binary-kind-reads
 use Rattle.emitter.proofs.no_exception.Reads as no-exception-reads
 use Rattle.emitter.proofs.put_caught.Reads as put-caught-reads
@@ -43,64 +43,64 @@ use Rattle.emitter.proofs.put_truth.Reads as put-truth-reads
 use Rattle.emitter.proofs.put_two.Reads as put-two-reads
 use Rattle.emitter.proofs.unary_kind.Reads as unary-kind-reads
 
-abbrev μ-emit-below : Measures 4 emit-below-kinds.ps ℕ
-μ-emit-below κs a = 3 * (a .1 .1 .1 .1 .0)
+abbrev μ-emit-below : Measures 3 emit-below-kinds.ps ℕ
+μ-emit-below κs a = 3 * (a .1 .1 .1 .0)
 
-abbrev μ-emit-branches : Measures 4 emit-branches-kinds.ps ℕ
-μ-emit-branches κs a = 3 * (a .1 .1 .1 .1 .0) + 1
+abbrev μ-emit-branches : Measures 3 emit-branches-kinds.ps ℕ
+μ-emit-branches κs a = 3 * (a .1 .1 .1 .0) + 1
 
-abbrev μ-emit-default : Measures 4 emit-default-kinds.ps ℕ
-μ-emit-default κs a = 3 * (a .1 .1 .1 .1 .0) + 2
+abbrev μ-emit-default : Measures 3 emit-default-kinds.ps ℕ
+μ-emit-default κs a = 3 * (a .1 .1 .1 .0) + 2
 
-abbrev μ-emit-exception : Measures 4 emit-exception-kinds.ps ℕ
-μ-emit-exception κs a = 3 * (a .1 .1 .1 .1 .0) + 1
+abbrev μ-emit-exception : Measures 3 emit-exception-kinds.ps ℕ
+μ-emit-exception κs a = 3 * (a .1 .1 .1 .0) + 1
 
-abbrev emit-below-at : ℕ → In 4 emit-below-kinds.ps
+abbrev emit-below-at : ℕ → In 3 emit-below-kinds.ps
 emit-below-at t =
-    and 4 emit-below-kinds.ps (is 4 emit-below-kinds.ps μ-emit-below t) emit-below.Pre
+    and 3 emit-below-kinds.ps (is 3 emit-below-kinds.ps μ-emit-below t) emit-below.Pre
 
-abbrev emit-below-below : ℕ → In 4 emit-below-kinds.ps
+abbrev emit-below-below : ℕ → In 3 emit-below-kinds.ps
 emit-below-below t =
-    and 4 emit-below-kinds.ps (falls 4 emit-below-kinds.ps _<_ μ-emit-below t) emit-below.Pre
+    and 3 emit-below-kinds.ps (falls 3 emit-below-kinds.ps _<_ μ-emit-below t) emit-below.Pre
 
-abbrev emit-branches-at : ℕ → In 4 emit-branches-kinds.ps
+abbrev emit-branches-at : ℕ → In 3 emit-branches-kinds.ps
 emit-branches-at t =
-    and 4 emit-branches-kinds.ps (is 4 emit-branches-kinds.ps μ-emit-branches t) emit-branches.Pre
+    and 3 emit-branches-kinds.ps (is 3 emit-branches-kinds.ps μ-emit-branches t) emit-branches.Pre
 
-abbrev emit-branches-below : ℕ → In 4 emit-branches-kinds.ps
+abbrev emit-branches-below : ℕ → In 3 emit-branches-kinds.ps
 emit-branches-below t =
     and
-    4
+    3
     emit-branches-kinds.ps
-    (falls 4 emit-branches-kinds.ps _<_ μ-emit-branches t)
+    (falls 3 emit-branches-kinds.ps _<_ μ-emit-branches t)
     emit-branches.Pre
 
-abbrev emit-default-at : ℕ → In 4 emit-default-kinds.ps
+abbrev emit-default-at : ℕ → In 3 emit-default-kinds.ps
 emit-default-at t =
-    and 4 emit-default-kinds.ps (is 4 emit-default-kinds.ps μ-emit-default t) emit-default.Pre
+    and 3 emit-default-kinds.ps (is 3 emit-default-kinds.ps μ-emit-default t) emit-default.Pre
 
-abbrev emit-default-below : ℕ → In 4 emit-default-kinds.ps
+abbrev emit-default-below : ℕ → In 3 emit-default-kinds.ps
 emit-default-below t =
     and
-    4
+    3
     emit-default-kinds.ps
-    (falls 4 emit-default-kinds.ps _<_ μ-emit-default t)
+    (falls 3 emit-default-kinds.ps _<_ μ-emit-default t)
     emit-default.Pre
 
-abbrev emit-exception-at : ℕ → In 4 emit-exception-kinds.ps
+abbrev emit-exception-at : ℕ → In 3 emit-exception-kinds.ps
 emit-exception-at t =
     and
-    4
+    3
     emit-exception-kinds.ps
-    (is 4 emit-exception-kinds.ps μ-emit-exception t)
+    (is 3 emit-exception-kinds.ps μ-emit-exception t)
     emit-exception.Pre
 
-abbrev emit-exception-below : ℕ → In 4 emit-exception-kinds.ps
+abbrev emit-exception-below : ℕ → In 3 emit-exception-kinds.ps
 emit-exception-below t =
     and
-    4
+    3
     emit-exception-kinds.ps
-    (falls 4 emit-exception-kinds.ps _<_ μ-emit-exception t)
+    (falls 3 emit-exception-kinds.ps _<_ μ-emit-exception t)
     emit-exception.Pre
 
 abbrev R-emit-below : ℕ → emit-below-lts.Claims
@@ -124,15 +124,15 @@ After t = emit-below-lts.After-node-at (R-emit-below t) (emit-below-at t) emit-b
 
 -- the term of node n, by the variant that it was found to be
 found : (t : ℕ) (c : After t) (nd : Node) → c .node-at .result ≡ nd →
-    let s = c .before .before .before .before .before .before .args in
+    let s = c .before .before .before .before .before .args in
     nodeBelow (now (s .book)) (s .i) (s .limit) (s .n) ≡ nodeTerm (nodeBelow (now (s .book)) (s .i) (s .n)) nd
 found t c nd same =
-    let s = c .before .before .before .before .before .before .args in
+    let s = c .before .before .before .before .before .args in
     below-here (now (s .book)) (s .i) (s .limit) (s .n) _ nd (c .before .if1 .left) (c .node-at .ensures) same
 
 emit-below-put-one-requires : (t : ℕ) → emit-below-lts.Need-put-one-requires (R-emit-below t) (emit-below-at t) emit-below.Post
 emit-below-put-one-requires t c κs =
-    omega (arith, size-error (below-past (now (c .before .before .before .before .before .before .args .book)) (c .before .before .before .before .before .before .args .i) (c .before .before .before .before .before .before .args .limit) (c .before .before .before .before .before .before .args .n) (c .before .if1 .taken)), c .before .before .before .before .before .before .pre .1 .1)
+    omega (arith, size-error (below-past (now (c .before .before .before .before .before .args .book)) (c .before .before .before .before .before .args .i) (c .before .before .before .before .before .args .limit) (c .before .before .before .before .before .args .n) (c .before .if1 .taken)), c .before .before .before .before .before .pre .1 .1)
 
 emit-below-same-length : (t : ℕ) → emit-below-lts.Need-same-length (R-emit-below t) (emit-below-at t) emit-below.Post
 emit-below-same-length t c =
@@ -150,46 +150,46 @@ emit-below-enum-known-node t c = search needs
 
 emit-below-put-truth-requires : (t : ℕ) → emit-below-lts.Need-put-truth-requires (R-emit-below t) (emit-below-at t) emit-below.Post
 emit-below-put-truth-requires t c κs =
-    omega (arith, size-truth (found t (c .before .before .before .before) _ (c .before .before .node .given .1)), c .before .before .before .before .before .before .before .before .before .before .pre .1 .1)
+    omega (arith, size-truth (found t (c .before .before .before .before) _ (c .before .before .node .given .1)), c .before .before .before .before .before .before .before .before .before .pre .1 .1)
 
 emit-below-enum-known-node-2 : (t : ℕ) → emit-below-lts.Need-enum-known-node-2 (R-emit-below t) (emit-below-at t) emit-below.Post
 emit-below-enum-known-node-2 t c = search needs
 
 emit-below-put-number-requires : (t : ℕ) → emit-below-lts.Need-put-number-requires (R-emit-below t) (emit-below-at t) emit-below.Post
 emit-below-put-number-requires t c κs =
-    omega (arith, size-number (found t (c .before .before .before .before) _ (c .before .before .node2 .given .1)), c .before .before .before .before .before .before .before .before .before .before .pre .1 .1)
+    omega (arith, size-number (found t (c .before .before .before .before) _ (c .before .before .node2 .given .1)), c .before .before .before .before .before .before .before .before .before .pre .1 .1)
 
 emit-below-enum-known-node-3 : (t : ℕ) → emit-below-lts.Need-enum-known-node-3 (R-emit-below t) (emit-below-at t) emit-below.Post
 emit-below-enum-known-node-3 t c = search needs
 
 emit-below-put-two-requires : (t : ℕ) → emit-below-lts.Need-put-two-requires (R-emit-below t) (emit-below-at t) emit-below.Post
 emit-below-put-two-requires t c κs =
-    omega (arith, size-own (found t (c .before .before .before .before) _ (c .before .before .node3 .given .1)), c .before .before .before .before .before .before .before .before .before .before .pre .1 .1)
+    omega (arith, size-own (found t (c .before .before .before .before) _ (c .before .before .node3 .given .1)), c .before .before .before .before .before .before .before .before .before .pre .1 .1)
 
 emit-below-enum-known-node-4 : (t : ℕ) → emit-below-lts.Need-enum-known-node-4 (R-emit-below t) (emit-below-at t) emit-below.Post
 emit-below-enum-known-node-4 t c = search needs
 
 emit-below-put-two-requires-2 : (t : ℕ) → emit-below-lts.Need-put-two-requires-2 (R-emit-below t) (emit-below-at t) emit-below.Post
 emit-below-put-two-requires-2 t c κs =
-    omega (arith, size-called (found t (c .before .before .before .before) _ (c .before .before .node4 .given .1)), c .before .before .before .before .before .before .before .before .before .before .pre .1 .1)
+    omega (arith, size-called (found t (c .before .before .before .before) _ (c .before .before .node4 .given .1)), c .before .before .before .before .before .before .before .before .before .pre .1 .1)
 
 emit-below-put-one-requires-2 : (t : ℕ) → emit-below-lts.Need-put-one-requires-2 (R-emit-below t) (emit-below-at t) emit-below.Post
 emit-below-put-one-requires-2 t c κs =
-    omega (arith, size-called (found t (c .before .before .before .before .before .before .before .before) _ (c .before .before .before .before .before .before .node4 .given .1)), c .before .before .before .before .before .before .before .before .before .before .before .before .before .before .pre .1 .1, c .before .before .before .put-two2 .ensures .next)
+    omega (arith, size-called (found t (c .before .before .before .before .before .before .before .before) _ (c .before .before .before .before .before .before .node4 .given .1)), c .before .before .before .before .before .before .before .before .before .before .before .before .before .pre .1 .1, c .before .before .before .put-two2 .ensures .next)
 
 emit-below-enum-told : (t : ℕ) → emit-below-lts.Need-enum-told (R-emit-below t) (emit-below-at t) emit-below.Post
 emit-below-enum-told t c = search needs
 
 emit-below-put-one-requires-3 : (t : ℕ) → emit-below-lts.Need-put-one-requires-3 (R-emit-below t) (emit-below-at t) emit-below.Post
 emit-below-put-one-requires-3 t c κs =
-    omega (arith, size-error (found t (c .before .before .before) _ (c .before .enum-told .given .1)), c .before .before .before .before .before .before .before .before .before .pre .1 .1)
+    omega (arith, size-error (found t (c .before .before .before) _ (c .before .enum-told .given .1)), c .before .before .before .before .before .before .before .before .pre .1 .1)
 
 emit-below-enum-told-2 : (t : ℕ) → emit-below-lts.Need-enum-told-2 (R-emit-below t) (emit-below-at t) emit-below.Post
 emit-below-enum-told-2 t c = search needs
 
 emit-below-put-one-requires-4 : (t : ℕ) → emit-below-lts.Need-put-one-requires-4 (R-emit-below t) (emit-below-at t) emit-below.Post
 emit-below-put-one-requires-4 t c κs =
-    omega (arith, size-error (found t (c .before .before .before) _ (c .before .enum-told2 .given .1)), c .before .before .before .before .before .before .before .before .before .pre .1 .1)
+    omega (arith, size-error (found t (c .before .before .before) _ (c .before .enum-told2 .given .1)), c .before .before .before .before .before .before .before .before .pre .1 .1)
 
 emit-below-enum-known-node-5 : (t : ℕ) → emit-below-lts.Need-enum-known-node-5 (R-emit-below t) (emit-below-at t) emit-below.Post
 emit-below-enum-known-node-5 t c = search needs
@@ -199,14 +199,14 @@ emit-below-unary-kind-requires t c κs = search needs
 
 emit-below-put-one-requires-5 : (t : ℕ) → emit-below-lts.Need-put-one-requires-5 (R-emit-below t) (emit-below-at t) emit-below.Post
 emit-below-put-one-requires-5 t c κs =
-    omega (arith, size-unary (found t (c .before .before .before .before .before) _ (c .before .before .before .node5 .given .1)), c .before .before .before .before .before .before .before .before .before .before .before .pre .1 .1)
+    omega (arith, size-unary (found t (c .before .before .before .before .before) _ (c .before .before .before .node5 .given .1)), c .before .before .before .before .before .before .before .before .before .before .pre .1 .1)
 
 emit-below-cast-emit-below : (t : ℕ) → emit-below-lts.Need-cast-emit-below (R-emit-below t) (emit-below-at t) emit-below.Post
 emit-below-cast-emit-below t c = search needs
 
 emit-below-emit-below-requires : (t : ℕ) → emit-below-lts.Need-emit-below-requires (R-emit-below t) (emit-below-at t) emit-below.Post
 emit-below-emit-below-requires t c κs =
-    (omega (arith, c .before .before .before .before .before .before .before .before .before .before .before .before .before .before .before .pre .0, c .before .before .before .before .before .before .before .before .before .before .if1 .left), (c .before .before .before .before .before .before .before .before .before .before .before .before .before .before .before .pre .1 .0, omega (arith, size-unary (found t (c .before .before .before .before .before .before .before .before .before) _ (c .before .before .before .before .before .before .before .node5 .given .1)), c .before .before .before .before .before .before .before .before .before .before .before .before .before .before .before .pre .1 .1, c .before .before .before .put-one5 .ensures .next)))
+    (omega (arith, c .before .before .before .before .before .before .before .before .before .before .before .before .before .before .pre .0, c .before .before .before .before .before .before .before .before .before .before .if1 .left), (c .before .before .before .before .before .before .before .before .before .before .before .before .before .before .pre .1 .0, omega (arith, size-unary (found t (c .before .before .before .before .before .before .before .before .before) _ (c .before .before .before .before .before .before .before .node5 .given .1)), c .before .before .before .before .before .before .before .before .before .before .before .before .before .before .pre .1 .1, c .before .before .before .put-one5 .ensures .next)))
 
 emit-below-enum-known-node-6 : (t : ℕ) → emit-below-lts.Need-enum-known-node-6 (R-emit-below t) (emit-below-at t) emit-below.Post
 emit-below-enum-known-node-6 t c = search needs
@@ -216,21 +216,21 @@ emit-below-binary-kind-requires t c κs = search needs
 
 emit-below-put-one-requires-6 : (t : ℕ) → emit-below-lts.Need-put-one-requires-6 (R-emit-below t) (emit-below-at t) emit-below.Post
 emit-below-put-one-requires-6 t c κs =
-    omega (arith, size-binary (found t (c .before .before .before .before .before) _ (c .before .before .before .node6 .given .1)), c .before .before .before .before .before .before .before .before .before .before .before .pre .1 .1)
+    omega (arith, size-binary (found t (c .before .before .before .before .before) _ (c .before .before .before .node6 .given .1)), c .before .before .before .before .before .before .before .before .before .before .pre .1 .1)
 
 emit-below-cast-emit-below-2 : (t : ℕ) → emit-below-lts.Need-cast-emit-below-2 (R-emit-below t) (emit-below-at t) emit-below.Post
 emit-below-cast-emit-below-2 t c = search needs
 
 emit-below-emit-below-requires-2 : (t : ℕ) → emit-below-lts.Need-emit-below-requires-2 (R-emit-below t) (emit-below-at t) emit-below.Post
 emit-below-emit-below-requires-2 t c κs =
-    (omega (arith, c .before .before .before .before .before .before .before .before .before .before .before .before .before .before .before .pre .0, c .before .before .before .before .before .before .before .before .before .before .if1 .left), (c .before .before .before .before .before .before .before .before .before .before .before .before .before .before .before .pre .1 .0, omega (arith, size-binary (found t (c .before .before .before .before .before .before .before .before .before) _ (c .before .before .before .before .before .before .before .node6 .given .1)), c .before .before .before .before .before .before .before .before .before .before .before .before .before .before .before .pre .1 .1, c .before .before .before .put-one6 .ensures .next)))
+    (omega (arith, c .before .before .before .before .before .before .before .before .before .before .before .before .before .before .pre .0, c .before .before .before .before .before .before .before .before .before .before .if1 .left), (c .before .before .before .before .before .before .before .before .before .before .before .before .before .before .pre .1 .0, omega (arith, size-binary (found t (c .before .before .before .before .before .before .before .before .before) _ (c .before .before .before .before .before .before .before .node6 .given .1)), c .before .before .before .before .before .before .before .before .before .before .before .before .before .before .pre .1 .1, c .before .before .before .put-one6 .ensures .next)))
 
 emit-below-cast-emit-below-3 : (t : ℕ) → emit-below-lts.Need-cast-emit-below-3 (R-emit-below t) (emit-below-at t) emit-below.Post
 emit-below-cast-emit-below-3 t c = search needs
 
 emit-below-emit-below-requires-3 : (t : ℕ) → emit-below-lts.Need-emit-below-requires-3 (R-emit-below t) (emit-below-at t) emit-below.Post
 emit-below-emit-below-requires-3 t c κs =
-    (omega (arith, c .before .before .before .before .before .before .before .before .before .before .before .before .before .before .before .before .before .before .before .pre .0, c .before .before .before .before .before .before .before .before .before .before .before .before .before .before .if1 .left), (c .before .before .before .before .before .before .before .before .before .before .before .before .before .before .before .before .before .before .before .pre .1 .0, omega (arith, size-binary (found t (c .before .before .before .before .before .before .before .before .before .before .before .before .before) _ (c .before .before .before .before .before .before .before .before .before .before .before .node6 .given .1)), c .before .before .before .before .before .before .before .before .before .before .before .before .before .before .before .before .before .before .before .pre .1 .1, c .before .before .before .before .before .before .before .put-one6 .ensures .next, c .before .before .before .emit-below2 .ensures .next)))
+    (omega (arith, c .before .before .before .before .before .before .before .before .before .before .before .before .before .before .before .before .before .before .pre .0, c .before .before .before .before .before .before .before .before .before .before .before .before .before .before .if1 .left), (c .before .before .before .before .before .before .before .before .before .before .before .before .before .before .before .before .before .before .pre .1 .0, omega (arith, size-binary (found t (c .before .before .before .before .before .before .before .before .before .before .before .before .before) _ (c .before .before .before .before .before .before .before .before .before .before .before .node6 .given .1)), c .before .before .before .before .before .before .before .before .before .before .before .before .before .before .before .before .before .before .pre .1 .1, c .before .before .before .before .before .before .before .put-one6 .ensures .next, c .before .before .before .emit-below2 .ensures .next)))
 
 emit-below-enum-known-node-7 : (t : ℕ) → emit-below-lts.Need-enum-known-node-7 (R-emit-below t) (emit-below-at t) emit-below.Post
 emit-below-enum-known-node-7 t c = search needs
@@ -240,7 +240,7 @@ emit-below-cast-emit-below-4 t c = search needs
 
 emit-below-emit-below-requires-4 : (t : ℕ) → emit-below-lts.Need-emit-below-requires-4 (R-emit-below t) (emit-below-at t) emit-below.Post
 emit-below-emit-below-requires-4 t c κs =
-    (omega (arith, c .before .before .before .before .before .before .before .before .before .before .pre .0, c .before .before .before .before .before .if1 .left), (c .before .before .before .before .before .before .before .before .before .before .pre .1 .0, omega (arith, size-choice (found t (c .before .before .before .before) _ (c .before .before .node7 .given .1)), c .before .before .before .before .before .before .before .before .before .before .pre .1 .1)))
+    (omega (arith, c .before .before .before .before .before .before .before .before .before .pre .0, c .before .before .before .before .before .if1 .left), (c .before .before .before .before .before .before .before .before .before .pre .1 .0, omega (arith, size-choice (found t (c .before .before .before .before) _ (c .before .before .node7 .given .1)), c .before .before .before .before .before .before .before .before .before .pre .1 .1)))
 
 emit-below-sub-emit-branches : (t : ℕ) → emit-below-lts.Need-sub-emit-branches (R-emit-below t) (emit-below-at t) emit-below.Post
 emit-below-sub-emit-branches t c =
@@ -248,14 +248,14 @@ emit-below-sub-emit-branches t c =
 
 emit-below-emit-branches-requires : (t : ℕ) → emit-below-lts.Need-emit-branches-requires (R-emit-below t) (emit-below-at t) emit-below.Post
 emit-below-emit-branches-requires t c κs =
-    (omega (arith, c .before .before .before .before .before .before .before .before .before .before .before .before .before .before .pre .0, c .before .before .before .before .before .before .before .before .before .if1 .left), (c .before .before .before .before .before .before .before .before .before .before .before .before .before .before .pre .1 .0, omega (arith, size-choice (found t (c .before .before .before .before .before .before .before .before) _ (c .before .before .before .before .before .before .node7 .given .1)), c .before .before .before .before .before .before .before .before .before .before .before .before .before .before .pre .1 .1, c .before .before .before .emit-below4 .ensures .next)))
+    (omega (arith, c .before .before .before .before .before .before .before .before .before .before .before .before .before .pre .0, c .before .before .before .before .before .before .before .before .before .if1 .left), (c .before .before .before .before .before .before .before .before .before .before .before .before .before .pre .1 .0, omega (arith, size-choice (found t (c .before .before .before .before .before .before .before .before) _ (c .before .before .before .before .before .before .node7 .given .1)), c .before .before .before .before .before .before .before .before .before .before .before .before .before .pre .1 .1, c .before .before .before .emit-below4 .ensures .next)))
 
 emit-below-enum-known-node-8 : (t : ℕ) → emit-below-lts.Need-enum-known-node-8 (R-emit-below t) (emit-below-at t) emit-below.Post
 emit-below-enum-known-node-8 t c = search needs
 
 emit-below-emit-default-requires : (t : ℕ) → emit-below-lts.Need-emit-default-requires (R-emit-below t) (emit-below-at t) emit-below.Post
 emit-below-emit-default-requires t c κs =
-    (omega (arith, c .before .before .before .before .before .before .before .before .before .before .pre .0, c .before .before .before .before .before .if1 .left), (c .before .before .before .before .before .before .before .before .before .before .pre .1 .0, room-same _ _ _ (found t (c .before .before .before .before) _ (c .before .before .node8 .given .1) ∙ default-same _ _ _ _ _ _ _ _) (c .before .before .before .before .before .before .before .before .before .before .pre .1 .1)))
+    (omega (arith, c .before .before .before .before .before .before .before .before .before .pre .0, c .before .before .before .before .before .if1 .left), (c .before .before .before .before .before .before .before .before .before .pre .1 .0, room-same _ _ _ (found t (c .before .before .before .before) _ (c .before .before .node8 .given .1) ∙ default-same _ _ _ _ _ _ _ _) (c .before .before .before .before .before .before .before .before .before .pre .1 .1)))
 
 emit-below-same-length-2 : (t : ℕ) → emit-below-lts.Need-same-length-2 (R-emit-below t) (emit-below-at t) emit-below.Post
 emit-below-same-length-2 t c =
@@ -336,15 +336,15 @@ emit-below-same-length-11 t c =
 
 emit-below-returns-11 : (t : ℕ) → emit-below-lts.Need-returns-11 (R-emit-below t) (emit-below-at t) emit-below.Post
 emit-below-returns-11 t c =
-    told (found t (c .before .before .before .before .before .before .before) _ (c .before .before .before .before .before .node8 .given .1) ∙ default-same (now (c .before .before .before .before .before .before .before .before .before .before .before .before .before .args .book)) (c .before .before .before .before .before .before .before .before .before .before .before .before .before .args .i) (c .before .before .before .before .before .before .before .before .before .before .before .before .before .args .n) _ _ _ _ _) (c .before .before .emit-default .ensures)
+    told (found t (c .before .before .before .before .before .before .before) _ (c .before .before .before .before .before .node8 .given .1) ∙ default-same (now (c .before .before .before .before .before .before .before .before .before .before .before .before .args .book)) (c .before .before .before .before .before .before .before .before .before .before .before .before .args .i) (c .before .before .before .before .before .before .before .before .before .before .before .before .args .n) _ _ _ _ _) (c .before .before .emit-default .ensures)
 
 emit-branches-put-far-requires : (t : ℕ) → emit-branches-lts.Need-put-far-requires (R-emit-branches t) (emit-branches-at t) emit-branches.Post
 emit-branches-put-far-requires t c κs =
-    omega (arith, c .before .before .before .before .before .pre .1 .1)
+    omega (arith, c .before .before .before .before .pre .1 .1)
 
 emit-branches-emit-below-requires : (t : ℕ) → emit-branches-lts.Need-emit-below-requires (R-emit-branches t) (emit-branches-at t) emit-branches.Post
 emit-branches-emit-below-requires t c κs =
-    (omega (arith, c .before .before .before .before .before .before .before .before .before .pre .0), (c .before .before .before .before .before .before .before .before .before .pre .1 .0, omega (arith, c .before .before .before .before .before .before .before .before .before .pre .1 .1, c .before .before .before .put-far .ensures .next)))
+    (omega (arith, c .before .before .before .before .before .before .before .before .pre .0), (c .before .before .before .before .before .before .before .before .pre .1 .0, omega (arith, c .before .before .before .before .before .before .before .before .pre .1 .1, c .before .before .before .put-far .ensures .next)))
 
 emit-branches-sub-put-far : (t : ℕ) → emit-branches-lts.Need-sub-put-far (R-emit-branches t) (emit-branches-at t) emit-branches.Post
 emit-branches-sub-put-far t c =
@@ -352,15 +352,15 @@ emit-branches-sub-put-far t c =
 
 emit-branches-add-put-far : (t : ℕ) → emit-branches-lts.Need-add-put-far (R-emit-branches t) (emit-branches-at t) emit-branches.Post
 emit-branches-add-put-far t c =
-    omega (arith, c .before .before .before .before .before .before .before .before .before .before .before .before .before .pre .1 .1, c .before .before .before .before .before .before .before .put-far .ensures .next, c .before .before .before .emit-below .ensures .next)
+    omega (arith, c .before .before .before .before .before .before .before .before .before .before .before .before .pre .1 .1, c .before .before .before .before .before .before .before .put-far .ensures .next, c .before .before .before .emit-below .ensures .next)
 
 emit-branches-put-far-requires-2 : (t : ℕ) → emit-branches-lts.Need-put-far-requires-2 (R-emit-branches t) (emit-branches-at t) emit-branches.Post
 emit-branches-put-far-requires-2 t c κs =
-    omega (arith, c .before .before .before .before .before .before .before .before .before .before .before .before .before .pre .1 .1, c .before .before .before .before .before .before .before .put-far .ensures .next, c .before .before .before .emit-below .ensures .next)
+    omega (arith, c .before .before .before .before .before .before .before .before .before .before .before .before .pre .1 .1, c .before .before .before .before .before .before .before .put-far .ensures .next, c .before .before .before .emit-below .ensures .next)
 
 emit-branches-emit-below-requires-2 : (t : ℕ) → emit-branches-lts.Need-emit-below-requires-2 (R-emit-branches t) (emit-branches-at t) emit-branches.Post
 emit-branches-emit-below-requires-2 t c κs =
-    (omega (arith, c .before .before .before .before .before .before .before .before .before .before .before .before .before .before .before .before .before .pre .0), (c .before .before .before .before .before .before .before .before .before .before .before .before .before .before .before .before .before .pre .1 .0, omega (arith, c .before .before .before .before .before .before .before .before .before .before .before .before .before .before .before .before .before .pre .1 .1, c .before .before .before .before .before .before .before .before .before .before .before .put-far .ensures .next, c .before .before .before .before .before .before .before .emit-below .ensures .next, c .before .before .before .put-far2 .ensures .next)))
+    (omega (arith, c .before .before .before .before .before .before .before .before .before .before .before .before .before .before .before .before .pre .0), (c .before .before .before .before .before .before .before .before .before .before .before .before .before .before .before .before .pre .1 .0, omega (arith, c .before .before .before .before .before .before .before .before .before .before .before .before .before .before .before .before .pre .1 .1, c .before .before .before .before .before .before .before .before .before .before .before .put-far .ensures .next, c .before .before .before .before .before .before .before .emit-below .ensures .next, c .before .before .before .put-far2 .ensures .next)))
 
 emit-branches-same-length : (t : ℕ) → emit-branches-lts.Need-same-length (R-emit-branches t) (emit-branches-at t) emit-branches.Post
 emit-branches-same-length t c =
@@ -372,11 +372,11 @@ emit-branches-returns t c =
 
 emit-default-put-one-requires : (t : ℕ) → emit-default-lts.Need-put-one-requires (R-emit-default t) (emit-default-at t) emit-default.Post
 emit-default-put-one-requires t c κs =
-    omega (arith, default-size (now (c .before .before .before .before .before .args .book)) (c .before .before .before .before .before .args .i) (c .before .before .before .before .before .args .limit) (c .before .before .before .before .before .args .x) (c .before .before .before .before .before .args .y) (c .before .before .before .before .before .args .z) (c .before .before .before .before .before .args .j) (c .before .before .before .before .before .args .c), c .before .before .before .before .before .pre .1 .1)
+    omega (arith, default-size (now (c .before .before .before .before .args .book)) (c .before .before .before .before .args .i) (c .before .before .before .before .args .limit) (c .before .before .before .before .args .x) (c .before .before .before .before .args .y) (c .before .before .before .before .args .z) (c .before .before .before .before .args .j) (c .before .before .before .before .args .c), c .before .before .before .before .pre .1 .1)
 
 emit-default-emit-branches-requires : (t : ℕ) → emit-default-lts.Need-emit-branches-requires (R-emit-default t) (emit-default-at t) emit-default.Post
 emit-default-emit-branches-requires t c κs =
-    (omega (arith, c .before .before .before .before .before .before .before .before .before .pre .0), (c .before .before .before .before .before .before .before .before .before .pre .1 .0, omega (arith, default-size (now (c .before .before .before .before .before .before .before .before .before .args .book)) (c .before .before .before .before .before .before .before .before .before .args .i) (c .before .before .before .before .before .before .before .before .before .args .limit) (c .before .before .before .before .before .before .before .before .before .args .x) (c .before .before .before .before .before .before .before .before .before .args .y) (c .before .before .before .before .before .before .before .before .before .args .z) (c .before .before .before .before .before .before .before .before .before .args .j) (c .before .before .before .before .before .before .before .before .before .args .c), c .before .before .before .before .before .before .before .before .before .pre .1 .1, c .before .before .before .put-one .ensures .next)))
+    (omega (arith, c .before .before .before .before .before .before .before .before .pre .0), (c .before .before .before .before .before .before .before .before .pre .1 .0, omega (arith, default-size (now (c .before .before .before .before .before .before .before .before .args .book)) (c .before .before .before .before .before .before .before .before .args .i) (c .before .before .before .before .before .before .before .before .args .limit) (c .before .before .before .before .before .before .before .before .args .x) (c .before .before .before .before .before .before .before .before .args .y) (c .before .before .before .before .before .before .before .before .args .z) (c .before .before .before .before .before .before .before .before .args .j) (c .before .before .before .before .before .before .before .before .args .c), c .before .before .before .before .before .before .before .before .pre .1 .1, c .before .before .before .put-one .ensures .next)))
 
 emit-default-no-exception-requires : (t : ℕ) → emit-default-lts.Need-no-exception-requires (R-emit-default t) (emit-default-at t) emit-default.Post
 emit-default-no-exception-requires t c κs = search needs
@@ -395,23 +395,23 @@ emit-default-sub-put-far t c =
 
 emit-default-put-far-requires : (t : ℕ) → emit-default-lts.Need-put-far-requires (R-emit-default t) (emit-default-at t) emit-default.Post
 emit-default-put-far-requires t c κs =
-    omega (arith, default-sizes (now (c .before .before .before .before .before .before .before .before .before .before .before .before .before .before .before .args .book)) (c .before .before .before .before .before .before .before .before .before .before .before .before .before .before .before .args .i) (c .before .before .before .before .before .before .before .before .before .before .before .before .before .before .before .args .limit) (c .before .before .before .before .before .before .before .before .before .before .before .before .before .before .before .args .x) (c .before .before .before .before .before .before .before .before .before .before .before .before .before .before .before .args .y) (c .before .before .before .before .before .before .before .before .before .before .before .before .before .before .before .args .z) (c .before .before .before .before .before .before .before .before .before .before .before .before .before .before .before .args .j) (c .before .before .before .before .before .before .before .before .before .before .before .before .before .before .before .args .c) (sym (c .before .before .no-exception .ensures) ∙ c .before .if1 .left), c .before .before .before .before .before .before .before .before .before .before .before .before .before .before .before .pre .1 .1, c .before .before .before .before .before .before .before .before .before .put-one .ensures .next, c .before .before .before .before .before .emit-branches .ensures .next)
+    omega (arith, default-sizes (now (c .before .before .before .before .before .before .before .before .before .before .before .before .before .before .args .book)) (c .before .before .before .before .before .before .before .before .before .before .before .before .before .before .args .i) (c .before .before .before .before .before .before .before .before .before .before .before .before .before .before .args .limit) (c .before .before .before .before .before .before .before .before .before .before .before .before .before .before .args .x) (c .before .before .before .before .before .before .before .before .before .before .before .before .before .before .args .y) (c .before .before .before .before .before .before .before .before .before .before .before .before .before .before .args .z) (c .before .before .before .before .before .before .before .before .before .before .before .before .before .before .args .j) (c .before .before .before .before .before .before .before .before .before .before .before .before .before .before .args .c) (sym (c .before .before .no-exception .ensures) ∙ c .before .if1 .left), c .before .before .before .before .before .before .before .before .before .before .before .before .before .before .pre .1 .1, c .before .before .before .before .before .before .before .before .before .put-one .ensures .next, c .before .before .before .before .before .emit-branches .ensures .next)
 
 emit-default-emit-exception-requires : (t : ℕ) → emit-default-lts.Need-emit-exception-requires (R-emit-default t) (emit-default-at t) emit-default.Post
 emit-default-emit-exception-requires t c κs =
-    (omega (arith, c .before .before .before .before .before .before .before .before .before .before .before .before .before .before .before .before .before .before .before .pre .0), (c .before .before .before .before .before .before .before .before .before .before .before .before .before .before .before .before .before .before .before .pre .1 .0, omega (arith, default-sizes (now (c .before .before .before .before .before .before .before .before .before .before .before .before .before .before .before .before .before .before .before .args .book)) (c .before .before .before .before .before .before .before .before .before .before .before .before .before .before .before .before .before .before .before .args .i) (c .before .before .before .before .before .before .before .before .before .before .before .before .before .before .before .before .before .before .before .args .limit) (c .before .before .before .before .before .before .before .before .before .before .before .before .before .before .before .before .before .before .before .args .x) (c .before .before .before .before .before .before .before .before .before .before .before .before .before .before .before .before .before .before .before .args .y) (c .before .before .before .before .before .before .before .before .before .before .before .before .before .before .before .before .before .before .before .args .z) (c .before .before .before .before .before .before .before .before .before .before .before .before .before .before .before .before .before .before .before .args .j) (c .before .before .before .before .before .before .before .before .before .before .before .before .before .before .before .before .before .before .before .args .c) (sym (c .before .before .before .before .before .before .no-exception .ensures) ∙ c .before .before .before .before .before .if1 .left), c .before .before .before .before .before .before .before .before .before .before .before .before .before .before .before .before .before .before .before .pre .1 .1, c .before .before .before .before .before .before .before .before .before .before .before .before .before .put-one .ensures .next, c .before .before .before .before .before .before .before .before .before .emit-branches .ensures .next, c .before .before .before .put-far .ensures .next)))
+    (omega (arith, c .before .before .before .before .before .before .before .before .before .before .before .before .before .before .before .before .before .before .pre .0), (c .before .before .before .before .before .before .before .before .before .before .before .before .before .before .before .before .before .before .pre .1 .0, omega (arith, default-sizes (now (c .before .before .before .before .before .before .before .before .before .before .before .before .before .before .before .before .before .before .args .book)) (c .before .before .before .before .before .before .before .before .before .before .before .before .before .before .before .before .before .before .args .i) (c .before .before .before .before .before .before .before .before .before .before .before .before .before .before .before .before .before .before .args .limit) (c .before .before .before .before .before .before .before .before .before .before .before .before .before .before .before .before .before .before .args .x) (c .before .before .before .before .before .before .before .before .before .before .before .before .before .before .before .before .before .before .args .y) (c .before .before .before .before .before .before .before .before .before .before .before .before .before .before .before .before .before .before .args .z) (c .before .before .before .before .before .before .before .before .before .before .before .before .before .before .before .before .before .before .args .j) (c .before .before .before .before .before .before .before .before .before .before .before .before .before .before .before .before .before .before .args .c) (sym (c .before .before .before .before .before .before .no-exception .ensures) ∙ c .before .before .before .before .before .if1 .left), c .before .before .before .before .before .before .before .before .before .before .before .before .before .before .before .before .before .before .pre .1 .1, c .before .before .before .before .before .before .before .before .before .before .before .before .before .put-one .ensures .next, c .before .before .before .before .before .before .before .before .before .emit-branches .ensures .next, c .before .before .before .put-far .ensures .next)))
 
 emit-default-emit-exception-requires-2 : (t : ℕ) → emit-default-lts.Need-emit-exception-requires-2 (R-emit-default t) (emit-default-at t) emit-default.Post
 emit-default-emit-exception-requires-2 t c κs =
-    (omega (arith, c .before .before .before .before .before .before .before .before .before .before .before .before .before .before .before .before .before .before .before .before .before .before .before .pre .0), (c .before .before .before .before .before .before .before .before .before .before .before .before .before .before .before .before .before .before .before .before .before .before .before .pre .1 .0, omega (arith, default-sizes (now (c .before .before .before .before .before .before .before .before .before .before .before .before .before .before .before .before .before .before .before .before .before .before .before .args .book)) (c .before .before .before .before .before .before .before .before .before .before .before .before .before .before .before .before .before .before .before .before .before .before .before .args .i) (c .before .before .before .before .before .before .before .before .before .before .before .before .before .before .before .before .before .before .before .before .before .before .before .args .limit) (c .before .before .before .before .before .before .before .before .before .before .before .before .before .before .before .before .before .before .before .before .before .before .before .args .x) (c .before .before .before .before .before .before .before .before .before .before .before .before .before .before .before .before .before .before .before .before .before .before .before .args .y) (c .before .before .before .before .before .before .before .before .before .before .before .before .before .before .before .before .before .before .before .before .before .before .before .args .z) (c .before .before .before .before .before .before .before .before .before .before .before .before .before .before .before .before .before .before .before .before .before .before .before .args .j) (c .before .before .before .before .before .before .before .before .before .before .before .before .before .before .before .before .before .before .before .before .before .before .before .args .c) (sym (c .before .before .before .before .before .before .before .before .before .before .no-exception .ensures) ∙ c .before .before .before .before .before .before .before .before .before .if1 .left), c .before .before .before .before .before .before .before .before .before .before .before .before .before .before .before .before .before .before .before .before .before .before .before .pre .1 .1, c .before .before .before .before .before .before .before .before .before .before .before .before .before .before .before .before .before .put-one .ensures .next, c .before .before .before .before .before .before .before .before .before .before .before .before .before .emit-branches .ensures .next, c .before .before .before .before .before .before .before .put-far .ensures .next, c .before .before .before .emit-exception .ensures .next)))
+    (omega (arith, c .before .before .before .before .before .before .before .before .before .before .before .before .before .before .before .before .before .before .before .before .before .before .pre .0), (c .before .before .before .before .before .before .before .before .before .before .before .before .before .before .before .before .before .before .before .before .before .before .pre .1 .0, omega (arith, default-sizes (now (c .before .before .before .before .before .before .before .before .before .before .before .before .before .before .before .before .before .before .before .before .before .before .args .book)) (c .before .before .before .before .before .before .before .before .before .before .before .before .before .before .before .before .before .before .before .before .before .before .args .i) (c .before .before .before .before .before .before .before .before .before .before .before .before .before .before .before .before .before .before .before .before .before .before .args .limit) (c .before .before .before .before .before .before .before .before .before .before .before .before .before .before .before .before .before .before .before .before .before .before .args .x) (c .before .before .before .before .before .before .before .before .before .before .before .before .before .before .before .before .before .before .before .before .before .before .args .y) (c .before .before .before .before .before .before .before .before .before .before .before .before .before .before .before .before .before .before .before .before .before .before .args .z) (c .before .before .before .before .before .before .before .before .before .before .before .before .before .before .before .before .before .before .before .before .before .before .args .j) (c .before .before .before .before .before .before .before .before .before .before .before .before .before .before .before .before .before .before .before .before .before .before .args .c) (sym (c .before .before .before .before .before .before .before .before .before .before .no-exception .ensures) ∙ c .before .before .before .before .before .before .before .before .before .if1 .left), c .before .before .before .before .before .before .before .before .before .before .before .before .before .before .before .before .before .before .before .before .before .before .pre .1 .1, c .before .before .before .before .before .before .before .before .before .before .before .before .before .before .before .before .before .put-one .ensures .next, c .before .before .before .before .before .before .before .before .before .before .before .before .before .emit-branches .ensures .next, c .before .before .before .before .before .before .before .put-far .ensures .next, c .before .before .before .emit-exception .ensures .next)))
 
 emit-default-emit-exception-requires-3 : (t : ℕ) → emit-default-lts.Need-emit-exception-requires-3 (R-emit-default t) (emit-default-at t) emit-default.Post
 emit-default-emit-exception-requires-3 t c κs =
-    (omega (arith, c .before .before .before .before .before .before .before .before .before .before .before .before .before .before .before .before .before .before .before .before .before .before .before .before .before .before .before .pre .0), (c .before .before .before .before .before .before .before .before .before .before .before .before .before .before .before .before .before .before .before .before .before .before .before .before .before .before .before .pre .1 .0, omega (arith, default-sizes (now (c .before .before .before .before .before .before .before .before .before .before .before .before .before .before .before .before .before .before .before .before .before .before .before .before .before .before .before .args .book)) (c .before .before .before .before .before .before .before .before .before .before .before .before .before .before .before .before .before .before .before .before .before .before .before .before .before .before .before .args .i) (c .before .before .before .before .before .before .before .before .before .before .before .before .before .before .before .before .before .before .before .before .before .before .before .before .before .before .before .args .limit) (c .before .before .before .before .before .before .before .before .before .before .before .before .before .before .before .before .before .before .before .before .before .before .before .before .before .before .before .args .x) (c .before .before .before .before .before .before .before .before .before .before .before .before .before .before .before .before .before .before .before .before .before .before .before .before .before .before .before .args .y) (c .before .before .before .before .before .before .before .before .before .before .before .before .before .before .before .before .before .before .before .before .before .before .before .before .before .before .before .args .z) (c .before .before .before .before .before .before .before .before .before .before .before .before .before .before .before .before .before .before .before .before .before .before .before .before .before .before .before .args .j) (c .before .before .before .before .before .before .before .before .before .before .before .before .before .before .before .before .before .before .before .before .before .before .before .before .before .before .before .args .c) (sym (c .before .before .before .before .before .before .before .before .before .before .before .before .before .before .no-exception .ensures) ∙ c .before .before .before .before .before .before .before .before .before .before .before .before .before .if1 .left), c .before .before .before .before .before .before .before .before .before .before .before .before .before .before .before .before .before .before .before .before .before .before .before .before .before .before .before .pre .1 .1, c .before .before .before .before .before .before .before .before .before .before .before .before .before .before .before .before .before .before .before .before .before .put-one .ensures .next, c .before .before .before .before .before .before .before .before .before .before .before .before .before .before .before .before .before .emit-branches .ensures .next, c .before .before .before .before .before .before .before .before .before .before .before .put-far .ensures .next, c .before .before .before .before .before .before .before .emit-exception .ensures .next, c .before .before .before .emit-exception2 .ensures .next)))
+    (omega (arith, c .before .before .before .before .before .before .before .before .before .before .before .before .before .before .before .before .before .before .before .before .before .before .before .before .before .before .pre .0), (c .before .before .before .before .before .before .before .before .before .before .before .before .before .before .before .before .before .before .before .before .before .before .before .before .before .before .pre .1 .0, omega (arith, default-sizes (now (c .before .before .before .before .before .before .before .before .before .before .before .before .before .before .before .before .before .before .before .before .before .before .before .before .before .before .args .book)) (c .before .before .before .before .before .before .before .before .before .before .before .before .before .before .before .before .before .before .before .before .before .before .before .before .before .before .args .i) (c .before .before .before .before .before .before .before .before .before .before .before .before .before .before .before .before .before .before .before .before .before .before .before .before .before .before .args .limit) (c .before .before .before .before .before .before .before .before .before .before .before .before .before .before .before .before .before .before .before .before .before .before .before .before .before .before .args .x) (c .before .before .before .before .before .before .before .before .before .before .before .before .before .before .before .before .before .before .before .before .before .before .before .before .before .before .args .y) (c .before .before .before .before .before .before .before .before .before .before .before .before .before .before .before .before .before .before .before .before .before .before .before .before .before .before .args .z) (c .before .before .before .before .before .before .before .before .before .before .before .before .before .before .before .before .before .before .before .before .before .before .before .before .before .before .args .j) (c .before .before .before .before .before .before .before .before .before .before .before .before .before .before .before .before .before .before .before .before .before .before .before .before .before .before .args .c) (sym (c .before .before .before .before .before .before .before .before .before .before .before .before .before .before .no-exception .ensures) ∙ c .before .before .before .before .before .before .before .before .before .before .before .before .before .if1 .left), c .before .before .before .before .before .before .before .before .before .before .before .before .before .before .before .before .before .before .before .before .before .before .before .before .before .before .pre .1 .1, c .before .before .before .before .before .before .before .before .before .before .before .before .before .before .before .before .before .before .before .before .before .put-one .ensures .next, c .before .before .before .before .before .before .before .before .before .before .before .before .before .before .before .before .before .emit-branches .ensures .next, c .before .before .before .before .before .before .before .before .before .before .before .put-far .ensures .next, c .before .before .before .before .before .before .before .emit-exception .ensures .next, c .before .before .before .emit-exception2 .ensures .next)))
 
 emit-default-put-one-requires-2 : (t : ℕ) → emit-default-lts.Need-put-one-requires-2 (R-emit-default t) (emit-default-at t) emit-default.Post
 emit-default-put-one-requires-2 t c κs =
-    omega (arith, default-sizes (now (c .before .before .before .before .before .before .before .before .before .before .before .before .before .before .before .before .before .before .before .before .before .before .before .before .before .before .before .before .before .before .before .args .book)) (c .before .before .before .before .before .before .before .before .before .before .before .before .before .before .before .before .before .before .before .before .before .before .before .before .before .before .before .before .before .before .before .args .i) (c .before .before .before .before .before .before .before .before .before .before .before .before .before .before .before .before .before .before .before .before .before .before .before .before .before .before .before .before .before .before .before .args .limit) (c .before .before .before .before .before .before .before .before .before .before .before .before .before .before .before .before .before .before .before .before .before .before .before .before .before .before .before .before .before .before .before .args .x) (c .before .before .before .before .before .before .before .before .before .before .before .before .before .before .before .before .before .before .before .before .before .before .before .before .before .before .before .before .before .before .before .args .y) (c .before .before .before .before .before .before .before .before .before .before .before .before .before .before .before .before .before .before .before .before .before .before .before .before .before .before .before .before .before .before .before .args .z) (c .before .before .before .before .before .before .before .before .before .before .before .before .before .before .before .before .before .before .before .before .before .before .before .before .before .before .before .before .before .before .before .args .j) (c .before .before .before .before .before .before .before .before .before .before .before .before .before .before .before .before .before .before .before .before .before .before .before .before .before .before .before .before .before .before .before .args .c) (sym (c .before .before .before .before .before .before .before .before .before .before .before .before .before .before .before .before .before .before .no-exception .ensures) ∙ c .before .before .before .before .before .before .before .before .before .before .before .before .before .before .before .before .before .if1 .left), c .before .before .before .before .before .before .before .before .before .before .before .before .before .before .before .before .before .before .before .before .before .before .before .before .before .before .before .before .before .before .before .pre .1 .1, c .before .before .before .before .before .before .before .before .before .before .before .before .before .before .before .before .before .before .before .before .before .before .before .before .before .put-one .ensures .next, c .before .before .before .before .before .before .before .before .before .before .before .before .before .before .before .before .before .before .before .before .before .emit-branches .ensures .next, c .before .before .before .before .before .before .before .before .before .before .before .before .before .before .before .put-far .ensures .next, c .before .before .before .before .before .before .before .before .before .before .before .emit-exception .ensures .next, c .before .before .before .before .before .before .before .emit-exception2 .ensures .next, c .before .before .before .emit-exception3 .ensures .next)
+    omega (arith, default-sizes (now (c .before .before .before .before .before .before .before .before .before .before .before .before .before .before .before .before .before .before .before .before .before .before .before .before .before .before .before .before .before .before .args .book)) (c .before .before .before .before .before .before .before .before .before .before .before .before .before .before .before .before .before .before .before .before .before .before .before .before .before .before .before .before .before .before .args .i) (c .before .before .before .before .before .before .before .before .before .before .before .before .before .before .before .before .before .before .before .before .before .before .before .before .before .before .before .before .before .before .args .limit) (c .before .before .before .before .before .before .before .before .before .before .before .before .before .before .before .before .before .before .before .before .before .before .before .before .before .before .before .before .before .before .args .x) (c .before .before .before .before .before .before .before .before .before .before .before .before .before .before .before .before .before .before .before .before .before .before .before .before .before .before .before .before .before .before .args .y) (c .before .before .before .before .before .before .before .before .before .before .before .before .before .before .before .before .before .before .before .before .before .before .before .before .before .before .before .before .before .before .args .z) (c .before .before .before .before .before .before .before .before .before .before .before .before .before .before .before .before .before .before .before .before .before .before .before .before .before .before .before .before .before .before .args .j) (c .before .before .before .before .before .before .before .before .before .before .before .before .before .before .before .before .before .before .before .before .before .before .before .before .before .before .before .before .before .before .args .c) (sym (c .before .before .before .before .before .before .before .before .before .before .before .before .before .before .before .before .before .before .no-exception .ensures) ∙ c .before .before .before .before .before .before .before .before .before .before .before .before .before .before .before .before .before .if1 .left), c .before .before .before .before .before .before .before .before .before .before .before .before .before .before .before .before .before .before .before .before .before .before .before .before .before .before .before .before .before .before .pre .1 .1, c .before .before .before .before .before .before .before .before .before .before .before .before .before .before .before .before .before .before .before .before .before .before .before .before .before .put-one .ensures .next, c .before .before .before .before .before .before .before .before .before .before .before .before .before .before .before .before .before .before .before .before .before .emit-branches .ensures .next, c .before .before .before .before .before .before .before .before .before .before .before .before .before .before .before .put-far .ensures .next, c .before .before .before .before .before .before .before .before .before .before .before .emit-exception .ensures .next, c .before .before .before .before .before .before .before .emit-exception2 .ensures .next, c .before .before .before .emit-exception3 .ensures .next)
 
 emit-default-same-length-2 : (t : ℕ) → emit-default-lts.Need-same-length-2 (R-emit-default t) (emit-default-at t) emit-default.Post
 emit-default-same-length-2 t c =
@@ -427,11 +427,11 @@ emit-exception-returns t c =
 
 emit-exception-put-caught-requires : (t : ℕ) → emit-exception-lts.Need-put-caught-requires (R-emit-exception t) (emit-exception-at t) emit-exception.Post
 emit-exception-put-caught-requires t c κs =
-    omega (arith, exception-size (now (c .before .before .before .before .before .before .args .book)) (c .before .before .before .before .before .before .args .i) (c .before .before .before .before .before .before .args .limit) (c .before .before .before .before .before .before .args .x) (c .before .if1 .left), c .before .before .before .before .before .before .pre .1 .1)
+    omega (arith, exception-size (now (c .before .before .before .before .before .args .book)) (c .before .before .before .before .before .args .i) (c .before .before .before .before .before .args .limit) (c .before .before .before .before .before .args .x) (c .before .if1 .left), c .before .before .before .before .before .pre .1 .1)
 
 emit-exception-emit-below-requires : (t : ℕ) → emit-exception-lts.Need-emit-below-requires (R-emit-exception t) (emit-exception-at t) emit-exception.Post
 emit-exception-emit-below-requires t c κs =
-    (omega (arith, c .before .before .before .before .before .before .before .before .before .before .pre .0), (c .before .before .before .before .before .before .before .before .before .before .pre .1 .0, omega (arith, exception-size (now (c .before .before .before .before .before .before .before .before .before .before .args .book)) (c .before .before .before .before .before .before .before .before .before .before .args .i) (c .before .before .before .before .before .before .before .before .before .before .args .limit) (c .before .before .before .before .before .before .before .before .before .before .args .x) (c .before .before .before .before .before .if1 .left), c .before .before .before .before .before .before .before .before .before .before .pre .1 .1, c .before .before .before .put-caught .ensures .next)))
+    (omega (arith, c .before .before .before .before .before .before .before .before .before .pre .0), (c .before .before .before .before .before .before .before .before .before .pre .1 .0, omega (arith, exception-size (now (c .before .before .before .before .before .before .before .before .before .args .book)) (c .before .before .before .before .before .before .before .before .before .args .i) (c .before .before .before .before .before .before .before .before .before .args .limit) (c .before .before .before .before .before .before .before .before .before .args .x) (c .before .before .before .before .before .if1 .left), c .before .before .before .before .before .before .before .before .before .pre .1 .1, c .before .before .before .put-caught .ensures .next)))
 
 emit-exception-sub-put-far : (t : ℕ) → emit-exception-lts.Need-sub-put-far (R-emit-exception t) (emit-exception-at t) emit-exception.Post
 emit-exception-sub-put-far t c =
@@ -439,11 +439,11 @@ emit-exception-sub-put-far t c =
 
 emit-exception-add-put-far : (t : ℕ) → emit-exception-lts.Need-add-put-far (R-emit-exception t) (emit-exception-at t) emit-exception.Post
 emit-exception-add-put-far t c =
-    omega (arith, exception-size (now (c .before .before .before .before .before .before .before .before .before .before .before .before .before .before .args .book)) (c .before .before .before .before .before .before .before .before .before .before .before .before .before .before .args .i) (c .before .before .before .before .before .before .before .before .before .before .before .before .before .before .args .limit) (c .before .before .before .before .before .before .before .before .before .before .before .before .before .before .args .x) (c .before .before .before .before .before .before .before .before .before .if1 .left), c .before .before .before .before .before .before .before .before .before .before .before .before .before .before .pre .1 .1, c .before .before .before .before .before .before .before .put-caught .ensures .next, c .before .before .before .emit-below .ensures .next)
+    omega (arith, exception-size (now (c .before .before .before .before .before .before .before .before .before .before .before .before .before .args .book)) (c .before .before .before .before .before .before .before .before .before .before .before .before .before .args .i) (c .before .before .before .before .before .before .before .before .before .before .before .before .before .args .limit) (c .before .before .before .before .before .before .before .before .before .before .before .before .before .args .x) (c .before .before .before .before .before .before .before .before .before .if1 .left), c .before .before .before .before .before .before .before .before .before .before .before .before .before .pre .1 .1, c .before .before .before .before .before .before .before .put-caught .ensures .next, c .before .before .before .emit-below .ensures .next)
 
 emit-exception-put-far-requires : (t : ℕ) → emit-exception-lts.Need-put-far-requires (R-emit-exception t) (emit-exception-at t) emit-exception.Post
 emit-exception-put-far-requires t c κs =
-    omega (arith, exception-size (now (c .before .before .before .before .before .before .before .before .before .before .before .before .before .before .args .book)) (c .before .before .before .before .before .before .before .before .before .before .before .before .before .before .args .i) (c .before .before .before .before .before .before .before .before .before .before .before .before .before .before .args .limit) (c .before .before .before .before .before .before .before .before .before .before .before .before .before .before .args .x) (c .before .before .before .before .before .before .before .before .before .if1 .left), c .before .before .before .before .before .before .before .before .before .before .before .before .before .before .pre .1 .1, c .before .before .before .before .before .before .before .put-caught .ensures .next, c .before .before .before .emit-below .ensures .next)
+    omega (arith, exception-size (now (c .before .before .before .before .before .before .before .before .before .before .before .before .before .args .book)) (c .before .before .before .before .before .before .before .before .before .before .before .before .before .args .i) (c .before .before .before .before .before .before .before .before .before .before .before .before .before .args .limit) (c .before .before .before .before .before .before .before .before .before .before .before .before .before .args .x) (c .before .before .before .before .before .before .before .before .before .if1 .left), c .before .before .before .before .before .before .before .before .before .before .before .before .before .pre .1 .1, c .before .before .before .before .before .before .before .put-caught .ensures .next, c .before .before .before .emit-below .ensures .next)
 
 emit-exception-same-length : (t : ℕ) → emit-exception-lts.Need-same-length (R-emit-exception t) (emit-exception-at t) emit-exception.Post
 emit-exception-same-length t c =

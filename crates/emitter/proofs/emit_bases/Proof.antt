@@ -9,7 +9,7 @@ use Rattle.emitter.proofs.emit_bases.Tie as tie
 
 put-last-requires : tie.Need-put-last-requires
 put-last-requires c κs =
-    omega (arith, bases-size (now (c .before .before .before .before .before .before .args .book)) (c .before .before .before .before .before .before .args .i) (c .before .before .before .before .before .before .args .first) (c .before .before .before .before .before .before .args .ruled), c .before .before .before .before .before .before .pre .1)
+    omega (arith, bases-size (now (c .before .before .before .before .before .args .book)) (c .before .before .before .before .before .args .i) (c .before .before .before .before .before .args .first) (c .before .before .before .before .before .args .ruled), c .before .before .before .before .before .pre .1)
 
 sub-emit-around : tie.Need-sub-emit-around
 sub-emit-around c =
@@ -17,7 +17,7 @@ sub-emit-around c =
 
 emit-around-requires : tie.Need-emit-around-requires
 emit-around-requires c κs =
-    (c .before .before .before .before .before .before .before .before .before .before .pre .0, omega (arith, bases-size (now (c .before .before .before .before .before .before .before .before .before .before .args .book)) (c .before .before .before .before .before .before .before .before .before .before .args .i) (c .before .before .before .before .before .before .before .before .before .before .args .first) (c .before .before .before .before .before .before .before .before .before .before .args .ruled), c .before .before .before .before .before .before .before .before .before .before .pre .1, c .before .before .before .put-last .ensures .next))
+    (c .before .before .before .before .before .before .before .before .before .pre .0, omega (arith, bases-size (now (c .before .before .before .before .before .before .before .before .before .args .book)) (c .before .before .before .before .before .before .before .before .before .args .i) (c .before .before .before .before .before .before .before .before .before .args .first) (c .before .before .before .before .before .before .before .before .before .args .ruled), c .before .before .before .before .before .before .before .before .before .pre .1, c .before .before .before .put-last .ensures .next))
 
 same-length : tie.Need-same-length
 same-length c =

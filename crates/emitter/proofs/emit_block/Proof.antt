@@ -10,28 +10,28 @@ use Rattle.emitter.proofs.emit_block.Statement.{statement}
 use Rattle.emitter.proofs.emit_block.Tie as tie
 
 variable-count-requires : tie.Need-variable-count-requires
-variable-count-requires c κs = c .before .before .before .before .before .pre .0 .sound .laid
+variable-count-requires c κs = c .before .before .before .before .pre .0 .sound .laid
 
 sub-scope-count-requires : tie.Need-sub-scope-count-requires
-sub-scope-count-requires c κs = c .before .before .before .before .before .before .pre .0 .sound .laid
+sub-scope-count-requires c κs = c .before .before .before .before .before .pre .0 .sound .laid
 
 slice-aggregate-fill-links : tie.Need-slice-aggregate-fill-links
 slice-aggregate-fill-links c = search needs
 
 fill-links-requires : tie.Need-fill-links-requires
-fill-links-requires c κs = blank (c .before .before .before .before .before .before .before .before .pre .0 .sound)
+fill-links-requires c κs = blank (c .before .before .before .before .before .before .before .pre .0 .sound)
 
 slice-aggregate-emit-steps : tie.Need-slice-aggregate-emit-steps
 slice-aggregate-emit-steps c = search needs
 
 emit-steps-requires : tie.Need-emit-steps-requires
 emit-steps-requires c κs =
-    let s = c .before .before .before .before .before .before .before .before .before .before .before .before in
+    let s = c .before .before .before .before .before .before .before .before .before .before .before in
     (record { sound = s .pre .0 .sound; linked = c .before .before .before .fill-links .ensures }, s .pre .0 .ordered, omega (arith, block-size (now (s .args .book)) (s .args .i), s .pre .1))
 
 emit-heads-requires : tie.Need-emit-heads-requires
 emit-heads-requires c κs =
-    let s = c .before .before .before .before .before .before .before .before .before .before .before .before .before .before .before .before in (
+    let s = c .before .before .before .before .before .before .before .before .before .before .before .before .before .before .before in (
       s .pre .0 .sound .laid,
       s .pre .0 .called,
       c .before .before .before .before .before .before .before .before .before .sub-scope-count .ensures ∙ sym (sub-scopes-counted _ _),
@@ -40,7 +40,7 @@ emit-heads-requires c κs =
 
 emit-heads-requires-2 : tie.Need-emit-heads-requires-2
 emit-heads-requires-2 c κs =
-    let s = c .before .before .before .before .before .before .before .before .before .before .before .before .before .before .before .before .before .before .before .before in (
+    let s = c .before .before .before .before .before .before .before .before .before .before .before .before .before .before .before .before .before .before .before in (
       s .pre .0 .sound .laid,
       s .pre .0 .called,
       c .before .before .before .before .before .before .before .before .before .before .before .before .before .before .variable-count .ensures ∙ sym (variables-counted _ _),
@@ -48,11 +48,11 @@ emit-heads-requires-2 c κs =
     )
 
 cast-put-two : tie.Need-cast-put-two
-cast-put-two c = omega (arith, c .before .before .before .before .before .before .before .before .before .before .before .before .before .before .before .before .before .before .before .before .before .before .before .before .pre .0 .ordered .few)
+cast-put-two c = omega (arith, c .before .before .before .before .before .before .before .before .before .before .before .before .before .before .before .before .before .before .before .before .before .before .before .pre .0 .ordered .few)
 
 put-two-requires : tie.Need-put-two-requires
 put-two-requires c κs =
-    let s = c .before .before .before .before .before .before .before .before .before .before .before .before .before .before .before .before .before .before .before .before .before .before .before .before in
+    let s = c .before .before .before .before .before .before .before .before .before .before .before .before .before .before .before .before .before .before .before .before .before .before .before in
     omega (arith, block-size (now (s .args .book)) (s .args .i), s .pre .1, c .before .before .before .before .before .before .before .before .before .before .before .emit-steps .ensures .next, c .before .before .before .before .before .before .before .emit-heads .ensures .next, c .before .before .before .emit-heads2 .ensures .next)
 
 same-length : tie.Need-same-length

@@ -15,15 +15,15 @@ use Rattle.emitter.proofs.emit_blocks.Statement.{statement}
 use Rattle.emitter.proofs.emit_blocks.Tie as tie
 
 abbrev Inv-loop : tie.InvT-loop
-Inv-loop book places counts blocks orders n out₀ m₀ p₀ out m p =
+Inv-loop book index blocks orders n out₀ m₀ p₀ out m p =
     Downward out₀ 0 (orderedBlock book) (orderedBlockSize book) (length (scopesOf book)) m p out
 
 abbrev μ-loop : tie.MeasureT-loop
-μ-loop book places counts blocks orders n out₀ m₀ p₀ out m p = m
+μ-loop book index blocks orders n out₀ m₀ p₀ out m p = m
 
 loop-holds : tie.Need-loop-holds Inv-loop μ-loop
 loop-holds c =
-    start _ _ _ _ (accepted-count _ _ (c .before .before .before .before .before .before .pre .accepted))
+    start _ _ _ _ (accepted-count _ _ (c .before .before .before .before .before .pre .accepted))
 
 sub-m : tie.Need-sub-m Inv-loop μ-loop
 sub-m c =
@@ -37,7 +37,7 @@ cast-i c = search needs
 
 emit-block-requires : tie.Need-emit-block-requires Inv-loop μ-loop
 emit-block-requires c κs =
-    (block-ready _ _ (c .before .before .before .before .before .before .before .before .before .before .pre .accepted) (c .before .before .before .before .before .before .before .before .before .before .pre) _ _ (omega (arith, c .before .before .before .loop .inv .below, c .before .before .loop-test .taken, accepted-count (now (c .before .before .before .before .before .before .before .before .before .before .args .book)) (c .before .before .before .before .before .before .before .before .before .before .args .n) (c .before .before .before .before .before .before .before .before .before .before .pre .accepted))) (c .before .byte-at .ensures), omega (arith, room (c .before .before .before .loop .inv) _ refl (c .before .before .loop-test .taken) (book-room _ _ (c .before .before .before .before .before .before .before .before .before .before .pre .accepted)), block-number _ _ (c .before .before .before .before .before .before .before .before .before .before .pre .accepted) (c .before .before .before .before .before .before .before .before .before .before .pre) _ _ (omega (arith, c .before .before .before .loop .inv .below, c .before .before .loop-test .taken, accepted-count (now (c .before .before .before .before .before .before .before .before .before .before .args .book)) (c .before .before .before .before .before .before .before .before .before .before .args .n) (c .before .before .before .before .before .before .before .before .before .before .pre .accepted))) (c .before .byte-at .ensures)))
+    (block-ready _ _ (c .before .before .before .before .before .before .before .before .before .pre .accepted) (c .before .before .before .before .before .before .before .before .before .pre) _ _ (omega (arith, c .before .before .before .loop .inv .below, c .before .before .loop-test .taken, accepted-count (now (c .before .before .before .before .before .before .before .before .before .args .book)) (c .before .before .before .before .before .before .before .before .before .args .n) (c .before .before .before .before .before .before .before .before .before .pre .accepted))) (c .before .byte-at .ensures), omega (arith, room (c .before .before .before .loop .inv) _ refl (c .before .before .loop-test .taken) (book-room _ _ (c .before .before .before .before .before .before .before .before .before .pre .accepted)), block-number _ _ (c .before .before .before .before .before .before .before .before .before .pre .accepted) (c .before .before .before .before .before .before .before .before .before .pre) _ _ (omega (arith, c .before .before .before .loop .inv .below, c .before .before .loop-test .taken, accepted-count (now (c .before .before .before .before .before .before .before .before .before .args .book)) (c .before .before .before .before .before .before .before .before .before .args .n) (c .before .before .before .before .before .before .before .before .before .pre .accepted))) (c .before .byte-at .ensures)))
 
 loop-less : tie.Need-loop-less Inv-loop μ-loop
 loop-less c =
@@ -45,7 +45,7 @@ loop-less c =
 
 loop-again : tie.Need-loop-again Inv-loop μ-loop
 loop-again c =
-    turn (c .before .before .before .before .before .before .loop .inv) _ refl (c .before .before .before .before .before .loop-test .taken) (emits-ordered _ _ (c .before .before .before .before .before .before .before .before .before .before .before .before .before .pre .accepted) (c .before .before .before .before .before .before .before .before .before .before .before .before .before .pre) _ _ (omega (arith, c .before .before .before .before .before .before .loop .inv .below, c .before .before .before .before .before .loop-test .taken, accepted-count (now (c .before .before .before .before .before .before .before .before .before .before .before .before .before .args .book)) (c .before .before .before .before .before .before .before .before .before .before .before .before .before .args .n) (c .before .before .before .before .before .before .before .before .before .before .before .before .before .pre .accepted))) (c .before .before .before .before .byte-at .ensures) (c .before .before .emit-block .ensures))
+    turn (c .before .before .before .before .before .before .loop .inv) _ refl (c .before .before .before .before .before .loop-test .taken) (emits-ordered _ _ (c .before .before .before .before .before .before .before .before .before .before .before .before .pre .accepted) (c .before .before .before .before .before .before .before .before .before .before .before .before .pre) _ _ (omega (arith, c .before .before .before .before .before .before .loop .inv .below, c .before .before .before .before .before .loop-test .taken, accepted-count (now (c .before .before .before .before .before .before .before .before .before .before .before .before .args .book)) (c .before .before .before .before .before .before .before .before .before .before .before .before .args .n) (c .before .before .before .before .before .before .before .before .before .before .before .before .pre .accepted))) (c .before .before .before .before .byte-at .ensures) (c .before .before .emit-block .ensures))
 
 same-length : tie.Need-same-length Inv-loop μ-loop
 same-length c =

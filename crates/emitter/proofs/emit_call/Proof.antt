@@ -4,7 +4,7 @@ use lib.ListN.{length}
 use Prim.Native.Nat.{ℕ}
 use Rattle.book.specs.Decode.{scopesOf}
 use Rattle.book.specs.References.{scopeAt}
-use Rattle.book.specs.Tables.{subScopeAt}
+use Rattle.book.specs.Positions.{subScopeAt}
 use denote.Ref.{now}
 use native.Mathlib.Omega.{arith}
 use Rattle.emitter.specs.Pieces.{overridePiece, overrideSize, calledCount}
@@ -15,31 +15,31 @@ use Rattle.emitter.proofs.emit_call.Statement.{statement}
 use Rattle.emitter.proofs.emit_call.Tie as tie
 
 abbrev Inv-loop : tie.InvT-loop
-Inv-loop book places counts links i k out₀ at j v₀ p₀ out v p =
+Inv-loop book index links i k out₀ at j v₀ p₀ out v p =
     Downward out₀ p₀ (overridePiece book i k) (overrideSize book i k) (calledCount book i k) v p out
 
 abbrev μ-loop : tie.MeasureT-loop
-μ-loop book places counts links i k out₀ at j v₀ p₀ out v p = v
+μ-loop book index links i k out₀ at j v₀ p₀ out v p = v
 
 sub-scope-at-requires : tie.Need-sub-scope-at-requires Inv-loop μ-loop
 sub-scope-at-requires c κs =
-    c .before .before .before .before .before .pre .0 .sound .laid
+    c .before .before .before .before .pre .0 .sound .laid
 
 variable-count-requires : tie.Need-variable-count-requires Inv-loop μ-loop
 variable-count-requires c κs =
-    c .before .before .before .before .before .before .pre .0 .sound .laid
+    c .before .before .before .before .before .pre .0 .sound .laid
 
 cast-put-two : tie.Need-cast-put-two Inv-loop μ-loop
 cast-put-two c =
-    omega (arith, c .before .before .before .before .before .before .before .before .pre .1, c .before .before .before .before .before .before .before .before .pre .0 .sound .subScopes (c .before .before .before .before .before .before .before .before .args .i))
+    omega (arith, c .before .before .before .before .before .before .before .pre .1, c .before .before .before .before .before .before .before .pre .0 .sound .subScopes (c .before .before .before .before .before .before .before .args .i))
 
 put-two-requires : tie.Need-put-two-requires Inv-loop μ-loop
 put-two-requires c κs =
-    omega (arith, call-size (now (c .before .before .before .before .before .before .before .before .args .book)) (c .before .before .before .before .before .before .before .before .args .i) (c .before .before .before .before .before .before .before .before .args .k), c .before .before .before .before .before .before .before .before .pre .2)
+    omega (arith, call-size (now (c .before .before .before .before .before .before .before .args .book)) (c .before .before .before .before .before .before .before .args .i) (c .before .before .before .before .before .before .before .args .k), c .before .before .before .before .before .before .before .pre .2)
 
 loop-holds : tie.Need-loop-holds Inv-loop μ-loop
 loop-holds c =
-    start _ _ _ _ (c .before .before .before .before .variable-count .ensures ∙ ap (λ (j : ℕ). length (scopeAt (scopesOf (now (c .before .before .before .before .before .before .before .before .before .before .before .args .book))) j .variables)) (c .before .before .before .before .before .sub-scope-at .ensures))
+    start _ _ _ _ (c .before .before .before .before .variable-count .ensures ∙ ap (λ (j : ℕ). length (scopeAt (scopesOf (now (c .before .before .before .before .before .before .before .before .before .before .args .book))) j .variables)) (c .before .before .before .before .before .sub-scope-at .ensures))
 
 sub-v : tie.Need-sub-v Inv-loop μ-loop
 sub-v c =
@@ -47,15 +47,15 @@ sub-v c =
 
 cast-emit-override : tie.Need-cast-emit-override Inv-loop μ-loop
 cast-emit-override c =
-    omega (arith, c .before .before .before .before .before .before .before .before .before .before .before .before .before .pre .1, c .before .before .before .before .before .before .before .before .before .before .before .before .before .pre .0 .sound .subScopes (c .before .before .before .before .before .before .before .before .before .before .before .before .before .args .i))
+    omega (arith, c .before .before .before .before .before .before .before .before .before .before .before .before .pre .1, c .before .before .before .before .before .before .before .before .before .before .before .before .pre .0 .sound .subScopes (c .before .before .before .before .before .before .before .before .before .before .before .before .args .i))
 
 cast-emit-override-2 : tie.Need-cast-emit-override-2 Inv-loop μ-loop
 cast-emit-override-2 c =
-    omega (arith, c .before .loop .inv .below, c .before .before .before .before .before .before .before .before .before .before .before .before .before .pre .0 .sound .variables (subScopeAt (scopesOf (now (c .before .before .before .before .before .before .before .before .before .before .before .before .before .args .book))) (c .before .before .before .before .before .before .before .before .before .before .before .before .before .args .i) (c .before .before .before .before .before .before .before .before .before .before .before .before .before .args .k)))
+    omega (arith, c .before .loop .inv .below, c .before .before .before .before .before .before .before .before .before .before .before .before .pre .0 .sound .variables (subScopeAt (scopesOf (now (c .before .before .before .before .before .before .before .before .before .before .before .before .args .book))) (c .before .before .before .before .before .before .before .before .before .before .before .before .args .i) (c .before .before .before .before .before .before .before .before .before .before .before .before .args .k)))
 
 emit-override-requires : tie.Need-emit-override-requires Inv-loop μ-loop
 emit-override-requires c κs =
-    (c .before .before .before .before .before .before .before .before .before .before .before .before .before .before .pre .0, room (c .before .before .loop .inv) _ refl (c .before .loop-test .taken) (omega (arith, call-size (now (c .before .before .before .before .before .before .before .before .before .before .before .before .before .before .args .book)) (c .before .before .before .before .before .before .before .before .before .before .before .before .before .before .args .i) (c .before .before .before .before .before .before .before .before .before .before .before .before .before .before .args .k), c .before .before .before .before .before .before .before .before .before .before .before .before .before .before .pre .2, c .before .before .before .before .before .put-two .ensures .next)))
+    (c .before .before .before .before .before .before .before .before .before .before .before .before .before .pre .0, room (c .before .before .loop .inv) _ refl (c .before .loop-test .taken) (omega (arith, call-size (now (c .before .before .before .before .before .before .before .before .before .before .before .before .before .args .book)) (c .before .before .before .before .before .before .before .before .before .before .before .before .before .args .i) (c .before .before .before .before .before .before .before .before .before .before .before .before .before .args .k), c .before .before .before .before .before .before .before .before .before .before .before .before .before .pre .2, c .before .before .before .before .before .put-two .ensures .next)))
 
 loop-less : tie.Need-loop-less Inv-loop μ-loop
 loop-less c =

@@ -9,7 +9,7 @@ use Rattle.emitter.proofs.emit_clause.Tie as tie
 
 add-byte-at : tie.Need-add-byte-at
 add-byte-at c =
-    omega (arith, few _ _ _ _ _ (c .before .before .before .before .before .pre .0), c .before .before .before .before .before .pre .1)
+    omega (arith, few _ _ _ _ (c .before .before .before .before .pre .0), c .before .before .before .before .pre .1)
 
 byte-at-requires : tie.Need-byte-at-requires
 byte-at-requires c κs = search needs
@@ -19,7 +19,7 @@ cast-first c = search needs
 
 emit-rest-requires : tie.Need-emit-rest-requires
 emit-rest-requires c κs =
-    (c .before .before .before .before .before .before .before .pre .0 .sound .laid, omega (arith, clause-size _ _ _ _ _ (c .before .before .before .before .before .before .before .pre .0) (c .before .before .before .before .before .before .before .args .c) (c .before .before .before .before .before .before .before .pre .1) _ (c .before .byte-at .ensures), c .before .before .before .before .before .before .before .pre .2))
+    (c .before .before .before .before .before .before .pre .0 .sound .laid, omega (arith, clause-size _ _ _ _ (c .before .before .before .before .before .before .pre .0) (c .before .before .before .before .before .before .args .c) (c .before .before .before .before .before .before .pre .1) _ (c .before .byte-at .ensures), c .before .before .before .before .before .before .pre .2))
 
 sub-emit-around : tie.Need-sub-emit-around
 sub-emit-around c =
@@ -27,7 +27,7 @@ sub-emit-around c =
 
 emit-around-requires : tie.Need-emit-around-requires
 emit-around-requires c κs =
-    (c .before .before .before .before .before .before .before .before .before .before .before .pre .0, omega (arith, clause-size _ _ _ _ _ (c .before .before .before .before .before .before .before .before .before .before .before .pre .0) (c .before .before .before .before .before .before .before .before .before .before .before .args .c) (c .before .before .before .before .before .before .before .before .before .before .before .pre .1) _ (c .before .before .before .before .before .byte-at .ensures), c .before .before .before .before .before .before .before .before .before .before .before .pre .2, c .before .before .before .emit-rest .ensures .next))
+    (c .before .before .before .before .before .before .before .before .before .before .pre .0, omega (arith, clause-size _ _ _ _ (c .before .before .before .before .before .before .before .before .before .before .pre .0) (c .before .before .before .before .before .before .before .before .before .before .args .c) (c .before .before .before .before .before .before .before .before .before .before .pre .1) _ (c .before .before .before .before .before .byte-at .ensures), c .before .before .before .before .before .before .before .before .before .before .pre .2, c .before .before .before .emit-rest .ensures .next))
 
 same-length : tie.Need-same-length
 same-length c =
@@ -35,7 +35,7 @@ same-length c =
 
 returns : tie.Need-returns
 returns c =
-    emits-clause _ _ _ _ _ (c .before .before .before .before .before .before .before .before .before .before .before .before .before .before .pre .0) _ (c .before .before .before .before .before .before .before .before .before .before .before .before .before .before .pre .1) _ (c .before .before .before .before .before .before .before .before .byte-at .ensures) (c .before .before .before .before .before .before .emit-rest .ensures) refl (c .before .before .emit-around .ensures)
+    emits-clause _ _ _ _ (c .before .before .before .before .before .before .before .before .before .before .before .before .before .pre .0) _ (c .before .before .before .before .before .before .before .before .before .before .before .before .before .pre .1) _ (c .before .before .before .before .before .before .before .before .byte-at .ensures) (c .before .before .before .before .before .before .emit-rest .ensures) refl (c .before .before .emit-around .ensures)
 
 pub emit-clause-spec : {M : Type 1} → statement M
 emit-clause-spec =

@@ -9,7 +9,7 @@ use Rattle.emitter.proofs.emit_condition.Tie as tie
 
 put-truth-requires : tie.Need-put-truth-requires
 put-truth-requires c κs =
-    omega (arith, size-truth (condition-always (now (c .before .before .before .before .before .before .args .book)) (c .before .before .before .before .before .before .args .i) (c .before .before .before .before .before .before .args .n) (c .before .if1 .taken)), c .before .before .before .before .before .before .pre .1)
+    omega (arith, size-truth (condition-always (now (c .before .before .before .before .before .args .book)) (c .before .before .before .before .before .args .i) (c .before .before .before .before .before .args .n) (c .before .if1 .taken)), c .before .before .before .before .before .pre .1)
 
 same-length : tie.Need-same-length
 same-length c =
@@ -24,7 +24,7 @@ node-count-requires c κs = search needs
 
 emit-below-requires : tie.Need-emit-below-requires
 emit-below-requires c κs =
-    (c .before .before .before .before .before .before .before .pre .0, rw (← condition-node _ _ _ (c .before .node-count .ensures) _ (c .before .before .if1 .left)) (c .before .before .before .before .before .before .before .pre .1))
+    (c .before .before .before .before .before .before .pre .0, rw (← condition-node _ _ _ (c .before .node-count .ensures) _ (c .before .before .if1 .left)) (c .before .before .before .before .before .before .pre .1))
 
 same-length-2 : tie.Need-same-length-2
 same-length-2 c =

@@ -18,14 +18,14 @@ cast-emit-below c = search needs
 
 emit-below-requires : tie.Need-emit-below-requires
 emit-below-requires c κs =
-    (c .before .before .before .before .before .before .before .before .before .pre .0, rw (← consequence-node _ _ _ (c .before .node-count .ensures) _ _ (c .before .before .before .c .given .1)) (c .before .before .before .before .before .before .before .before .before .pre .1))
+    (c .before .before .before .before .before .before .before .before .pre .0, rw (← consequence-node _ _ _ (c .before .node-count .ensures) _ _ (c .before .before .before .c .given .1)) (c .before .before .before .before .before .before .before .before .pre .1))
 
 enum-known-c-2 : tie.Need-enum-known-c-2
 enum-known-c-2 c = search needs
 
 put-truth-requires : tie.Need-put-truth-requires
 put-truth-requires c κs =
-    omega (arith, size-truth (consequence-fixed (now (c .before .before .before .before .before .before .before .before .args .book)) (c .before .before .before .before .before .before .before .before .args .i) (c .before .before .before .before .before .before .before .before .args .c) _ (c .before .before .c2 .given .1)), c .before .before .before .before .before .before .before .before .pre .1)
+    omega (arith, size-truth (consequence-fixed (now (c .before .before .before .before .before .before .before .args .book)) (c .before .before .before .before .before .before .before .args .i) (c .before .before .before .before .before .before .before .args .c) _ (c .before .before .c2 .given .1)), c .before .before .before .before .before .before .before .pre .1)
 
 same-length : tie.Need-same-length
 same-length c =

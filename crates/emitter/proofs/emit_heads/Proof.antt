@@ -10,23 +10,23 @@ use Rattle.emitter.proofs.emit_heads.Statement.{statement}
 use Rattle.emitter.proofs.emit_heads.Tie as tie
 
 abbrev Inv-loop : tie.InvT-loop
-Inv-loop book places counts i kind count out₀ at n₀ p₀ out n p = Downward out₀ at (headPiece book i kind) pair (headCount book i kind) n p out
+Inv-loop book index i kind count out₀ at n₀ p₀ out n p = Downward out₀ at (headPiece book i kind) pair (headCount book i kind) n p out
 
 abbrev μ-loop : tie.MeasureT-loop
-μ-loop book places counts i kind count out₀ at n₀ p₀ out n p = n
+μ-loop book index i kind count out₀ at n₀ p₀ out n p = n
 
 loop-holds : tie.Need-loop-holds Inv-loop μ-loop
-loop-holds c = start _ _ _ _ (c .before .before .before .before .pre .2)
+loop-holds c = start _ _ _ _ (c .before .before .before .pre .2)
 
 sub-n : tie.Need-sub-n Inv-loop μ-loop
 sub-n c = omega (arith, c .loop-test .taken)
 
 head-byte-requires : tie.Need-head-byte-requires Inv-loop μ-loop
-head-byte-requires c κs = let s = c .before .before .before .before .before .before in (s .pre .0, s .pre .1, omega (arith, c .before .loop .inv .below, c .loop-test .taken))
+head-byte-requires c κs = let s = c .before .before .before .before .before in (s .pre .0, s .pre .1, omega (arith, c .before .loop .inv .below, c .loop-test .taken))
 
 put-two-requires : tie.Need-put-two-requires Inv-loop μ-loop
 put-two-requires c κs =
-    let s = c .before .before .before .before .before .before .before .before in
+    let s = c .before .before .before .before .before .before .before in
     room (c .before .before .before .loop .inv) _ refl (c .before .before .loop-test .taken)
     (omega (arith, heads-size (now (s .args .book)) (s .args .i) (s .args .kind), s .pre .3))
 

@@ -18,15 +18,15 @@ returns c =
 
 put-two-requires : tie.Need-put-two-requires
 put-two-requires c κs =
-    omega (arith, override-size (now (c .before .before .before .before .before .before .before .before .args .book)) (c .before .before .before .before .before .before .before .before .args .i) (c .before .before .before .before .before .before .before .before .args .k) (c .before .before .before .before .before .before .before .before .args .v) (sym (c .before .before .has-clause .ensures) ∙ not-false _ (c .before .if1 .left)), c .before .before .before .before .before .before .before .before .pre .1)
+    omega (arith, override-size (now (c .before .before .before .before .before .before .before .args .book)) (c .before .before .before .before .before .before .before .args .i) (c .before .before .before .before .before .before .before .args .k) (c .before .before .before .before .before .before .before .args .v) (sym (c .before .before .has-clause .ensures) ∙ not-false _ (c .before .if1 .left)), c .before .before .before .before .before .before .before .pre .1)
 
 put-one-requires : tie.Need-put-one-requires
 put-one-requires c κs =
-    omega (arith, override-size (now (c .before .before .before .before .before .before .before .before .before .before .before .before .args .book)) (c .before .before .before .before .before .before .before .before .before .before .before .before .args .i) (c .before .before .before .before .before .before .before .before .before .before .before .before .args .k) (c .before .before .before .before .before .before .before .before .before .before .before .before .args .v) (sym (c .before .before .before .before .before .before .has-clause .ensures) ∙ not-false _ (c .before .before .before .before .before .if1 .left)), c .before .before .before .before .before .before .before .before .before .before .before .before .pre .1, c .before .before .before .put-two .ensures .next)
+    omega (arith, override-size (now (c .before .before .before .before .before .before .before .before .before .before .before .args .book)) (c .before .before .before .before .before .before .before .before .before .before .before .args .i) (c .before .before .before .before .before .before .before .before .before .before .before .args .k) (c .before .before .before .before .before .before .before .before .before .before .before .args .v) (sym (c .before .before .before .before .before .before .has-clause .ensures) ∙ not-false _ (c .before .before .before .before .before .if1 .left)), c .before .before .before .before .before .before .before .before .before .before .before .pre .1, c .before .before .before .put-two .ensures .next)
 
 emit-tree-requires : tie.Need-emit-tree-requires
 emit-tree-requires c κs =
-    (c .before .before .before .before .before .before .before .before .before .before .before .before .before .before .before .before .pre .0, omega (arith, override-size (now (c .before .before .before .before .before .before .before .before .before .before .before .before .before .before .before .before .args .book)) (c .before .before .before .before .before .before .before .before .before .before .before .before .before .before .before .before .args .i) (c .before .before .before .before .before .before .before .before .before .before .before .before .before .before .before .before .args .k) (c .before .before .before .before .before .before .before .before .before .before .before .before .before .before .before .before .args .v) (sym (c .before .before .before .before .before .before .before .before .before .before .has-clause .ensures) ∙ not-false _ (c .before .before .before .before .before .before .before .before .before .if1 .left)), c .before .before .before .before .before .before .before .before .before .before .before .before .before .before .before .before .pre .1, c .before .before .before .before .before .before .before .put-two .ensures .next, c .before .before .before .put-one .ensures .next))
+    (c .before .before .before .before .before .before .before .before .before .before .before .before .before .before .before .pre .0, omega (arith, override-size (now (c .before .before .before .before .before .before .before .before .before .before .before .before .before .before .before .args .book)) (c .before .before .before .before .before .before .before .before .before .before .before .before .before .before .before .args .i) (c .before .before .before .before .before .before .before .before .before .before .before .before .before .before .before .args .k) (c .before .before .before .before .before .before .before .before .before .before .before .before .before .before .before .args .v) (sym (c .before .before .before .before .before .before .before .before .before .before .has-clause .ensures) ∙ not-false _ (c .before .before .before .before .before .before .before .before .before .if1 .left)), c .before .before .before .before .before .before .before .before .before .before .before .before .before .before .before .pre .1, c .before .before .before .before .before .before .before .put-two .ensures .next, c .before .before .before .put-one .ensures .next))
 
 same-length : tie.Need-same-length
 same-length c =

@@ -13,15 +13,15 @@ clause-at-requires c κs = search needs
 
 put-one-requires : tie.Need-put-one-requires
 put-one-requires c κs =
-    omega (arith, rest-size (now (c .before .before .before .before .before .before .args .book)) (c .before .before .before .before .before .before .args .i) (c .before .before .before .before .before .before .args .c) _ (c .before .clause-at .ensures), c .before .before .before .before .before .before .pre .1)
+    omega (arith, rest-size (now (c .before .before .before .before .before .args .book)) (c .before .before .before .before .before .args .i) (c .before .before .before .before .before .args .c) _ (c .before .clause-at .ensures), c .before .before .before .before .before .pre .1)
 
 put-far-requires : tie.Need-put-far-requires
 put-far-requires c κs =
-    omega (arith, rest-size (now (c .before .before .before .before .before .before .before .before .before .before .args .book)) (c .before .before .before .before .before .before .before .before .before .before .args .i) (c .before .before .before .before .before .before .before .before .before .before .args .c) _ (c .before .before .before .before .before .clause-at .ensures), c .before .before .before .before .before .before .before .before .before .before .pre .1, c .before .before .before .put-one .ensures .next)
+    omega (arith, rest-size (now (c .before .before .before .before .before .before .before .before .before .args .book)) (c .before .before .before .before .before .before .before .before .before .args .i) (c .before .before .before .before .before .before .before .before .before .args .c) _ (c .before .before .before .before .before .clause-at .ensures), c .before .before .before .before .before .before .before .before .before .pre .1, c .before .before .before .put-one .ensures .next)
 
 emit-consequence-requires : tie.Need-emit-consequence-requires
 emit-consequence-requires c κs =
-    (c .before .before .before .before .before .before .before .before .before .before .before .before .before .before .pre .0, omega (arith, rest-size (now (c .before .before .before .before .before .before .before .before .before .before .before .before .before .before .args .book)) (c .before .before .before .before .before .before .before .before .before .before .before .before .before .before .args .i) (c .before .before .before .before .before .before .before .before .before .before .before .before .before .before .args .c) _ (c .before .before .before .before .before .before .before .before .before .clause-at .ensures), c .before .before .before .before .before .before .before .before .before .before .before .before .before .before .pre .1, c .before .before .before .before .before .before .before .put-one .ensures .next, c .before .before .before .put-far .ensures .next))
+    (c .before .before .before .before .before .before .before .before .before .before .before .before .before .pre .0, omega (arith, rest-size (now (c .before .before .before .before .before .before .before .before .before .before .before .before .before .args .book)) (c .before .before .before .before .before .before .before .before .before .before .before .before .before .args .i) (c .before .before .before .before .before .before .before .before .before .before .before .before .before .args .c) _ (c .before .before .before .before .before .before .before .before .before .clause-at .ensures), c .before .before .before .before .before .before .before .before .before .before .before .before .before .pre .1, c .before .before .before .before .before .before .before .put-one .ensures .next, c .before .before .before .put-far .ensures .next))
 
 sub-put-far : tie.Need-sub-put-far
 sub-put-far c =
@@ -29,15 +29,15 @@ sub-put-far c =
 
 add-put-far : tie.Need-add-put-far
 add-put-far c =
-    omega (arith, rest-size (now (c .before .before .before .before .before .before .before .before .before .before .before .before .before .before .before .before .before .before .args .book)) (c .before .before .before .before .before .before .before .before .before .before .before .before .before .before .before .before .before .before .args .i) (c .before .before .before .before .before .before .before .before .before .before .before .before .before .before .before .before .before .before .args .c) _ (c .before .before .before .before .before .before .before .before .before .before .before .before .before .clause-at .ensures), c .before .before .before .before .before .before .before .before .before .before .before .before .before .before .before .before .before .before .pre .1, c .before .before .before .before .before .before .before .before .before .before .before .put-one .ensures .next, c .before .before .before .before .before .before .before .put-far .ensures .next, c .before .before .before .emit-consequence .ensures .next)
+    omega (arith, rest-size (now (c .before .before .before .before .before .before .before .before .before .before .before .before .before .before .before .before .before .args .book)) (c .before .before .before .before .before .before .before .before .before .before .before .before .before .before .before .before .before .args .i) (c .before .before .before .before .before .before .before .before .before .before .before .before .before .before .before .before .before .args .c) _ (c .before .before .before .before .before .before .before .before .before .before .before .before .before .clause-at .ensures), c .before .before .before .before .before .before .before .before .before .before .before .before .before .before .before .before .before .pre .1, c .before .before .before .before .before .before .before .before .before .before .before .put-one .ensures .next, c .before .before .before .before .before .before .before .put-far .ensures .next, c .before .before .before .emit-consequence .ensures .next)
 
 put-far-requires-2 : tie.Need-put-far-requires-2
 put-far-requires-2 c κs =
-    omega (arith, rest-size (now (c .before .before .before .before .before .before .before .before .before .before .before .before .before .before .before .before .before .before .args .book)) (c .before .before .before .before .before .before .before .before .before .before .before .before .before .before .before .before .before .before .args .i) (c .before .before .before .before .before .before .before .before .before .before .before .before .before .before .before .before .before .before .args .c) _ (c .before .before .before .before .before .before .before .before .before .before .before .before .before .clause-at .ensures), c .before .before .before .before .before .before .before .before .before .before .before .before .before .before .before .before .before .before .pre .1, c .before .before .before .before .before .before .before .before .before .before .before .put-one .ensures .next, c .before .before .before .before .before .before .before .put-far .ensures .next, c .before .before .before .emit-consequence .ensures .next)
+    omega (arith, rest-size (now (c .before .before .before .before .before .before .before .before .before .before .before .before .before .before .before .before .before .args .book)) (c .before .before .before .before .before .before .before .before .before .before .before .before .before .before .before .before .before .args .i) (c .before .before .before .before .before .before .before .before .before .before .before .before .before .before .before .before .before .args .c) _ (c .before .before .before .before .before .before .before .before .before .before .before .before .before .clause-at .ensures), c .before .before .before .before .before .before .before .before .before .before .before .before .before .before .before .before .before .pre .1, c .before .before .before .before .before .before .before .before .before .before .before .put-one .ensures .next, c .before .before .before .before .before .before .before .put-far .ensures .next, c .before .before .before .emit-consequence .ensures .next)
 
 emit-condition-requires : tie.Need-emit-condition-requires
 emit-condition-requires c κs =
-    (c .before .before .before .before .before .before .before .before .before .before .before .before .before .before .before .before .before .before .before .before .before .before .pre .0, omega (arith, rest-size (now (c .before .before .before .before .before .before .before .before .before .before .before .before .before .before .before .before .before .before .before .before .before .before .args .book)) (c .before .before .before .before .before .before .before .before .before .before .before .before .before .before .before .before .before .before .before .before .before .before .args .i) (c .before .before .before .before .before .before .before .before .before .before .before .before .before .before .before .before .before .before .before .before .before .before .args .c) _ (c .before .before .before .before .before .before .before .before .before .before .before .before .before .before .before .before .before .clause-at .ensures), c .before .before .before .before .before .before .before .before .before .before .before .before .before .before .before .before .before .before .before .before .before .before .pre .1, c .before .before .before .before .before .before .before .before .before .before .before .before .before .before .before .put-one .ensures .next, c .before .before .before .before .before .before .before .before .before .before .before .put-far .ensures .next, c .before .before .before .before .before .before .before .emit-consequence .ensures .next, c .before .before .before .put-far2 .ensures .next))
+    (c .before .before .before .before .before .before .before .before .before .before .before .before .before .before .before .before .before .before .before .before .before .pre .0, omega (arith, rest-size (now (c .before .before .before .before .before .before .before .before .before .before .before .before .before .before .before .before .before .before .before .before .before .args .book)) (c .before .before .before .before .before .before .before .before .before .before .before .before .before .before .before .before .before .before .before .before .before .args .i) (c .before .before .before .before .before .before .before .before .before .before .before .before .before .before .before .before .before .before .before .before .before .args .c) _ (c .before .before .before .before .before .before .before .before .before .before .before .before .before .before .before .before .before .clause-at .ensures), c .before .before .before .before .before .before .before .before .before .before .before .before .before .before .before .before .before .before .before .before .before .pre .1, c .before .before .before .before .before .before .before .before .before .before .before .before .before .before .before .put-one .ensures .next, c .before .before .before .before .before .before .before .before .before .before .before .put-far .ensures .next, c .before .before .before .before .before .before .before .emit-consequence .ensures .next, c .before .before .before .put-far2 .ensures .next))
 
 same-length : tie.Need-same-length
 same-length c =

@@ -14,7 +14,7 @@ slot-of-requires c κs = search needs
 
 clause-count-requires : tie.Need-clause-count-requires
 clause-count-requires c κs =
-    c .before .before .before .before .before .before .pre .0 .sound .laid
+    c .before .before .before .before .before .pre .0 .sound .laid
 
 byte-at-requires : tie.Need-byte-at-requires
 byte-at-requires c κs = search needs
@@ -24,14 +24,14 @@ cast-first c = search needs
 
 add-byte-at : tie.Need-add-byte-at
 add-byte-at c =
-    omega (arith, slot-few _ _ _ _ _ (c .before .before .before .before .before .before .before .before .pre .0) (c .before .before .before .before .before .before .before .before .args .sub) (c .before .before .before .before .before .before .before .before .args .variable) _ (c .before .before .slot-of .ensures))
+    omega (arith, slot-few _ _ _ _ (c .before .before .before .before .before .before .before .pre .0) (c .before .before .before .before .before .before .before .args .sub) (c .before .before .before .before .before .before .before .args .variable) _ (c .before .before .slot-of .ensures))
 
 byte-at-requires-2 : tie.Need-byte-at-requires-2
 byte-at-requires-2 c κs = search needs
 
 emit-bases-requires : tie.Need-emit-bases-requires
 emit-bases-requires c κs =
-    (c .before .before .before .before .before .before .before .before .before .before .before .pre .0, room-same _ _ _ (tree-ruled _ _ _ _ _ (c .before .before .before .before .before .before .before .before .before .before .before .pre .0) (c .before .before .before .before .before .before .before .before .before .before .before .args .sub) (c .before .before .before .before .before .before .before .before .before .before .before .args .variable) _ (c .before .before .before .before .before .slot-of .ensures) _ (c .before .before .before .byte-at .ensures) _ (c .before .before .byte-at2 .ensures) (c .before .if1 .taken)) (c .before .before .before .before .before .before .before .before .before .before .before .pre .1))
+    (c .before .before .before .before .before .before .before .before .before .before .pre .0, room-same _ _ _ (tree-ruled _ _ _ _ (c .before .before .before .before .before .before .before .before .before .before .pre .0) (c .before .before .before .before .before .before .before .before .before .before .args .sub) (c .before .before .before .before .before .before .before .before .before .before .args .variable) _ (c .before .before .before .before .before .slot-of .ensures) _ (c .before .before .before .byte-at .ensures) _ (c .before .before .byte-at2 .ensures) (c .before .if1 .taken)) (c .before .before .before .before .before .before .before .before .before .before .pre .1))
 
 same-length : tie.Need-same-length
 same-length c =
@@ -39,11 +39,11 @@ same-length c =
 
 returns : tie.Need-returns
 returns c =
-    told (tree-ruled _ _ _ _ _ (c .before .before .before .before .before .before .before .before .before .before .before .before .before .before .pre .0) (c .before .before .before .before .before .before .before .before .before .before .before .before .before .before .args .sub) (c .before .before .before .before .before .before .before .before .before .before .before .before .before .before .args .variable) _ (c .before .before .before .before .before .before .before .before .slot-of .ensures) _ (c .before .before .before .before .before .before .byte-at .ensures) _ (c .before .before .before .before .before .byte-at2 .ensures) (c .before .before .before .before .if1 .taken)) (c .before .before .emit-bases .ensures)
+    told (tree-ruled _ _ _ _ (c .before .before .before .before .before .before .before .before .before .before .before .before .before .pre .0) (c .before .before .before .before .before .before .before .before .before .before .before .before .before .args .sub) (c .before .before .before .before .before .before .before .before .before .before .before .before .before .args .variable) _ (c .before .before .before .before .before .before .before .before .slot-of .ensures) _ (c .before .before .before .before .before .before .byte-at .ensures) _ (c .before .before .before .before .before .byte-at2 .ensures) (c .before .before .before .before .if1 .taken)) (c .before .before .emit-bases .ensures)
 
 put-one-requires : tie.Need-put-one-requires
 put-one-requires c κs =
-    omega (arith, size-error (tree-none _ _ _ _ _ (c .before .before .before .before .before .before .before .before .before .before .before .before .pre .0) (c .before .before .before .before .before .before .before .before .before .before .before .before .args .sub) (c .before .before .before .before .before .before .before .before .before .before .before .before .args .variable) _ (c .before .before .before .before .before .before .slot-of .ensures) _ (c .before .before .before .before .byte-at .ensures) _ (c .before .before .before .byte-at2 .ensures) (c .before .before .if1 .left) (omega (arith, c .before .before .before .before .before .clause-count .ensures, c .before .if2 .taken))), c .before .before .before .before .before .before .before .before .before .before .before .before .pre .1)
+    omega (arith, size-error (tree-none _ _ _ _ (c .before .before .before .before .before .before .before .before .before .before .before .pre .0) (c .before .before .before .before .before .before .before .before .before .before .before .args .sub) (c .before .before .before .before .before .before .before .before .before .before .before .args .variable) _ (c .before .before .before .before .before .before .slot-of .ensures) _ (c .before .before .before .before .byte-at .ensures) _ (c .before .before .before .byte-at2 .ensures) (c .before .before .if1 .left) (omega (arith, c .before .before .before .before .before .clause-count .ensures, c .before .if2 .taken))), c .before .before .before .before .before .before .before .before .before .before .before .pre .1)
 
 same-length-2 : tie.Need-same-length-2
 same-length-2 c =
@@ -51,11 +51,11 @@ same-length-2 c =
 
 returns-2 : tie.Need-returns-2
 returns-2 c =
-    emits-error (tree-none _ _ _ _ _ (c .before .before .before .before .before .before .before .before .before .before .before .before .before .before .before .pre .0) (c .before .before .before .before .before .before .before .before .before .before .before .before .before .before .before .args .sub) (c .before .before .before .before .before .before .before .before .before .before .before .before .before .before .before .args .variable) _ (c .before .before .before .before .before .before .before .before .before .slot-of .ensures) _ (c .before .before .before .before .before .before .before .byte-at .ensures) _ (c .before .before .before .before .before .before .byte-at2 .ensures) (c .before .before .before .before .before .if1 .left) (omega (arith, c .before .before .before .before .before .before .before .before .clause-count .ensures, c .before .before .before .before .if2 .taken))) refl (c .before .before .put-one .ensures)
+    emits-error (tree-none _ _ _ _ (c .before .before .before .before .before .before .before .before .before .before .before .before .before .before .pre .0) (c .before .before .before .before .before .before .before .before .before .before .before .before .before .before .args .sub) (c .before .before .before .before .before .before .before .before .before .before .before .before .before .before .args .variable) _ (c .before .before .before .before .before .before .before .before .before .slot-of .ensures) _ (c .before .before .before .before .before .before .before .byte-at .ensures) _ (c .before .before .before .before .before .before .byte-at2 .ensures) (c .before .before .before .before .before .if1 .left) (omega (arith, c .before .before .before .before .before .before .before .before .clause-count .ensures, c .before .before .before .before .if2 .taken))) refl (c .before .before .put-one .ensures)
 
 add-byte-at-2 : tie.Need-add-byte-at-2
 add-byte-at-2 c =
-    omega (arith, few _ _ _ _ _ (c .before .before .before .before .before .before .before .before .before .before .before .pre .0), c .before .before .before .before .clause-count .ensures, c .if2 .left)
+    omega (arith, few _ _ _ _ (c .before .before .before .before .before .before .before .before .before .before .pre .0), c .before .before .before .before .clause-count .ensures, c .if2 .left)
 
 byte-at-requires-3 : tie.Need-byte-at-requires-3
 byte-at-requires-3 c κs = search needs
@@ -65,7 +65,7 @@ cast-next c = search needs
 
 emit-clause-requires : tie.Need-emit-clause-requires
 emit-clause-requires c κs =
-    (c .before .before .before .before .before .before .before .before .before .before .before .before .before .before .pre .0, omega (arith, c .before .before .before .before .before .before .before .clause-count .ensures, c .before .before .before .if2 .left), room-same _ _ _ (tree-one _ _ _ _ _ (c .before .before .before .before .before .before .before .before .before .before .before .before .before .before .pre .0) (c .before .before .before .before .before .before .before .before .before .before .before .before .before .before .args .sub) (c .before .before .before .before .before .before .before .before .before .before .before .before .before .before .args .variable) _ (c .before .before .before .before .before .before .before .before .slot-of .ensures) _ (c .before .before .before .before .before .before .byte-at .ensures) _ (c .before .before .before .before .before .byte-at2 .ensures) (c .before .before .before .before .if1 .left) (omega (arith, c .before .before .before .before .before .before .before .clause-count .ensures, c .before .before .before .if2 .left)) _ (c .before .before .byte-at3 .ensures) (omega (arith, c .before .before .before .before .before .before .before .clause-count .ensures, c .before .if3 .taken))) (c .before .before .before .before .before .before .before .before .before .before .before .before .before .before .pre .1))
+    (c .before .before .before .before .before .before .before .before .before .before .before .before .before .pre .0, omega (arith, c .before .before .before .before .before .before .before .clause-count .ensures, c .before .before .before .if2 .left), room-same _ _ _ (tree-one _ _ _ _ (c .before .before .before .before .before .before .before .before .before .before .before .before .before .pre .0) (c .before .before .before .before .before .before .before .before .before .before .before .before .before .args .sub) (c .before .before .before .before .before .before .before .before .before .before .before .before .before .args .variable) _ (c .before .before .before .before .before .before .before .before .slot-of .ensures) _ (c .before .before .before .before .before .before .byte-at .ensures) _ (c .before .before .before .before .before .byte-at2 .ensures) (c .before .before .before .before .if1 .left) (omega (arith, c .before .before .before .before .before .before .before .clause-count .ensures, c .before .before .before .if2 .left)) _ (c .before .before .byte-at3 .ensures) (omega (arith, c .before .before .before .before .before .before .before .clause-count .ensures, c .before .if3 .taken))) (c .before .before .before .before .before .before .before .before .before .before .before .before .before .pre .1))
 
 same-length-3 : tie.Need-same-length-3
 same-length-3 c =
@@ -73,11 +73,11 @@ same-length-3 c =
 
 returns-3 : tie.Need-returns-3
 returns-3 c =
-    told (tree-one _ _ _ _ _ (c .before .before .before .before .before .before .before .before .before .before .before .before .before .before .before .before .before .pre .0) (c .before .before .before .before .before .before .before .before .before .before .before .before .before .before .before .before .before .args .sub) (c .before .before .before .before .before .before .before .before .before .before .before .before .before .before .before .before .before .args .variable) _ (c .before .before .before .before .before .before .before .before .before .before .before .slot-of .ensures) _ (c .before .before .before .before .before .before .before .before .before .byte-at .ensures) _ (c .before .before .before .before .before .before .before .before .byte-at2 .ensures) (c .before .before .before .before .before .before .before .if1 .left) (omega (arith, c .before .before .before .before .before .before .before .before .before .before .clause-count .ensures, c .before .before .before .before .before .before .if2 .left)) _ (c .before .before .before .before .before .byte-at3 .ensures) (omega (arith, c .before .before .before .before .before .before .before .before .before .before .clause-count .ensures, c .before .before .before .before .if3 .taken))) (c .before .before .emit-clause .ensures)
+    told (tree-one _ _ _ _ (c .before .before .before .before .before .before .before .before .before .before .before .before .before .before .before .before .pre .0) (c .before .before .before .before .before .before .before .before .before .before .before .before .before .before .before .before .args .sub) (c .before .before .before .before .before .before .before .before .before .before .before .before .before .before .before .before .args .variable) _ (c .before .before .before .before .before .before .before .before .before .before .before .slot-of .ensures) _ (c .before .before .before .before .before .before .before .before .before .byte-at .ensures) _ (c .before .before .before .before .before .before .before .before .byte-at2 .ensures) (c .before .before .before .before .before .before .before .if1 .left) (omega (arith, c .before .before .before .before .before .before .before .before .before .before .clause-count .ensures, c .before .before .before .before .before .before .if2 .left)) _ (c .before .before .before .before .before .byte-at3 .ensures) (omega (arith, c .before .before .before .before .before .before .before .before .before .before .clause-count .ensures, c .before .before .before .before .if3 .taken))) (c .before .before .emit-clause .ensures)
 
 emit-bases-requires-2 : tie.Need-emit-bases-requires-2
 emit-bases-requires-2 c κs =
-    (c .before .before .before .before .before .before .before .before .before .before .before .before .before .before .pre .0, room-same _ _ _ (tree-many _ _ _ _ _ (c .before .before .before .before .before .before .before .before .before .before .before .before .before .before .pre .0) (c .before .before .before .before .before .before .before .before .before .before .before .before .before .before .args .sub) (c .before .before .before .before .before .before .before .before .before .before .before .before .before .before .args .variable) _ (c .before .before .before .before .before .before .before .before .slot-of .ensures) _ (c .before .before .before .before .before .before .byte-at .ensures) _ (c .before .before .before .before .before .byte-at2 .ensures) (c .before .before .before .before .if1 .left) (omega (arith, c .before .before .before .before .before .before .before .clause-count .ensures, c .before .before .before .if2 .left)) _ (c .before .before .byte-at3 .ensures) (omega (arith, c .before .before .before .before .before .before .before .clause-count .ensures, c .before .if3 .left))) (c .before .before .before .before .before .before .before .before .before .before .before .before .before .before .pre .1))
+    (c .before .before .before .before .before .before .before .before .before .before .before .before .before .pre .0, room-same _ _ _ (tree-many _ _ _ _ (c .before .before .before .before .before .before .before .before .before .before .before .before .before .pre .0) (c .before .before .before .before .before .before .before .before .before .before .before .before .before .args .sub) (c .before .before .before .before .before .before .before .before .before .before .before .before .before .args .variable) _ (c .before .before .before .before .before .before .before .before .slot-of .ensures) _ (c .before .before .before .before .before .before .byte-at .ensures) _ (c .before .before .before .before .before .byte-at2 .ensures) (c .before .before .before .before .if1 .left) (omega (arith, c .before .before .before .before .before .before .before .clause-count .ensures, c .before .before .before .if2 .left)) _ (c .before .before .byte-at3 .ensures) (omega (arith, c .before .before .before .before .before .before .before .clause-count .ensures, c .before .if3 .left))) (c .before .before .before .before .before .before .before .before .before .before .before .before .before .pre .1))
 
 same-length-4 : tie.Need-same-length-4
 same-length-4 c =
@@ -85,7 +85,7 @@ same-length-4 c =
 
 returns-4 : tie.Need-returns-4
 returns-4 c =
-    told (tree-many _ _ _ _ _ (c .before .before .before .before .before .before .before .before .before .before .before .before .before .before .before .before .before .pre .0) (c .before .before .before .before .before .before .before .before .before .before .before .before .before .before .before .before .before .args .sub) (c .before .before .before .before .before .before .before .before .before .before .before .before .before .before .before .before .before .args .variable) _ (c .before .before .before .before .before .before .before .before .before .before .before .slot-of .ensures) _ (c .before .before .before .before .before .before .before .before .before .byte-at .ensures) _ (c .before .before .before .before .before .before .before .before .byte-at2 .ensures) (c .before .before .before .before .before .before .before .if1 .left) (omega (arith, c .before .before .before .before .before .before .before .before .before .before .clause-count .ensures, c .before .before .before .before .before .before .if2 .left)) _ (c .before .before .before .before .before .byte-at3 .ensures) (omega (arith, c .before .before .before .before .before .before .before .before .before .before .clause-count .ensures, c .before .before .before .before .if3 .left))) (c .before .before .emit-bases2 .ensures)
+    told (tree-many _ _ _ _ (c .before .before .before .before .before .before .before .before .before .before .before .before .before .before .before .before .pre .0) (c .before .before .before .before .before .before .before .before .before .before .before .before .before .before .before .before .args .sub) (c .before .before .before .before .before .before .before .before .before .before .before .before .before .before .before .before .args .variable) _ (c .before .before .before .before .before .before .before .before .before .before .before .slot-of .ensures) _ (c .before .before .before .before .before .before .before .before .before .byte-at .ensures) _ (c .before .before .before .before .before .before .before .before .byte-at2 .ensures) (c .before .before .before .before .before .before .before .if1 .left) (omega (arith, c .before .before .before .before .before .before .before .before .before .before .clause-count .ensures, c .before .before .before .before .before .before .if2 .left)) _ (c .before .before .before .before .before .byte-at3 .ensures) (omega (arith, c .before .before .before .before .before .before .before .before .before .before .clause-count .ensures, c .before .before .before .before .if3 .left))) (c .before .before .emit-bases2 .ensures)
 
 pub emit-tree-spec : {M : Type 1} → statement M
 emit-tree-spec =

@@ -10,11 +10,11 @@ use Rattle.emitter.proofs.emit_variable.Tie as tie
 
 put-two-requires : tie.Need-put-two-requires
 put-two-requires c κs =
-    omega (arith, variable-size (now (c .before .before .before .before .before .before .args .book)) (c .before .before .before .before .before .before .args .i) (c .before .before .before .before .before .before .args .x), c .before .before .before .before .before .before .pre .1)
+    omega (arith, variable-size (now (c .before .before .before .before .before .args .book)) (c .before .before .before .before .before .args .i) (c .before .before .before .before .before .args .x), c .before .before .before .before .before .pre .1)
 
 emit-tree-requires : tie.Need-emit-tree-requires
 emit-tree-requires c κs =
-    (c .before .before .before .before .before .before .before .before .before .before .pre .0, omega (arith, variable-size (now (c .before .before .before .before .before .before .before .before .before .before .args .book)) (c .before .before .before .before .before .before .before .before .before .before .args .i) (c .before .before .before .before .before .before .before .before .before .before .args .x), c .before .before .before .before .before .before .before .before .before .before .pre .1, c .before .before .before .put-two .ensures .next))
+    (c .before .before .before .before .before .before .before .before .before .pre .0, omega (arith, variable-size (now (c .before .before .before .before .before .before .before .before .before .args .book)) (c .before .before .before .before .before .before .before .before .before .args .i) (c .before .before .before .before .before .before .before .before .before .args .x), c .before .before .before .before .before .before .before .before .before .pre .1, c .before .before .before .put-two .ensures .next))
 
 sub-d : tie.Need-sub-d
 sub-d c =
@@ -28,11 +28,11 @@ cast-put-two-2 c = search needs
 
 put-two-requires-2 : tie.Need-put-two-requires-2
 put-two-requires-2 c κs =
-    omega (arith, variable-size (now (c .before .before .before .before .before .before .before .before .before .before .before .before .before .before .args .book)) (c .before .before .before .before .before .before .before .before .before .before .before .before .before .before .args .i) (c .before .before .before .before .before .before .before .before .before .before .before .before .before .before .args .x), c .before .before .before .before .before .before .before .before .before .before .before .before .before .before .pre .1, c .before .before .before .before .before .before .before .put-two .ensures .next, c .before .before .before .emit-tree .ensures .next)
+    omega (arith, variable-size (now (c .before .before .before .before .before .before .before .before .before .before .before .before .before .args .book)) (c .before .before .before .before .before .before .before .before .before .before .before .before .before .args .i) (c .before .before .before .before .before .before .before .before .before .before .before .before .before .args .x), c .before .before .before .before .before .before .before .before .before .before .before .before .before .pre .1, c .before .before .before .before .before .before .before .put-two .ensures .next, c .before .before .before .emit-tree .ensures .next)
 
 put-two-requires-3 : tie.Need-put-two-requires-3
 put-two-requires-3 c κs =
-    omega (arith, variable-size (now (c .before .before .before .before .before .before .before .before .before .before .before .before .before .before .before .before .before .before .args .book)) (c .before .before .before .before .before .before .before .before .before .before .before .before .before .before .before .before .before .before .args .i) (c .before .before .before .before .before .before .before .before .before .before .before .before .before .before .before .before .before .before .args .x), c .before .before .before .before .before .before .before .before .before .before .before .before .before .before .before .before .before .before .pre .1, c .before .before .before .before .before .before .before .before .before .before .before .put-two .ensures .next, c .before .before .before .before .before .before .before .emit-tree .ensures .next, c .before .before .before .put-two2 .ensures .next)
+    omega (arith, variable-size (now (c .before .before .before .before .before .before .before .before .before .before .before .before .before .before .before .before .before .args .book)) (c .before .before .before .before .before .before .before .before .before .before .before .before .before .before .before .before .before .args .i) (c .before .before .before .before .before .before .before .before .before .before .before .before .before .before .before .before .before .args .x), c .before .before .before .before .before .before .before .before .before .before .before .before .before .before .before .before .before .pre .1, c .before .before .before .before .before .before .before .before .before .before .before .put-two .ensures .next, c .before .before .before .before .before .before .before .emit-tree .ensures .next, c .before .before .before .put-two2 .ensures .next)
 
 same-length : tie.Need-same-length
 same-length c =

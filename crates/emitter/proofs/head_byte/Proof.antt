@@ -28,7 +28,7 @@ sub-scope-at-requires c κs = search needs
 cast-result : tie.Need-cast-result
 unfolding headCount
 cast-result c =
-    let s = c .before .before .before .before .before in
+    let s = c .before .before .before .before in
     let below : s .args .n < length (scopeAt (scopesOf (now (s .args .book))) (s .args .i) .subScopes) = rw (ne-eqb _ _ (c .before .if1 .left)) at (s .pre .2) in
     omega (arith, c .sub-scope-at .ensures, s .pre .1 .called (s .args .n) below)
 

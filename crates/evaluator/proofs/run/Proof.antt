@@ -10,7 +10,7 @@ slice-aggregate-run-in : tie.Need-slice-aggregate-run-in
 slice-aggregate-run-in c = search needs
 
 run-in-requires : tie.Need-run-in-requires
-run-in-requires c κs = (c .before .before .before .before .before .before .before .before .before .pre, blank-links (c .before .before .before .before .before .before .before .before .before .pre) 834 (omega (arith, c .before .before .if1 .taken)))
+run-in-requires c κs = (c .before .before .before .before .before .before .before .before .pre, blank-links (c .before .before .before .before .before .before .before .before .pre) 834 (omega (arith, c .before .before .if1 .taken)))
 
 same-length : tie.Need-same-length
 same-length c = search needs
@@ -22,7 +22,7 @@ slice-aggregate-run-in-2 : tie.Need-slice-aggregate-run-in-2
 slice-aggregate-run-in-2 c = search needs
 
 run-in-requires-2 : tie.Need-run-in-requires-2
-run-in-requires-2 c κs = (c .before .before .before .before .before .before .before .before .before .before .pre, blank-links (c .before .before .before .before .before .before .before .before .before .before .pre) 6672 (omega (arith, c .before .before .if2 .taken)))
+run-in-requires-2 c κs = (c .before .before .before .before .before .before .before .before .before .pre, blank-links (c .before .before .before .before .before .before .before .before .before .pre) 6672 (omega (arith, c .before .before .if2 .taken)))
 
 same-length-2 : tie.Need-same-length-2
 same-length-2 c = search needs
@@ -34,7 +34,7 @@ slice-aggregate-run-in-3 : tie.Need-slice-aggregate-run-in-3
 slice-aggregate-run-in-3 c = search needs
 
 run-in-requires-3 : tie.Need-run-in-requires-3
-run-in-requires-3 c κs = (c .before .before .before .before .before .before .before .before .before .before .pre, blank-links (c .before .before .before .before .before .before .before .before .before .before .pre) 26688 (all-links (c .before .before .before .before .before .before .before .before .before .before .pre)))
+run-in-requires-3 c κs = (c .before .before .before .before .before .before .before .before .before .pre, blank-links (c .before .before .before .before .before .before .before .before .before .pre) 26688 (all-links (c .before .before .before .before .before .before .before .before .before .pre)))
 
 same-length-3 : tie.Need-same-length-3
 same-length-3 c = search needs

@@ -18,7 +18,7 @@ slice-aggregate-read-by : tie.Need-slice-aggregate-read-by
 slice-aggregate-read-by c = whole (c .before .before .fill-types .ensures)
 
 read-by-requires : tie.Need-read-by-requires
-read-by-requires c κs = (few (c .before .before .before .fill-types .ensures) (c .before .before .before .before .before .before .before .before .before .before .pre .1 .0), c .before .before .before .before .before .before .before .before .before .before .pre .1 .1)
+read-by-requires c κs = (few (c .before .before .before .fill-types .ensures) (c .before .before .before .before .before .before .before .before .before .pre .1 .0), c .before .before .before .before .before .before .before .before .before .pre .1 .1)
 
 same-length : tie.Need-same-length
 same-length c = search needs

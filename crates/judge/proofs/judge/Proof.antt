@@ -17,12 +17,9 @@ slice-aggregate-judge-into-3 c = search needs
 slice-aggregate-judge-into-4 : tie.Need-slice-aggregate-judge-into-4
 slice-aggregate-judge-into-4 c = search needs
 
-slice-aggregate-judge-into-5 : tie.Need-slice-aggregate-judge-into-5
-slice-aggregate-judge-into-5 c = search needs
-
 judge-into-requires : tie.Need-judge-into-requires
 judge-into-requires c κs = (
-  record { noPlaces = refl; noCounts = refl },
+  refl,
   record { blockRoom = search needs; weightRoom = search needs; orderRoom = search needs },
 )
 
@@ -37,6 +34,5 @@ judge-spec =
     slice-aggregate-judge-into-2
     slice-aggregate-judge-into-3
     slice-aggregate-judge-into-4
-    slice-aggregate-judge-into-5
     judge-into-requires
     returns)

@@ -8,16 +8,16 @@ use Rattle.judge.proofs.judge_into.Statement.{statement}
 use Rattle.judge.proofs.judge_into.Tie as tie
 
 returns : tie.Need-returns
-returns c = refused (long (now (c .before .before .before .before .before .before .before .args .book)) (c .if1 .taken))
+returns c = refused (long (now (c .before .before .before .before .before .before .args .book)) (c .if1 .taken))
 
 read-records-requires : tie.Need-read-records-requires
-read-records-requires c κs = record { short = c .before .before .if1 .left; noPlaces = c .before .before .before .before .before .before .before .before .before .pre .0 .noPlaces; noCounts = c .before .before .before .before .before .before .before .before .before .pre .0 .noCounts }
+read-records-requires c κs = record { short = c .before .if1 .left; empty = c .before .before .before .before .before .before .before .pre .0 }
 
 enum-known-n : tie.Need-enum-known-n
 enum-known-n c = search needs
 
 judge-whole-requires : tie.Need-judge-whole-requires
-judge-whole-requires c κs = (read-sound (c .before .before .before .before .before .before .before .before .before .before .before .before .read-records .ensures) (c .before .before .before .before .before .before .n .given .1), c .before .before .before .before .before .before .before .before .before .before .before .before .before .before .before .before .before .before .before .before .before .before .pre .1)
+judge-whole-requires c κs = (read-sound (c .before .before .before .before .before .before .before .before .before .read-records .ensures) (c .before .before .before .before .before .n .given .1), c .before .before .before .before .before .before .before .before .before .before .before .before .before .before .before .before .before .pre .1)
 
 enum-known-f : tie.Need-enum-known-f
 enum-known-f c = search needs
@@ -34,22 +34,16 @@ same-length-3 c = search needs
 same-length-4 : tie.Need-same-length-4
 same-length-4 c = search needs
 
+returns-2 : tie.Need-returns-2
+returns-2 c =
+    let s = read-sound (c .before .before .before .before .before .before .before .before .before .before .before .before .before .before .before .before .read-records .ensures) (c .before .before .before .before .before .before .before .before .before .before .before .before .n .given .1) in
+    record { answer = c .before .before .before .before .before .before .judge-whole .ensures .answer ∙ sound (now (c .before .before .before .before .before .before .before .before .before .before .before .before .before .before .before .before .before .before .before .before .before .before .before .before .args .book)) (c .before .before .before .before .before .before .before .before .before .before .before .before .before .before .before .before .before .before .if1 .left) (s .sound); tables = c .before .before .before .before .before .before .judge-whole .ensures .tables }
+
 same-length-5 : tie.Need-same-length-5
 same-length-5 c = search needs
 
-returns-2 : tie.Need-returns-2
-returns-2 c =
-    let s = read-sound (c .before .before .before .before .before .before .before .before .before .before .before .before .before .before .before .before .before .before .before .read-records .ensures) (c .before .before .before .before .before .before .before .before .before .before .before .before .before .n .given .1) in
-    record { answer = c .before .before .before .before .before .before .judge-whole .ensures .answer ∙ sound (now (c .before .before .before .before .before .before .before .before .before .before .before .before .before .before .before .before .before .before .before .before .before .before .before .before .before .before .before .before .before .args .book)) (c .before .before .before .before .before .before .before .before .before .before .before .before .before .before .before .before .before .before .before .before .before .before .if1 .left) (s .sound); tables = c .before .before .before .before .before .before .judge-whole .ensures .tables }
-
-same-length-6 : tie.Need-same-length-6
-same-length-6 c = search needs
-
-same-length-7 : tie.Need-same-length-7
-same-length-7 c = search needs
-
 returns-3 : tie.Need-returns-3
-returns-3 c = refused (faulty (now (c .before .before .before .before .before .before .before .before .before .before .before .before .before .before .before .before .before .args .book)) (c .before .before .before .before .before .before .before .before .before .before .if1 .left) (read-fault (c .before .before .before .before .before .before .before .read-records .ensures) (c .before .f .given .1)))
+returns-3 c = refused (faulty (now (c .before .before .before .before .before .before .before .before .before .before .before .before .before .args .book)) (c .before .before .before .before .before .before .before .if1 .left) (read-fault (c .before .before .before .before .before .read-records .ensures) (c .before .f .given .1)))
 
 pub judge-into-spec : {M : Type 1} → statement M
 judge-into-spec =
@@ -64,8 +58,6 @@ judge-into-spec =
     same-length-2
     same-length-3
     same-length-4
-    same-length-5
     returns-2
-    same-length-6
-    same-length-7
+    same-length-5
     returns-3)

@@ -7,13 +7,13 @@ use Rattle.links.proofs.fill_all_links.Statement.{statement}
 use Rattle.links.proofs.fill_all_links.Tie as tie
 
 abbrev Inv-loop : tie.InvT-loop
-Inv-loop book places counts scopes links₀ i₀ links i = Filling book scopes links₀ links i
+Inv-loop book index scopes links₀ i₀ links i = Filling book scopes links₀ links i
 
 abbrev μ-loop : tie.MeasureT-loop
-μ-loop book places counts scopes links₀ i₀ links i = scopes - i
+μ-loop book index scopes links₀ i₀ links i = scopes - i
 
 loop-holds : tie.Need-loop-holds Inv-loop μ-loop
-loop-holds c = begin _ _ _ _ _ (c .before .before .before .before .pre)
+loop-holds c = begin _ _ _ _ (c .before .before .before .pre)
 
 mul-a : tie.Need-mul-a Inv-loop μ-loop
 mul-a c = omega arith
@@ -31,7 +31,7 @@ part-fill-links-end : tie.Need-part-fill-links-end Inv-loop μ-loop
 part-fill-links-end c = omega arith
 
 fill-links-requires : tie.Need-fill-links-requires Inv-loop μ-loop
-fill-links-requires c κs = blank _ _ _ _ _ (c .before .before .before .before .before .before .before .pre) _ _ (c .before .before .loop .inv) (c .before .loop-test .taken)
+fill-links-requires c κs = blank _ _ _ _ (c .before .before .before .before .before .before .pre) _ _ (c .before .before .loop .inv) (c .before .loop-test .taken)
 
 add-i : tie.Need-add-i Inv-loop μ-loop
 add-i c = omega arith
@@ -42,13 +42,13 @@ loop-less c = omega arith
 loop-again : tie.Need-loop-again Inv-loop μ-loop
 loop-again c =
     let m = c .before .before .before .before .before in
-    fill _ _ _ _ _ (m .before .before .before .before .before .pre) _ _ (m .loop .inv) (c .before .before .before .before .loop-test .taken) _ (c .before .before .fill-links .ensures)
+    fill _ _ _ _ (m .before .before .before .before .pre) _ _ (m .loop .inv) (c .before .before .before .before .loop-test .taken) _ (c .before .before .fill-links .ensures)
 
 same-length : tie.Need-same-length Inv-loop μ-loop
 same-length c = c .before .loop .inv .long
 
 returns : tie.Need-returns Inv-loop μ-loop
-returns c = filled _ _ _ _ _ (c .before .before .before .before .before .before .pre) _ _ (c .before .loop .inv) (c .loop-test .left)
+returns c = filled _ _ _ _ (c .before .before .before .before .before .pre) _ _ (c .before .loop .inv) (c .loop-test .left)
 
 pub fill-all-links-spec : {M : Type 1} → statement M
 fill-all-links-spec =

@@ -12,10 +12,10 @@ use Rattle.mixing.proofs.has_mixed.Statement.{statement}
 use Rattle.mixing.proofs.has_mixed.Tie as tie
 
 abbrev Inv-loop : tie.InvT-loop
-Inv-loop book places counts scopes i₀ i = Passed (scopesOf book) (mixedIn) i
+Inv-loop book index scopes i₀ i = Passed (scopesOf book) (mixedIn) i
 
 abbrev μ-loop : tie.MeasureT-loop
-μ-loop book places counts scopes i₀ i = scopes - i
+μ-loop book index scopes i₀ i = scopes - i
 
 loop-holds : tie.Need-loop-holds Inv-loop μ-loop
 loop-holds c = start _ _
@@ -27,7 +27,7 @@ returns : tie.Need-returns Inv-loop μ-loop
 unfolding mixes mixedAt
 returns c =
     let in-loop = c .before .before in
-    stopped _ _ (in-loop .before .before .before .before .before .pre .1 .0) (in-loop .before .loop .inv) _ (in-loop .loop-test .taken) (c .before .mixed-at .ensures) (c .if1 .taken)
+    stopped _ _ (in-loop .before .before .before .before .pre .1 .0) (in-loop .before .loop .inv) _ (in-loop .loop-test .taken) (c .before .mixed-at .ensures) (c .if1 .taken)
 
 add-i : tie.Need-add-i Inv-loop μ-loop
 add-i c = omega arith
@@ -39,11 +39,11 @@ loop-again : tie.Need-loop-again Inv-loop μ-loop
 unfolding mixedAt
 loop-again c =
     let in-loop = c .before .before in
-    next _ _ (in-loop .before .before .before .before .before .pre .1 .0) (in-loop .before .loop .inv) _ (in-loop .loop-test .taken) (c .before .mixed-at .ensures) (c .if1 .left)
+    next _ _ (in-loop .before .before .before .before .pre .1 .0) (in-loop .before .loop .inv) _ (in-loop .loop-test .taken) (c .before .mixed-at .ensures) (c .if1 .left)
 
 returns-2 : tie.Need-returns-2 Inv-loop μ-loop
 unfolding mixes
-returns-2 c = finished _ _ (c .before .before .before .before .before .pre .1 .0) (c .before .loop .inv) (c .loop-test .left)
+returns-2 c = finished _ _ (c .before .before .before .before .pre .1 .0) (c .before .loop .inv) (c .loop-test .left)
 
 pub has-mixed-spec : {M : Type 1} → statement M
 has-mixed-spec =

@@ -10,17 +10,17 @@ use denote.Ref.{now}
 use Rattle.book.specs.Decode.{scopesOf}
 use Rattle.book.specs.References.{scopeAt}
 use Rattle.book.specs.Syntax.{Scope}
-use Rattle.book.specs.Tables.{clauseAt}
+use Rattle.book.specs.Positions.{clauseAt}
 use Rattle.mixing.proofs.Targets.{Ranged, ranged}
 use Rattle.mixing.proofs.Marking.{Read, Marking, start, room-at, turn, found, ended}
 use Rattle.mixing.proofs.mixed_at.Statement.{statement}
 use Rattle.mixing.proofs.mixed_at.Tie as tie
 
 abbrev Inv-loop : tie.InvT-loop
-Inv-loop book places counts i seen₀ count n₀ seen n = Marking (scopesOf book) i seen n
+Inv-loop book index i seen₀ count n₀ seen n = Marking (scopesOf book) i seen n
 
 abbrev μ-loop : tie.MeasureT-loop
-μ-loop book places counts i seen₀ count n₀ seen n = count - n
+μ-loop book index i seen₀ count n₀ seen n = count - n
 
 clause-count-requires : tie.Need-clause-count-requires Inv-loop μ-loop
 clause-count-requires c κs = search needs
@@ -42,7 +42,7 @@ module _ (c : tie.After-mark-of Inv-loop μ-loop) where
   turned = c .before .before .before .before
 
   abbrev entered : tie.Start Inv-loop μ-loop
-  entered = turned .before .before .before .before .before .before
+  entered = turned .before .before .before .before .before
 
   abbrev scopes : List Scope
   scopes = scopesOf (now (entered .args .book))

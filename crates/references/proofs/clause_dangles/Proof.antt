@@ -1,6 +1,6 @@
 -- `references::clause_dangles` meets its contract. The invariant of its loop is `Sought`.
 -- Assumes nothing.
-use Rattle.book.specs.Tables.{clauseAt}
+use Rattle.book.specs.Positions.{clauseAt}
 use Rattle.references.specs.Dangling.{clauseDangles, wrongClause}
 use Rattle.book.proofs.Searches.{Sought, start, turn, found, ended}
 use Rattle.book.specs.References.{scopeAt, noClause}
@@ -12,10 +12,10 @@ use Rattle.references.proofs.clause_dangles.Statement.{statement}
 use Rattle.references.proofs.clause_dangles.Tie as tie
 
 abbrev Inv-loop : tie.InvT-loop
-Inv-loop book places counts i count n₀ n = Sought (wrongClause (scopesOf book) i) (scopeAt (scopesOf book) i .clauses) n
+Inv-loop book index i count n₀ n = Sought (wrongClause (scopesOf book) i) (scopeAt (scopesOf book) i .clauses) n
 
 abbrev μ-loop : tie.MeasureT-loop
-μ-loop book places counts i count n₀ n = count - n
+μ-loop book index i count n₀ n = count - n
 
 clause-count-requires : tie.Need-clause-count-requires Inv-loop μ-loop
 clause-count-requires c κs = search needs

@@ -17,11 +17,11 @@ use Rattle.references.proofs.find_naming.Statement.{statement}
 use Rattle.references.proofs.find_naming.Tie as tie
 
 abbrev Inv-loop : tie.InvT-loop
-Inv-loop book places counts scopes shares₀ i₀ shares i =
+Inv-loop book index scopes shares₀ i₀ shares i =
     Sought (λ k s. danglesIn (scopesOf book) s) (scopesOf book) i × Gathered sharesIn (scopesOf book) i shares
 
 abbrev μ-loop : tie.MeasureT-loop
-μ-loop book places counts scopes shares₀ i₀ shares i = scopes - i
+μ-loop book index scopes shares₀ i₀ shares i = scopes - i
 
 loop-holds : tie.Need-loop-holds Inv-loop μ-loop
 loop-holds c = (start _ _, none _ _)
@@ -36,7 +36,7 @@ returns c =
       dangling =
           c .if1 .taken
           ∙ found _ _ _ (c .before .before .before .loop .inv .0) emptyScope
-          (rw (← c .before .before .before .before .before .before .before .pre .1) (c .before .before .loop-test .taken))
+          (rw (← c .before .before .before .before .before .before .pre .1) (c .before .before .loop-test .taken))
           (rw (← c .before .names-in .ensures .dangling) (c .if1 .taken))
           ∙ any-from _ _ _;
       shared = λ e. absurd (true≢false (sym (c .if1 .taken) ∙ e));
@@ -52,10 +52,10 @@ loop-again : tie.Need-loop-again Inv-loop μ-loop
 loop-again c =
     let m = c .before in (
       turn _ _ _ (m .before .before .before .loop .inv .0) emptyScope
-          (rw (← m .before .before .before .before .before .before .before .pre .1) (m .before .before .loop-test .taken))
+          (rw (← m .before .before .before .before .before .before .pre .1) (m .before .before .loop-test .taken))
           (rw (← m .before .names-in .ensures .dangling) (m .if1 .left)),
       more _ _ _ _ (m .before .before .before .loop .inv .1) emptyScope
-          (rw (← m .before .before .before .before .before .before .before .pre .1) (m .before .before .loop-test .taken))
+          (rw (← m .before .before .before .before .before .before .pre .1) (m .before .before .loop-test .taken))
           _ (m .before .names-in .ensures .shared (m .if1 .left)),
     )
 
@@ -63,8 +63,8 @@ returns-2 : tie.Need-returns-2 Inv-loop μ-loop
 unfolding dangles shares sharesIn
 returns-2 c =
     record {
-      dangling = ended _ _ _ (c .before .loop .inv .0) (rw (← c .before .before .before .before .before .pre .1) (c .loop-test .left)) ∙ any-from _ _ _;
-      shared = λ e. whole _ _ _ _ (c .before .loop .inv .1) (rw (← c .before .before .before .before .before .pre .1) (c .loop-test .left));
+      dangling = ended _ _ _ (c .before .loop .inv .0) (rw (← c .before .before .before .before .pre .1) (c .loop-test .left)) ∙ any-from _ _ _;
+      shared = λ e. whole _ _ _ _ (c .before .loop .inv .1) (rw (← c .before .before .before .before .pre .1) (c .loop-test .left));
     }
 
 pub find-naming-spec : {M : Type 1} → statement M

@@ -1,7 +1,7 @@
 -- `references::mark_clauses` meets its contract. The invariant: what the clauses below n name is marked, and nothing else was.
 -- Assumes nothing.
 use Rattle.references.proofs.Marks.{marked-length, passed, passed-start, passed-more, passed-end}
-use Rattle.book.specs.Tables.{clauseAt}
+use Rattle.book.specs.Positions.{clauseAt}
 use Rattle.book.specs.Sharing.{clauseNodes}
 use Rattle.references.specs.Marks.{Marking, clauseNamings}
 use Rattle.book.specs.References.{scopeAt, noClause}
@@ -13,12 +13,12 @@ use Rattle.references.proofs.mark_clauses.Statement.{statement}
 use Rattle.references.proofs.mark_clauses.Tie as tie
 
 abbrev Inv-loop : tie.InvT-loop
-Inv-loop book places counts i marks₀ twice count found₀ n₀ marks found n =
+Inv-loop book index i marks₀ twice count found₀ n₀ marks found n =
     (n ≤ count)
     × (Marking (passed clauseNodes n (scopeAt (scopesOf book) i .clauses)) marks₀ twice found marks)
 
 abbrev μ-loop : tie.MeasureT-loop
-μ-loop book places counts i marks₀ twice count found₀ n₀ marks found n = count - n
+μ-loop book index i marks₀ twice count found₀ n₀ marks found n = count - n
 
 clause-count-requires : tie.Need-clause-count-requires Inv-loop μ-loop
 clause-count-requires c κs = search needs

@@ -8,7 +8,7 @@ use Rattle.book.specs.Syntax.{noNode}
 use Rattle.book.specs.Decode.{scopesOf}
 use Rattle.book.specs.References.{scopeAt}
 use Rattle.book.specs.Sharing.{operands}
-use Rattle.book.specs.Tables.{nodeAt}
+use Rattle.book.specs.Positions.{nodeAt}
 use Rattle.book.proofs.Searches.{Sought, start, turn, found, ended}
 use Rattle.references.specs.Dangling.{nodeDangles, wrongNode}
 use Rattle.references.specs.Marks.{Marking, nodeNamings}
@@ -17,12 +17,12 @@ use Rattle.references.proofs.name_nodes.Statement.{statement}
 use Rattle.references.proofs.name_nodes.Tie as tie
 
 abbrev Inv-loop : tie.InvT-loop
-Inv-loop book places counts i marks₀ count found₀ n₀ marks found n =
+Inv-loop book index i marks₀ count found₀ n₀ marks found n =
     Sought (wrongNode (scopesOf book) i) (scopeAt (scopesOf book) i .nodes) n
     × Marking (passed operands n (scopeAt (scopesOf book) i .nodes)) marks₀ false found marks
 
 abbrev μ-loop : tie.MeasureT-loop
-μ-loop book places counts i marks₀ count found₀ n₀ marks found n = count - n
+μ-loop book index i marks₀ count found₀ n₀ marks found n = count - n
 
 node-count-requires : tie.Need-node-count-requires Inv-loop μ-loop
 node-count-requires c κs = search needs

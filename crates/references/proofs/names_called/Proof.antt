@@ -1,6 +1,6 @@
 -- `references::names_called` meets its contract.
 -- Assumes nothing.
-use Rattle.book.specs.Tables.{subScopeAt}
+use Rattle.book.specs.Positions.{subScopeAt}
 use Rattle.book.specs.References.{namesCalled}
 use borrow.Author.Needs.{needs}
 use Rattle.references.proofs.names_called.Statement.{statement}

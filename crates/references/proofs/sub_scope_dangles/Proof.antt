@@ -1,6 +1,6 @@
 -- `references::sub_scope_dangles` meets its contract. The invariant of its loop is `Sought`.
 -- Assumes nothing.
-use Rattle.book.specs.Tables.{subScopeAt}
+use Rattle.book.specs.Positions.{subScopeAt}
 use Rattle.references.specs.Dangling.{subScopeDangles, wrongSubScope}
 use borrow.Author.Tests.{le-ltb, lt-ltb}
 use Rattle.book.proofs.Searches.{Sought, start, turn, found, ended, any-from}
@@ -14,10 +14,10 @@ use Rattle.references.proofs.sub_scope_dangles.Statement.{statement}
 use Rattle.references.proofs.sub_scope_dangles.Tie as tie
 
 abbrev Inv-loop : tie.InvT-loop
-Inv-loop book places counts scopes i count k₀ k = Sought (λ n j. wrongSubScope (scopesOf book) j) (scopeAt (scopesOf book) i .subScopes) k
+Inv-loop book index scopes i count k₀ k = Sought (λ n j. wrongSubScope (scopesOf book) j) (scopeAt (scopesOf book) i .subScopes) k
 
 abbrev μ-loop : tie.MeasureT-loop
-μ-loop book places counts scopes i count k₀ k = count - k
+μ-loop book index scopes i count k₀ k = count - k
 
 sub-scope-count-requires : tie.Need-sub-scope-count-requires Inv-loop μ-loop
 sub-scope-count-requires c κs = search needs
@@ -33,7 +33,7 @@ unfolding subScopeDangles subScopeAt
 returns c =
     found _ _ _ (c .before .before .before .loop .inv) 0
     (rw (← c .before .before .before .before .sub-scope-count .ensures) (c .before .before .loop-test .taken))
-    (rw (← c .before .sub-scope-at .ensures, ← c .before .before .before .before .before .before .before .before .pre .1, le-ltb _ _ (c .if1 .taken)))
+    (rw (← c .before .sub-scope-at .ensures, ← c .before .before .before .before .before .before .before .pre .1, le-ltb _ _ (c .if1 .taken)))
     ∙ any-from _ _ _
 
 add-k : tie.Need-add-k Inv-loop μ-loop
@@ -47,7 +47,7 @@ unfolding subScopeAt
 loop-again c =
     turn _ _ _ (c .before .before .before .loop .inv) 0
     (rw (← c .before .before .before .before .sub-scope-count .ensures) (c .before .before .loop-test .taken))
-    (rw (← c .before .sub-scope-at .ensures, ← c .before .before .before .before .before .before .before .before .pre .1, lt-ltb _ _ (c .if1 .left)))
+    (rw (← c .before .sub-scope-at .ensures, ← c .before .before .before .before .before .before .before .pre .1, lt-ltb _ _ (c .if1 .left)))
 
 returns-2 : tie.Need-returns-2 Inv-loop μ-loop
 unfolding subScopeDangles

@@ -21,7 +21,7 @@ slice-aggregate-length-by : tie.Need-slice-aggregate-length-by
 slice-aggregate-length-by c = whole (c .before .before .fill-types .ensures)
 
 length-by-requires : tie.Need-length-by-requires
-length-by-requires c κs = few (c .before .before .fill-types .ensures) (c .before .before .before .before .before .before .before .pre .1)
+length-by-requires c κs = few (c .before .before .fill-types .ensures) (c .before .before .before .before .before .before .pre .1)
 
 returns : tie.Need-returns
 unfolding resultLengthAt

@@ -12,7 +12,7 @@ variable-count-requires c κs = search needs
 write-by-requires : tie.Need-write-by-requires
 unfolding resultLengthAt
 write-by-requires c κs =
-    rw (c .before .variable-count .ensures) (c .before .before .before .before .before .before .before .pre .1 .0, rw (typed-length _ _ (c .before .before .before .before .before .before .before .pre .1 .1 .0)) (c .before .before .before .before .before .before .before .pre .1 .1 .1))
+    rw (c .before .variable-count .ensures) (c .before .before .before .before .before .before .pre .1 .0, rw (typed-length _ _ (c .before .before .before .before .before .before .pre .1 .1 .0)) (c .before .before .before .before .before .before .pre .1 .1 .1))
 
 same-length : tie.Need-same-length
 same-length c = search needs

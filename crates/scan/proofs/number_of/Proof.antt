@@ -19,11 +19,14 @@ mul-result c = search needs
 add-result : tie.Need-add-result
 add-result c = search needs
 
+mul-result-2 : tie.Need-mul-result-2
+mul-result-2 c = search needs
+
 shared-slice-read-result : tie.Need-shared-slice-read-result
 shared-slice-read-result c = search needs
 
 cast-result : tie.Need-cast-result
-cast-result c = omega (arith, c .shared-slice-known .given ((c .before .before .args .scopes - 1) * 4 + (c .before .before .args .stage - 2)))
+cast-result c = omega (arith, c .shared-slice-known .given ((c .before .before .args .scopes - 1) * 422 + (c .before .before .args .stage - 2)))
 
 returns-2 : tie.Need-returns-2
 returns-2 c = number-more _ _ _ (c .before .before .pre) (c .before .if1 .left)
@@ -36,6 +39,7 @@ number-of-spec =
     sub-result
     mul-result
     add-result
+    mul-result-2
     shared-slice-read-result
     cast-result
     returns-2)

@@ -6,18 +6,18 @@ use native.Mathlib.Omega.{arith}
 use lib.ListN.{length}
 use borrow.Author.Needs.{needs}
 use Rattle.scan.specs.Counting.{tallyOf}
-use Rattle.scan.proofs.Filling.{Going, blank-places, blank-counts, going-start, going-stop, going-turn, going-end, room-here, next-inside}
+use Rattle.scan.proofs.Filling.{Going, blank-length, going-start, going-stop, going-turn, going-end, room-here, next-inside}
 use Rattle.scan.proofs.read_records.Statement.{statement}
 use Rattle.scan.proofs.read_records.Tie as tie
 
 abbrev Inv-loop : tie.InvT-loop
-Inv-loop book places₀ counts₀ last₀ scopes₀ at₀ places counts last scopes at = Going book places counts last scopes at
+Inv-loop book index₀ last₀ scopes₀ at₀ index last scopes at = Going book index last scopes at
 
 abbrev μ-loop : tie.MeasureT-loop
-μ-loop book places₀ counts₀ last₀ scopes₀ at₀ places counts last scopes at = length book - at
+μ-loop book index₀ last₀ scopes₀ at₀ index last scopes at = length book - at
 
 loop-holds : tie.Need-loop-holds Inv-loop μ-loop
-loop-holds c = going-start _ _ _ (c .before .before .before .pre)
+loop-holds c = going-start _ _ (c .before .before .pre)
 
 step-at-requires : tie.Need-step-at-requires Inv-loop μ-loop
 step-at-requires c κs = (c .before .loop-test .taken, c .before .before .loop .inv .counting)
@@ -26,44 +26,38 @@ enum-known-f : tie.Need-enum-known-f Inv-loop μ-loop
 enum-known-f c = search needs
 
 same-length : tie.Need-same-length Inv-loop μ-loop
-same-length c = c .before .before .before .before .before .before .loop .inv .placesLength ∙ sym (blank-places _ _ _ (c .before .before .before .before .before .before .before .before .before .before .pre))
-
-same-length-2 : tie.Need-same-length-2 Inv-loop μ-loop
-same-length-2 c = c .before .before .before .before .before .before .loop .inv .counting .size ∙ sym (blank-counts _ _ _ (c .before .before .before .before .before .before .before .before .before .before .pre))
+same-length c = c .before .before .before .before .before .before .loop .inv .counting .size ∙ sym (blank-length _ _ (c .before .before .before .before .before .before .before .before .before .pre))
 
 returns : tie.Need-returns Inv-loop μ-loop
-returns c = going-stop _ _ _ _ _ _ (c .before .before .before .before .before .before .loop .inv) (c .before .before .before .before .before .loop-test .taken) _ (sym (c .before .f .given .1) ∙ c .before .before .before .step-at .ensures)
+returns c = going-stop _ _ _ _ _ (c .before .before .before .before .before .before .loop .inv) (c .before .before .before .before .before .loop-test .taken) _ (sym (c .before .f .given .1) ∙ c .before .before .before .step-at .ensures)
 
 enum-known-stage : tie.Need-enum-known-stage Inv-loop μ-loop
 enum-known-stage c = search needs
 
 store-requires : tie.Need-store-requires Inv-loop μ-loop
-store-requires c κs = room-here _ _ _ _ _ _ (c .before .before .before .before .before .before .before .before .loop .inv) (c .before .before .before .before .before .before .before .loop-test .taken) _ _ (sym (c .before .before .before .stage .given .1) ∙ c .before .before .before .before .before .step-at .ensures) (c .before .before .before .before .before .before .before .before .before .before .before .before .pre .short)
+store-requires c κs = room-here _ _ _ _ _ (c .before .before .before .before .before .before .before .loop .inv) (c .before .before .before .before .before .before .loop-test .taken) _ _ (sym (c .before .before .stage .given .1) ∙ c .before .before .before .before .step-at .ensures) (c .before .before .before .before .before .before .before .before .before .before .pre .short)
 
 scopes-with-requires : tie.Need-scopes-with-requires Inv-loop μ-loop
 unfolding tallyOf
-scopes-with-requires c κs = c .before .before .before .before .before .before .before .before .before .before .before .before .before .loop .inv .counting .within .scopes
+scopes-with-requires c κs = c .before .before .before .before .before .before .before .before .before .before .loop .inv .counting .within .scopes
 
 add-at : tie.Need-add-at Inv-loop μ-loop
 add-at c = omega arith
 
 add-at-2 : tie.Need-add-at-2 Inv-loop μ-loop
-add-at-2 c = let r = next-inside _ _ _ _ _ _ (c .before .before .before .before .before .before .before .before .before .before .before .before .before .before .loop .inv) (c .before .before .before .before .before .before .before .before .before .before .before .before .before .loop-test .taken) _ _ (sym (c .before .before .before .before .before .before .before .before .before .stage .given .1) ∙ c .before .before .before .before .before .before .before .before .before .before .before .step-at .ensures) in omega arith
+add-at-2 c = let r = next-inside _ _ _ _ _ (c .before .before .before .before .before .before .before .before .before .before .before .loop .inv) (c .before .before .before .before .before .before .before .before .before .before .loop-test .taken) _ _ (sym (c .before .before .before .before .before .before .stage .given .1) ∙ c .before .before .before .before .before .before .before .before .step-at .ensures) in omega arith
 
 loop-less : tie.Need-loop-less Inv-loop μ-loop
-loop-less c = let r = next-inside _ _ _ _ _ _ (c .before .before .before .before .before .before .before .before .before .before .before .before .before .before .loop .inv) (c .before .before .before .before .before .before .before .before .before .before .before .before .before .loop-test .taken) _ _ (sym (c .before .before .before .before .before .before .before .before .before .stage .given .1) ∙ c .before .before .before .before .before .before .before .before .before .before .before .step-at .ensures) in omega arith
+loop-less c = let r = next-inside _ _ _ _ _ (c .before .before .before .before .before .before .before .before .before .before .before .loop .inv) (c .before .before .before .before .before .before .before .before .before .before .loop-test .taken) _ _ (sym (c .before .before .before .before .before .before .stage .given .1) ∙ c .before .before .before .before .before .before .before .before .step-at .ensures) in omega arith
 
 loop-again : tie.Need-loop-again Inv-loop μ-loop
-loop-again c = going-turn _ _ _ _ _ _ (c .before .before .before .before .before .before .before .before .before .before .before .before .before .before .loop .inv) (c .before .before .before .before .before .before .before .before .before .before .before .before .before .loop-test .taken) _ _ (sym (c .before .before .before .before .before .before .before .before .before .stage .given .1) ∙ c .before .before .before .before .before .before .before .before .before .before .before .step-at .ensures) _ _ (c .before .before .before .before .before .store .ensures) _ (c .scopes-with .ensures)
+loop-again c = going-turn _ _ _ _ _ (c .before .before .before .before .before .before .before .before .before .before .before .loop .inv) (c .before .before .before .before .before .before .before .before .before .before .loop-test .taken) _ _ (sym (c .before .before .before .before .before .before .stage .given .1) ∙ c .before .before .before .before .before .before .before .before .step-at .ensures) _ (c .before .before .before .store .ensures) _ (c .scopes-with .ensures)
 
-same-length-3 : tie.Need-same-length-3 Inv-loop μ-loop
-same-length-3 c = c .before .loop .inv .placesLength ∙ sym (blank-places _ _ _ (c .before .before .before .before .before .pre))
-
-same-length-4 : tie.Need-same-length-4 Inv-loop μ-loop
-same-length-4 c = c .before .loop .inv .counting .size ∙ sym (blank-counts _ _ _ (c .before .before .before .before .before .pre))
+same-length-2 : tie.Need-same-length-2 Inv-loop μ-loop
+same-length-2 c = c .before .loop .inv .counting .size ∙ sym (blank-length _ _ (c .before .before .before .before .pre))
 
 returns-2 : tie.Need-returns-2 Inv-loop μ-loop
-returns-2 c = going-end _ _ _ _ _ _ (c .loop-test .left) (c .before .loop .inv)
+returns-2 c = going-end _ _ _ _ _ (c .loop-test .left) (c .before .loop .inv)
 
 pub read-records-spec : {M : Type 1} → statement M
 read-records-spec =
@@ -75,7 +69,6 @@ read-records-spec =
     step-at-requires
     enum-known-f
     same-length
-    same-length-2
     returns
     enum-known-stage
     store-requires
@@ -84,6 +77,5 @@ read-records-spec =
     add-at-2
     loop-less
     loop-again
-    same-length-3
-    same-length-4
+    same-length-2
     returns-2)

@@ -16,9 +16,9 @@ use borrow.Fn.PlainCycle.{Measures, is, falls, and}
 use Rattle.scopes.proofs.enter.Reads as enter
 use Rattle.scopes.proofs.enter.Kinds as enter-kinds
 use Rattle.scopes.proofs.+enter.Lts-enter as enter-lts
-use Rattle.tables.proofs.sub_scope_at.Reads as sub-scope-at-reads
-use Rattle.tables.proofs.sub_scope_count.Reads as sub-scope-count-reads
-use Rattle.tables.proofs.variable_count.Reads as variable-count-reads
+use Rattle.index.proofs.sub_scope_at.Reads as sub-scope-at-reads
+use Rattle.index.proofs.sub_scope_count.Reads as sub-scope-count-reads
+use Rattle.index.proofs.variable_count.Reads as variable-count-reads
 use Rattle.scopes.proofs.hand_over.Reads as hand-over-reads
 use Rattle.scopes.proofs.recall_scope.Reads as recall-scope-reads
 use Rattle.scopes.proofs.remember_scope.Reads as remember-scope-reads
@@ -28,21 +28,21 @@ use Rattle.slices.proofs.part_of.Reads as part-of-reads
 use Rattle.scopes.proofs.+enter.{statement}
 use Rattle.scopes.proofs.+enter.Tie.{close}
 
-abbrev μ-enter : Measures 8 enter-kinds.ps ℕ
-μ-enter κs a = rank (now (a .0)) (a .1 .1 .1 .1 .1 .0)
+abbrev μ-enter : Measures 7 enter-kinds.ps ℕ
+μ-enter κs a = rank (now (a .0)) (a .1 .1 .1 .1 .0)
 
-abbrev enter-at : ℕ → In 8 enter-kinds.ps
-enter-at t = and 8 enter-kinds.ps (is 8 enter-kinds.ps μ-enter t) enter.Pre
+abbrev enter-at : ℕ → In 7 enter-kinds.ps
+enter-at t = and 7 enter-kinds.ps (is 7 enter-kinds.ps μ-enter t) enter.Pre
 
-abbrev enter-below : ℕ → In 8 enter-kinds.ps
-enter-below t = and 8 enter-kinds.ps (falls 8 enter-kinds.ps _<_ μ-enter t) enter.Pre
+abbrev enter-below : ℕ → In 7 enter-kinds.ps
+enter-below t = and 7 enter-kinds.ps (falls 7 enter-kinds.ps _<_ μ-enter t) enter.Pre
 
 abbrev enter-Inv-loop : enter-lts.InvT-loop
-enter-Inv-loop book places counts links orders i given own₀ memo₀ known row variables steps called₀ handed₀ count₀ n₀ own memo called handed count n =
+enter-Inv-loop book index links orders i given own₀ memo₀ known row variables steps called₀ handed₀ count₀ n₀ own memo called handed count n =
     Running book i given own called handed count n × Known book memo
 
 abbrev enter-μ-loop : enter-lts.MeasureT-loop
-enter-μ-loop book places counts links orders i given own₀ memo₀ known row variables steps called₀ handed₀ count₀ n₀ own memo called handed count n =
+enter-μ-loop book index links orders i given own₀ memo₀ known row variables steps called₀ handed₀ count₀ n₀ own memo called handed count n =
     steps - n
 
 abbrev R : ℕ → enter-lts.Claims
@@ -50,46 +50,46 @@ R t =
     (recall-scope-reads.Asked, recall-scope-reads.Learnt, part-of-reads.Asked, part-of-reads.Learnt, variable-count-reads.Asked, variable-count-reads.Learnt, sub-scope-count-reads.Asked, sub-scope-count-reads.Learnt, byte-at-reads.Asked, byte-at-reads.Learnt, set-variable-reads.Asked, set-variable-reads.Learnt, hand-over-reads.Asked, hand-over-reads.Learnt, sub-scope-at-reads.Asked, sub-scope-at-reads.Learnt, enter-below t, enter.Post, remember-scope-reads.Asked, remember-scope-reads.Learnt)
 
 enter-recall-scope-requires : (t : ℕ) → enter-lts.Need-recall-scope-requires (R t) (enter-at t) enter.Post enter-Inv-loop enter-μ-loop
-enter-recall-scope-requires t c κs = noting (c .before .before .before .before .before .before .before .before .before .before .pre .1) (c .before .before .before .before .before .before .before .before .before .before .pre .1 .room) (c .before .before .before .before .before .before .before .before .before .before .pre .1 .known)
+enter-recall-scope-requires t c κs = noting (c .before .before .before .before .before .before .before .before .before .pre .1) (c .before .before .before .before .before .before .before .before .before .pre .1 .room) (c .before .before .before .before .before .before .before .before .before .pre .1 .known)
 
 enter-same-length : (t : ℕ) → enter-lts.Need-same-length (R t) (enter-at t) enter.Post enter-Inv-loop enter-μ-loop
-enter-same-length t c = c .before .before .before .recall-scope .ensures .size ∙ sym (c .before .before .before .before .before .before .before .before .before .before .before .before .before .before .pre .1 .room)
+enter-same-length t c = c .before .before .before .recall-scope .ensures .size ∙ sym (c .before .before .before .before .before .before .before .before .before .before .before .before .before .pre .1 .room)
 
 enter-same-length-2 : (t : ℕ) → enter-lts.Need-same-length-2 (R t) (enter-at t) enter.Post enter-Inv-loop enter-μ-loop
 enter-same-length-2 t c = search needs
 
 enter-returns : (t : ℕ) → enter-lts.Need-returns (R t) (enter-at t) enter.Post enter-Inv-loop enter-μ-loop
-enter-returns t c = (c .before .before .before .recall-scope .ensures .found (λ z. omega (arith, c .if1 .taken)), c .before .before .before .before .before .before .before .before .before .before .before .before .before .before .pre .1 .known)
+enter-returns t c = (c .before .before .before .recall-scope .ensures .found (λ z. omega (arith, c .if1 .taken)), c .before .before .before .before .before .before .before .before .before .before .before .before .before .pre .1 .known)
 
 enter-mul-part-of : (t : ℕ) → enter-lts.Need-mul-part-of (R t) (enter-at t) enter.Post enter-Inv-loop enter-μ-loop
-enter-mul-part-of t c = omega (arith, scope-few (c .before .before .before .before .before .before .before .before .before .before .before .before .before .before .pre .1))
+enter-mul-part-of t c = omega (arith, scope-few (c .before .before .before .before .before .before .before .before .before .before .before .before .before .pre .1))
 
 enter-part-of-requires : (t : ℕ) → enter-lts.Need-part-of-requires (R t) (enter-at t) enter.Post enter-Inv-loop enter-μ-loop
 enter-part-of-requires t c κs = search needs
 
 enter-variable-count-requires : (t : ℕ) → enter-lts.Need-variable-count-requires (R t) (enter-at t) enter.Post enter-Inv-loop enter-μ-loop
-enter-variable-count-requires t c κs = (c .before .before .before .before .before .before .before .before .before .before .before .before .before .before .before .pre .1) .world .sound .laid
+enter-variable-count-requires t c κs = (c .before .before .before .before .before .before .before .before .before .before .before .before .before .before .pre .1) .world .sound .laid
 
 enter-sub-scope-count-requires : (t : ℕ) → enter-lts.Need-sub-scope-count-requires (R t) (enter-at t) enter.Post enter-Inv-loop enter-μ-loop
-enter-sub-scope-count-requires t c κs = (c .before .before .before .before .before .before .before .before .before .before .before .before .before .before .before .before .pre .1) .world .sound .laid
+enter-sub-scope-count-requires t c κs = (c .before .before .before .before .before .before .before .before .before .before .before .before .before .before .before .pre .1) .world .sound .laid
 
 enter-add-steps : (t : ℕ) → enter-lts.Need-add-steps (R t) (enter-at t) enter.Post enter-Inv-loop enter-μ-loop
-enter-add-steps t c = omega (arith, c .before .variable-count .ensures, c .sub-scope-count .ensures, (c .before .before .before .before .before .before .before .before .before .before .before .before .before .before .before .before .before .pre .1) .world .sound .variables (c .before .before .before .before .before .before .before .before .before .before .before .before .before .before .before .before .before .args .i), (c .before .before .before .before .before .before .before .before .before .before .before .before .before .before .before .before .before .pre .1) .world .sound .subScopes (c .before .before .before .before .before .before .before .before .before .before .before .before .before .before .before .before .before .args .i))
+enter-add-steps t c = omega (arith, c .before .variable-count .ensures, c .sub-scope-count .ensures, (c .before .before .before .before .before .before .before .before .before .before .before .before .before .before .before .before .pre .1) .world .sound .variables (c .before .before .before .before .before .before .before .before .before .before .before .before .before .before .before .before .args .i), (c .before .before .before .before .before .before .before .before .before .before .before .before .before .before .before .before .pre .1) .world .sound .subScopes (c .before .before .before .before .before .before .before .before .before .before .before .before .before .before .before .before .args .i))
 
 enter-loop-holds : (t : ℕ) → enter-lts.Need-loop-holds (R t) (enter-at t) enter.Post enter-Inv-loop enter-μ-loop
-enter-loop-holds t c = (begins (c .before .before .before .before .before .before .before .before .before .before .before .before .before .before .before .before .before .pre .1) _ _ (c .before .before .before .before .before .before .recall-scope .ensures .size), c .before .before .before .before .before .before .before .before .before .before .before .before .before .before .before .before .before .pre .1 .known)
+enter-loop-holds t c = (begins (c .before .before .before .before .before .before .before .before .before .before .before .before .before .before .before .before .pre .1) _ _ (c .before .before .before .before .before .before .recall-scope .ensures .size), c .before .before .before .before .before .before .before .before .before .before .before .before .before .before .before .before .pre .1 .known)
 
 enter-mul-byte-at : (t : ℕ) → enter-lts.Need-mul-byte-at (R t) (enter-at t) enter.Post enter-Inv-loop enter-μ-loop
-enter-mul-byte-at t c = omega (arith, scope-few (c .before .before .before .before .before .before .before .before .before .before .before .before .before .before .before .before .before .before .before .pre .1))
+enter-mul-byte-at t c = omega (arith, scope-few (c .before .before .before .before .before .before .before .before .before .before .before .before .before .before .before .before .before .before .pre .1))
 
 enter-add-byte-at : (t : ℕ) → enter-lts.Need-add-byte-at (R t) (enter-at t) enter.Post enter-Inv-loop enter-μ-loop
-enter-add-byte-at t c = omega (arith, scope-few (c .before .before .before .before .before .before .before .before .before .before .before .before .before .before .before .before .before .before .before .pre .1), c .loop-test .taken, c .before .before .before .variable-count .ensures, c .before .before .sub-scope-count .ensures, (c .before .before .before .before .before .before .before .before .before .before .before .before .before .before .before .before .before .before .before .pre .1) .world .sound .variables (c .before .before .before .before .before .before .before .before .before .before .before .before .before .before .before .before .before .before .before .args .i), (c .before .before .before .before .before .before .before .before .before .before .before .before .before .before .before .before .before .before .before .pre .1) .world .sound .subScopes (c .before .before .before .before .before .before .before .before .before .before .before .before .before .before .before .before .before .before .before .args .i))
+enter-add-byte-at t c = omega (arith, scope-few (c .before .before .before .before .before .before .before .before .before .before .before .before .before .before .before .before .before .before .pre .1), c .loop-test .taken, c .before .before .before .variable-count .ensures, c .before .before .sub-scope-count .ensures, (c .before .before .before .before .before .before .before .before .before .before .before .before .before .before .before .before .before .before .pre .1) .world .sound .variables (c .before .before .before .before .before .before .before .before .before .before .before .before .before .before .before .before .before .before .args .i), (c .before .before .before .before .before .before .before .before .before .before .before .before .before .before .before .before .before .before .pre .1) .world .sound .subScopes (c .before .before .before .before .before .before .before .before .before .before .before .before .before .before .before .before .before .before .args .i))
 
 enter-byte-at-requires : (t : ℕ) → enter-lts.Need-byte-at-requires (R t) (enter-at t) enter.Post enter-Inv-loop enter-μ-loop
 enter-byte-at-requires t c κs = search needs
 
 enter-add-n : (t : ℕ) → enter-lts.Need-add-n (R t) (enter-at t) enter.Post enter-Inv-loop enter-μ-loop
-enter-add-n t c = omega (arith, step-few (c .before .before .before .before .before .before .before .before .before .before .before .before .before .before .before .before .before .before .before .before .pre .1) (c .before .before .loop .inv .0) (c .before .before .before .before .variable-count .ensures) (c .before .before .before .sub-scope-count .ensures) (c .before .loop-test .taken) (c .byte-at .ensures))
+enter-add-n t c = omega (arith, step-few (c .before .before .before .before .before .before .before .before .before .before .before .before .before .before .before .before .before .before .before .pre .1) (c .before .before .loop .inv .0) (c .before .before .before .before .variable-count .ensures) (c .before .before .before .sub-scope-count .ensures) (c .before .loop-test .taken) (c .byte-at .ensures))
 
 enter-cast-if2 : (t : ℕ) → enter-lts.Need-cast-if2 (R t) (enter-at t) enter.Post enter-Inv-loop enter-μ-loop
 enter-cast-if2 t c = search needs
@@ -98,7 +98,7 @@ enter-slice-aggregate-set-variable : (t : ℕ) → enter-lts.Need-slice-aggregat
 enter-slice-aggregate-set-variable t c = search needs
 
 enter-set-variable-requires : (t : ℕ) → enter-lts.Need-set-variable-requires (R t) (enter-at t) enter.Post enter-Inv-loop enter-μ-loop
-enter-set-variable-requires t c κs = record { ready = rw (c .before .before .before .before .before .before .before .before .part-of .ensures) (row-ready (c .before .before .before .before .before .before .before .before .before .before .before .before .before .before .before .before .before .before .before .before .before .before .before .pre .1)); room = put-room (c .before .before .before .before .before .before .before .before .before .before .before .before .before .before .before .before .before .before .before .before .before .before .before .pre .1) (c .before .before .before .before .before .loop .inv .0) (c .before .before .before .before .before .before .before .variable-count .ensures) (c .before .before .before .before .before .before .sub-scope-count .ensures) (c .before .before .before .before .loop-test .taken) (c .before .before .before .byte-at .ensures) (c .before .before .if2 .taken) }
+enter-set-variable-requires t c κs = record { ready = rw (c .before .before .before .before .before .before .before .before .part-of .ensures) (row-ready (c .before .before .before .before .before .before .before .before .before .before .before .before .before .before .before .before .before .before .before .before .before .before .pre .1)); room = put-room (c .before .before .before .before .before .before .before .before .before .before .before .before .before .before .before .before .before .before .before .before .before .before .pre .1) (c .before .before .before .before .before .loop .inv .0) (c .before .before .before .before .before .before .before .variable-count .ensures) (c .before .before .before .before .before .before .sub-scope-count .ensures) (c .before .before .before .before .loop-test .taken) (c .before .before .before .byte-at .ensures) (c .before .before .if2 .taken) }
 
 enter-enum-told : (t : ℕ) → enter-lts.Need-enum-told (R t) (enter-at t) enter.Post enter-Inv-loop enter-μ-loop
 enter-enum-told t c = search needs
@@ -107,19 +107,19 @@ enter-loop-less : (t : ℕ) → enter-lts.Need-loop-less (R t) (enter-at t) ente
 enter-loop-less t c = omega (arith, c .before .before .before .before .before .before .before .before .before .loop-test .taken)
 
 enter-loop-again : (t : ℕ) → enter-lts.Need-loop-again (R t) (enter-at t) enter.Post enter-Inv-loop enter-μ-loop
-enter-loop-again t c = (turn-variable (c .before .before .before .before .before .before .before .before .before .before .before .before .before .before .before .before .before .before .before .before .before .before .before .before .before .before .before .before .pre .1) (c .before .before .before .before .before .before .before .before .before .before .loop .inv .0) (c .before .before .before .before .before .before .before .before .before .before .before .before .variable-count .ensures) (c .before .before .before .before .before .before .before .before .before .before .before .sub-scope-count .ensures) (c .before .before .before .before .before .before .before .before .before .loop-test .taken) (c .before .before .before .before .before .before .before .before .byte-at .ensures) (c .before .before .before .before .before .before .before .if2 .taken) (c .before .before .before .before .set-variable .ensures) (c .enum-told .given .1), c .before .before .before .before .before .before .before .before .before .before .loop .inv .1)
+enter-loop-again t c = (turn-variable (c .before .before .before .before .before .before .before .before .before .before .before .before .before .before .before .before .before .before .before .before .before .before .before .before .before .before .before .pre .1) (c .before .before .before .before .before .before .before .before .before .before .loop .inv .0) (c .before .before .before .before .before .before .before .before .before .before .before .before .variable-count .ensures) (c .before .before .before .before .before .before .before .before .before .before .before .sub-scope-count .ensures) (c .before .before .before .before .before .before .before .before .before .loop-test .taken) (c .before .before .before .before .before .before .before .before .byte-at .ensures) (c .before .before .before .before .before .before .before .if2 .taken) (c .before .before .before .before .set-variable .ensures) (c .enum-told .given .1), c .before .before .before .before .before .before .before .before .before .before .loop .inv .1)
 
 enter-enum-known-c : (t : ℕ) → enter-lts.Need-enum-known-c (R t) (enter-at t) enter.Post enter-Inv-loop enter-μ-loop
 enter-enum-known-c t c = search needs
 
 enter-same-length-3 : (t : ℕ) → enter-lts.Need-same-length-3 (R t) (enter-at t) enter.Post enter-Inv-loop enter-μ-loop
-enter-same-length-3 t c = kept-room (c .before .before .before .before .before .before .before .before .before .before .before .before .before .before .before .before .before .before .before .before .before .before .before .before .before .before .before .before .before .pre .1) (c .before .before .before .before .before .before .before .before .before .before .before .loop .inv .0) (c .before .before .before .before .before .before .before .before .before .before .before .before .before .variable-count .ensures) (c .before .before .before .before .before .before .before .before .before .before .before .before .sub-scope-count .ensures) (c .before .before .before .before .before .before .before .before .before .before .loop-test .taken) (c .before .before .before .before .before .before .before .before .before .byte-at .ensures) (c .before .before .before .before .before .before .before .before .if2 .taken) (c .before .before .before .before .before .set-variable .ensures) (c .before .c .given .1) ∙ sym (c .before .before .before .before .before .before .before .before .before .before .before .before .before .before .before .before .before .before .before .before .before .before .before .before .before .before .before .before .before .pre .1 .room)
+enter-same-length-3 t c = kept-room (c .before .before .before .before .before .before .before .before .before .before .before .before .before .before .before .before .before .before .before .before .before .before .before .before .before .before .before .before .pre .1) (c .before .before .before .before .before .before .before .before .before .before .before .loop .inv .0) (c .before .before .before .before .before .before .before .before .before .before .before .before .before .variable-count .ensures) (c .before .before .before .before .before .before .before .before .before .before .before .before .sub-scope-count .ensures) (c .before .before .before .before .before .before .before .before .before .before .loop-test .taken) (c .before .before .before .before .before .before .before .before .before .byte-at .ensures) (c .before .before .before .before .before .before .before .before .if2 .taken) (c .before .before .before .before .before .set-variable .ensures) (c .before .c .given .1) ∙ sym (c .before .before .before .before .before .before .before .before .before .before .before .before .before .before .before .before .before .before .before .before .before .before .before .before .before .before .before .before .pre .1 .room)
 
 enter-same-length-4 : (t : ℕ) → enter-lts.Need-same-length-4 (R t) (enter-at t) enter.Post enter-Inv-loop enter-μ-loop
-enter-same-length-4 t c = c .before .before .before .before .before .before .before .before .before .before .before .loop .inv .1 .size ∙ sym (c .before .before .before .before .before .before .before .before .before .before .before .before .before .before .before .before .before .before .before .before .before .before .before .before .before .before .before .before .before .pre .1 .known .size)
+enter-same-length-4 t c = c .before .before .before .before .before .before .before .before .before .before .before .loop .inv .1 .size ∙ sym (c .before .before .before .before .before .before .before .before .before .before .before .before .before .before .before .before .before .before .before .before .before .before .before .before .before .before .before .before .pre .1 .known .size)
 
 enter-returns-2 : (t : ℕ) → enter-lts.Need-returns-2 (R t) (enter-at t) enter.Post enter-Inv-loop enter-μ-loop
-enter-returns-2 t c = (end-variable (c .before .before .before .before .before .before .before .before .before .before .before .before .before .before .before .before .before .before .before .before .before .before .before .before .before .before .before .before .before .pre .1) (c .before .before .before .before .before .before .before .before .before .before .before .loop .inv .0) (c .before .before .before .before .before .before .before .before .before .before .before .before .before .variable-count .ensures) (c .before .before .before .before .before .before .before .before .before .before .before .before .sub-scope-count .ensures) (c .before .before .before .before .before .before .before .before .before .before .loop-test .taken) (c .before .before .before .before .before .before .before .before .before .byte-at .ensures) (c .before .before .before .before .before .before .before .before .if2 .taken) (c .before .before .before .before .before .set-variable .ensures) (c .before .c .given .1), c .before .before .before .before .before .before .before .before .before .before .before .loop .inv .1)
+enter-returns-2 t c = (end-variable (c .before .before .before .before .before .before .before .before .before .before .before .before .before .before .before .before .before .before .before .before .before .before .before .before .before .before .before .before .pre .1) (c .before .before .before .before .before .before .before .before .before .before .before .loop .inv .0) (c .before .before .before .before .before .before .before .before .before .before .before .before .before .variable-count .ensures) (c .before .before .before .before .before .before .before .before .before .before .before .before .sub-scope-count .ensures) (c .before .before .before .before .before .before .before .before .before .before .loop-test .taken) (c .before .before .before .before .before .before .before .before .before .byte-at .ensures) (c .before .before .before .before .before .before .before .before .if2 .taken) (c .before .before .before .before .before .set-variable .ensures) (c .before .c .given .1), c .before .before .before .before .before .before .before .before .before .before .before .loop .inv .1)
 
 enter-cast-k : (t : ℕ) → enter-lts.Need-cast-k (R t) (enter-at t) enter.Post enter-Inv-loop enter-μ-loop
 enter-cast-k t c = search needs
@@ -134,7 +134,7 @@ enter-slice-aggregate-hand-over-2 : (t : ℕ) → enter-lts.Need-slice-aggregate
 enter-slice-aggregate-hand-over-2 t c = search needs
 
 enter-hand-over-requires : (t : ℕ) → enter-lts.Need-hand-over-requires (R t) (enter-at t) enter.Post enter-Inv-loop enter-μ-loop
-enter-hand-over-requires t c κs = record { ready = rw (c .before .before .before .before .before .before .before .before .before .part-of .ensures) (row-ready (c .before .before .before .before .before .before .before .before .before .before .before .before .before .before .before .before .before .before .before .before .before .before .before .before .pre .1)); number = number-few (c .before .before .before .before .before .before .before .before .before .before .before .before .before .before .before .before .before .before .before .before .before .before .before .before .pre .1) (c .before .before .before .before .before .before .loop .inv .0) (c .before .before .before .before .before .before .before .before .variable-count .ensures) (c .before .before .before .before .before .before .before .sub-scope-count .ensures) (c .before .before .before .before .before .loop-test .taken) (c .before .before .before .before .byte-at .ensures) (c .before .before .before .if2 .left); room = c .before .before .before .before .before .before .loop .inv .0 .handedRoom }
+enter-hand-over-requires t c κs = record { ready = rw (c .before .before .before .before .before .before .before .before .before .part-of .ensures) (row-ready (c .before .before .before .before .before .before .before .before .before .before .before .before .before .before .before .before .before .before .before .before .before .before .before .pre .1)); number = number-few (c .before .before .before .before .before .before .before .before .before .before .before .before .before .before .before .before .before .before .before .before .before .before .before .pre .1) (c .before .before .before .before .before .before .loop .inv .0) (c .before .before .before .before .before .before .before .before .variable-count .ensures) (c .before .before .before .before .before .before .before .sub-scope-count .ensures) (c .before .before .before .before .before .loop-test .taken) (c .before .before .before .before .byte-at .ensures) (c .before .before .before .if2 .left); room = c .before .before .before .before .before .before .loop .inv .0 .handedRoom }
 
 enter-enum-told-2 : (t : ℕ) → enter-lts.Need-enum-told-2 (R t) (enter-at t) enter.Post enter-Inv-loop enter-μ-loop
 enter-enum-told-2 t c = search needs
@@ -143,19 +143,19 @@ enter-enum-known-c-2 : (t : ℕ) → enter-lts.Need-enum-known-c-2 (R t) (enter-
 enter-enum-known-c-2 t c = search needs
 
 enter-same-length-5 : (t : ℕ) → enter-lts.Need-same-length-5 (R t) (enter-at t) enter.Post enter-Inv-loop enter-μ-loop
-enter-same-length-5 t c = c .before .before .before .before .before .before .before .before .before .before .before .loop .inv .0 .ownRoom ∙ sym (c .before .before .before .before .before .before .before .before .before .before .before .before .before .before .before .before .before .before .before .before .before .before .before .before .before .before .before .before .before .pre .1 .room)
+enter-same-length-5 t c = c .before .before .before .before .before .before .before .before .before .before .before .loop .inv .0 .ownRoom ∙ sym (c .before .before .before .before .before .before .before .before .before .before .before .before .before .before .before .before .before .before .before .before .before .before .before .before .before .before .before .before .pre .1 .room)
 
 enter-same-length-6 : (t : ℕ) → enter-lts.Need-same-length-6 (R t) (enter-at t) enter.Post enter-Inv-loop enter-μ-loop
-enter-same-length-6 t c = c .before .before .before .before .before .before .before .before .before .before .before .loop .inv .1 .size ∙ sym (c .before .before .before .before .before .before .before .before .before .before .before .before .before .before .before .before .before .before .before .before .before .before .before .before .before .before .before .before .before .pre .1 .known .size)
+enter-same-length-6 t c = c .before .before .before .before .before .before .before .before .before .before .before .loop .inv .1 .size ∙ sym (c .before .before .before .before .before .before .before .before .before .before .before .before .before .before .before .before .before .before .before .before .before .before .before .before .before .before .before .before .pre .1 .known .size)
 
 enter-returns-3 : (t : ℕ) → enter-lts.Need-returns-3 (R t) (enter-at t) enter.Post enter-Inv-loop enter-μ-loop
-enter-returns-3 t c = (end-hand (c .before .before .before .before .before .before .before .before .before .before .before .before .before .before .before .before .before .before .before .before .before .before .before .before .before .before .before .before .before .pre .1) (c .before .before .before .before .before .before .before .before .before .before .before .loop .inv .0) (c .before .before .before .before .before .before .before .before .before .before .before .before .before .variable-count .ensures) (c .before .before .before .before .before .before .before .before .before .before .before .before .sub-scope-count .ensures) (c .before .before .before .before .before .before .before .before .before .before .loop-test .taken) (c .before .before .before .before .before .before .before .before .before .byte-at .ensures) (c .before .before .before .before .before .before .before .before .if2 .left) (c .before .before .before .before .hand-over .ensures) (c .before .c2 .given .1), c .before .before .before .before .before .before .before .before .before .before .before .loop .inv .1)
+enter-returns-3 t c = (end-hand (c .before .before .before .before .before .before .before .before .before .before .before .before .before .before .before .before .before .before .before .before .before .before .before .before .before .before .before .before .pre .1) (c .before .before .before .before .before .before .before .before .before .before .before .loop .inv .0) (c .before .before .before .before .before .before .before .before .before .before .before .before .before .variable-count .ensures) (c .before .before .before .before .before .before .before .before .before .before .before .before .sub-scope-count .ensures) (c .before .before .before .before .before .before .before .before .before .before .loop-test .taken) (c .before .before .before .before .before .before .before .before .before .byte-at .ensures) (c .before .before .before .before .before .before .before .before .if2 .left) (c .before .before .before .before .hand-over .ensures) (c .before .c2 .given .1), c .before .before .before .before .before .before .before .before .before .before .before .loop .inv .1)
 
 enter-sub-scope-at-requires : (t : ℕ) → enter-lts.Need-sub-scope-at-requires (R t) (enter-at t) enter.Post enter-Inv-loop enter-μ-loop
-enter-sub-scope-at-requires t c κs = (c .before .before .before .before .before .before .before .before .before .before .before .before .before .before .before .before .before .before .before .before .before .before .before .before .before .before .before .before .pre .1) .world .sound .laid
+enter-sub-scope-at-requires t c κs = (c .before .before .before .before .before .before .before .before .before .before .before .before .before .before .before .before .before .before .before .before .before .before .before .before .before .before .before .pre .1) .world .sound .laid
 
 enter-mul-from : (t : ℕ) → enter-lts.Need-mul-from (R t) (enter-at t) enter.Post enter-Inv-loop enter-μ-loop
-enter-mul-from t c = omega (arith, number-few (c .before .before .before .before .before .before .before .before .before .before .before .before .before .before .before .before .before .before .before .before .before .before .before .before .before .before .before .before .before .pre .1) (c .before .before .before .before .before .before .before .before .before .before .before .loop .inv .0) (c .before .before .before .before .before .before .before .before .before .before .before .before .before .variable-count .ensures) (c .before .before .before .before .before .before .before .before .before .before .before .before .sub-scope-count .ensures) (c .before .before .before .before .before .before .before .before .before .before .loop-test .taken) (c .before .before .before .before .before .before .before .before .before .byte-at .ensures) (c .before .before .before .before .before .before .before .before .if2 .left))
+enter-mul-from t c = omega (arith, number-few (c .before .before .before .before .before .before .before .before .before .before .before .before .before .before .before .before .before .before .before .before .before .before .before .before .before .before .before .before .pre .1) (c .before .before .before .before .before .before .before .before .before .before .before .loop .inv .0) (c .before .before .before .before .before .before .before .before .before .before .before .before .before .variable-count .ensures) (c .before .before .before .before .before .before .before .before .before .before .before .before .sub-scope-count .ensures) (c .before .before .before .before .before .before .before .before .before .before .loop-test .taken) (c .before .before .before .before .before .before .before .before .before .byte-at .ensures) (c .before .before .before .before .before .before .before .before .if2 .left))
 
 enter-add-part : (t : ℕ) → enter-lts.Need-add-part (R t) (enter-at t) enter.Post enter-Inv-loop enter-μ-loop
 enter-add-part t c = search needs
@@ -170,52 +170,52 @@ enter-part-called-start : (t : ℕ) → enter-lts.Need-part-called-start (R t) (
 enter-part-called-start t c = search needs
 
 enter-part-called-end : (t : ℕ) → enter-lts.Need-part-called-end (R t) (enter-at t) enter.Post enter-Inv-loop enter-μ-loop
-enter-part-called-end t c = called-room (c .before .before .before .before .before .before .before .before .before .before .before .before .before .before .before .before .before .before .before .before .before .before .before .before .before .before .before .before .before .pre .1) (c .before .before .before .before .before .before .before .before .before .before .before .loop .inv .0) (c .before .before .before .before .before .before .before .before .before .before .before .before .before .variable-count .ensures) (c .before .before .before .before .before .before .before .before .before .before .before .before .sub-scope-count .ensures) (c .before .before .before .before .before .before .before .before .before .before .loop-test .taken) (c .before .before .before .before .before .before .before .before .before .byte-at .ensures) (c .before .before .before .before .before .before .before .before .if2 .left)
+enter-part-called-end t c = called-room (c .before .before .before .before .before .before .before .before .before .before .before .before .before .before .before .before .before .before .before .before .before .before .before .before .before .before .before .before .pre .1) (c .before .before .before .before .before .before .before .before .before .before .before .loop .inv .0) (c .before .before .before .before .before .before .before .before .before .before .before .before .before .variable-count .ensures) (c .before .before .before .before .before .before .before .before .before .before .before .before .sub-scope-count .ensures) (c .before .before .before .before .before .before .before .before .before .before .loop-test .taken) (c .before .before .before .before .before .before .before .before .before .byte-at .ensures) (c .before .before .before .before .before .before .before .before .if2 .left)
 
 enter-slice-aggregate-enter : (t : ℕ) → enter-lts.Need-slice-aggregate-enter (R t) (enter-at t) enter.Post enter-Inv-loop enter-μ-loop
 enter-slice-aggregate-enter t c = search needs
 
 enter-enter-requires : (t : ℕ) → enter-lts.Need-enter-requires (R t) (enter-at t) enter.Post enter-Inv-loop enter-μ-loop
-enter-enter-requires t c κs = (omega (arith, earlier (c .before .before .before .before .before .before .before .before .before .before .before .before .before .before .before .before .before .before .before .before .before .before .before .before .before .before .before .before .before .before .before .before .pre .1) _ _ (number-below (c .before .before .before .before .before .before .before .before .before .before .before .before .before .before .before .before .before .before .before .before .before .before .before .before .before .before .before .before .before .before .before .before .pre .1) (c .before .before .before .before .before .before .before .before .before .before .before .before .before .before .loop .inv .0) (c .before .before .before .before .before .before .before .before .before .before .before .before .before .before .before .before .variable-count .ensures) (c .before .before .before .before .before .before .before .before .before .before .before .before .before .before .before .sub-scope-count .ensures) (c .before .before .before .before .before .before .before .before .before .before .before .before .before .loop-test .taken) (c .before .before .before .before .before .before .before .before .before .before .before .before .byte-at .ensures) (c .before .before .before .before .before .before .before .before .before .before .before .if2 .left)) (c .before .before .before .sub-scope-at .ensures), c .before .before .before .before .before .before .before .before .before .before .before .before .before .before .before .before .before .before .before .before .before .before .before .before .before .before .before .before .before .before .before .before .pre .0), callee (c .before .before .before .before .before .before .before .before .before .before .before .before .before .before .before .before .before .before .before .before .before .before .before .before .before .before .before .before .before .before .before .before .pre .1) _ _ _ _ (number-below (c .before .before .before .before .before .before .before .before .before .before .before .before .before .before .before .before .before .before .before .before .before .before .before .before .before .before .before .before .before .before .before .before .pre .1) (c .before .before .before .before .before .before .before .before .before .before .before .before .before .before .loop .inv .0) (c .before .before .before .before .before .before .before .before .before .before .before .before .before .before .before .before .variable-count .ensures) (c .before .before .before .before .before .before .before .before .before .before .before .before .before .before .before .sub-scope-count .ensures) (c .before .before .before .before .before .before .before .before .before .before .before .before .before .loop-test .taken) (c .before .before .before .before .before .before .before .before .before .before .before .before .byte-at .ensures) (c .before .before .before .before .before .before .before .before .before .before .before .if2 .left)) (c .before .before .before .sub-scope-at .ensures) (part-room _ _ ((c .before .before .before .before .before .before .before .before .before .before .before .before .byte-at .result - c .before .before .before .before .before .before .before .before .before .before .before .before .before .before .before .before .variable-count .result) * 32 + 32 - (c .before .before .before .before .before .before .before .before .before .before .before .before .byte-at .result - c .before .before .before .before .before .before .before .before .before .before .before .before .before .before .before .before .variable-count .result) * 32) (called-room (c .before .before .before .before .before .before .before .before .before .before .before .before .before .before .before .before .before .before .before .before .before .before .before .before .before .before .before .before .before .before .before .before .pre .1) (c .before .before .before .before .before .before .before .before .before .before .before .before .before .before .loop .inv .0) (c .before .before .before .before .before .before .before .before .before .before .before .before .before .before .before .before .variable-count .ensures) (c .before .before .before .before .before .before .before .before .before .before .before .before .before .before .before .sub-scope-count .ensures) (c .before .before .before .before .before .before .before .before .before .before .before .before .before .loop-test .taken) (c .before .before .before .before .before .before .before .before .before .before .before .before .byte-at .ensures) (c .before .before .before .before .before .before .before .before .before .before .before .if2 .left)) (omega arith)) (c .before .before .before .before .before .before .before .before .before .before .before .before .before .before .loop .inv .1))
+enter-enter-requires t c κs = (omega (arith, earlier (c .before .before .before .before .before .before .before .before .before .before .before .before .before .before .before .before .before .before .before .before .before .before .before .before .before .before .before .before .before .before .before .pre .1) _ _ (number-below (c .before .before .before .before .before .before .before .before .before .before .before .before .before .before .before .before .before .before .before .before .before .before .before .before .before .before .before .before .before .before .before .pre .1) (c .before .before .before .before .before .before .before .before .before .before .before .before .before .before .loop .inv .0) (c .before .before .before .before .before .before .before .before .before .before .before .before .before .before .before .before .variable-count .ensures) (c .before .before .before .before .before .before .before .before .before .before .before .before .before .before .before .sub-scope-count .ensures) (c .before .before .before .before .before .before .before .before .before .before .before .before .before .loop-test .taken) (c .before .before .before .before .before .before .before .before .before .before .before .before .byte-at .ensures) (c .before .before .before .before .before .before .before .before .before .before .before .if2 .left)) (c .before .before .before .sub-scope-at .ensures), c .before .before .before .before .before .before .before .before .before .before .before .before .before .before .before .before .before .before .before .before .before .before .before .before .before .before .before .before .before .before .before .pre .0), callee (c .before .before .before .before .before .before .before .before .before .before .before .before .before .before .before .before .before .before .before .before .before .before .before .before .before .before .before .before .before .before .before .pre .1) _ _ _ _ (number-below (c .before .before .before .before .before .before .before .before .before .before .before .before .before .before .before .before .before .before .before .before .before .before .before .before .before .before .before .before .before .before .before .pre .1) (c .before .before .before .before .before .before .before .before .before .before .before .before .before .before .loop .inv .0) (c .before .before .before .before .before .before .before .before .before .before .before .before .before .before .before .before .variable-count .ensures) (c .before .before .before .before .before .before .before .before .before .before .before .before .before .before .before .sub-scope-count .ensures) (c .before .before .before .before .before .before .before .before .before .before .before .before .before .loop-test .taken) (c .before .before .before .before .before .before .before .before .before .before .before .before .byte-at .ensures) (c .before .before .before .before .before .before .before .before .before .before .before .if2 .left)) (c .before .before .before .sub-scope-at .ensures) (part-room _ _ ((c .before .before .before .before .before .before .before .before .before .before .before .before .byte-at .result - c .before .before .before .before .before .before .before .before .before .before .before .before .before .before .before .before .variable-count .result) * 32 + 32 - (c .before .before .before .before .before .before .before .before .before .before .before .before .byte-at .result - c .before .before .before .before .before .before .before .before .before .before .before .before .before .before .before .before .variable-count .result) * 32) (called-room (c .before .before .before .before .before .before .before .before .before .before .before .before .before .before .before .before .before .before .before .before .before .before .before .before .before .before .before .before .before .before .before .pre .1) (c .before .before .before .before .before .before .before .before .before .before .before .before .before .before .loop .inv .0) (c .before .before .before .before .before .before .before .before .before .before .before .before .before .before .before .before .variable-count .ensures) (c .before .before .before .before .before .before .before .before .before .before .before .before .before .before .before .sub-scope-count .ensures) (c .before .before .before .before .before .before .before .before .before .before .before .before .before .loop-test .taken) (c .before .before .before .before .before .before .before .before .before .before .before .before .byte-at .ensures) (c .before .before .before .before .before .before .before .before .before .before .before .if2 .left)) (omega arith)) (c .before .before .before .before .before .before .before .before .before .before .before .before .before .before .loop .inv .1))
 
 enter-enum-known-m : (t : ℕ) → enter-lts.Need-enum-known-m (R t) (enter-at t) enter.Post enter-Inv-loop enter-μ-loop
 enter-enum-known-m t c = search needs
 
 enter-add-count : (t : ℕ) → enter-lts.Need-add-count (R t) (enter-at t) enter.Post enter-Inv-loop enter-μ-loop
-enter-add-count t c = omega (arith, few-values (c .before .before .before .before .before .before .before .before .before .before .before .before .before .before .before .before .before .before .before .before .before .before .before .before .before .before .before .before .before .before .before .before .before .before .before .before .before .before .before .pre .1) (c .before .before .before .before .before .before .before .before .before .before .before .before .before .before .before .before .before .before .before .before .before .loop .inv .0) (c .before .before .before .before .before .before .before .before .before .before .before .before .before .before .before .before .before .before .before .before .before .before .before .variable-count .ensures) (c .before .before .before .before .before .before .before .before .before .before .before .before .before .before .before .before .before .before .before .before .before .before .sub-scope-count .ensures) (c .before .before .before .before .before .before .before .before .before .before .before .before .before .before .before .before .before .before .before .before .loop-test .taken) (c .before .before .before .before .before .before .before .before .before .before .before .before .before .before .before .before .before .before .before .byte-at .ensures) (c .before .before .before .before .before .before .before .before .before .before .before .before .before .before .before .before .before .before .if2 .left) (c .before .before .before .before .before .before .before .before .before .before .before .before .before .before .hand-over .ensures) (c .before .before .before .before .before .before .before .before .before .before .before .enum-told2 .given .1) (c .before .before .before .before .before .before .before .before .before .before .sub-scope-at .ensures) (c .before .before .before .before .before .before .enter .ensures .0) (c .before .m .given .1))
+enter-add-count t c = omega (arith, few-values (c .before .before .before .before .before .before .before .before .before .before .before .before .before .before .before .before .before .before .before .before .before .before .before .before .before .before .before .before .before .before .before .before .before .before .before .before .before .before .pre .1) (c .before .before .before .before .before .before .before .before .before .before .before .before .before .before .before .before .before .before .before .before .before .loop .inv .0) (c .before .before .before .before .before .before .before .before .before .before .before .before .before .before .before .before .before .before .before .before .before .before .before .variable-count .ensures) (c .before .before .before .before .before .before .before .before .before .before .before .before .before .before .before .before .before .before .before .before .before .before .sub-scope-count .ensures) (c .before .before .before .before .before .before .before .before .before .before .before .before .before .before .before .before .before .before .before .before .loop-test .taken) (c .before .before .before .before .before .before .before .before .before .before .before .before .before .before .before .before .before .before .before .byte-at .ensures) (c .before .before .before .before .before .before .before .before .before .before .before .before .before .before .before .before .before .before .if2 .left) (c .before .before .before .before .before .before .before .before .before .before .before .before .before .before .hand-over .ensures) (c .before .before .before .before .before .before .before .before .before .before .before .enum-told2 .given .1) (c .before .before .before .before .before .before .before .before .before .before .sub-scope-at .ensures) (c .before .before .before .before .before .before .enter .ensures .0) (c .before .m .given .1))
 
 enter-loop-less-2 : (t : ℕ) → enter-lts.Need-loop-less-2 (R t) (enter-at t) enter.Post enter-Inv-loop enter-μ-loop
 enter-loop-less-2 t c = omega (arith, c .before .before .before .before .before .before .before .before .before .before .before .before .before .before .before .before .before .before .before .before .loop-test .taken)
 
 enter-loop-again-2 : (t : ℕ) → enter-lts.Need-loop-again-2 (R t) (enter-at t) enter.Post enter-Inv-loop enter-μ-loop
-enter-loop-again-2 t c = (turn-call (c .before .before .before .before .before .before .before .before .before .before .before .before .before .before .before .before .before .before .before .before .before .before .before .before .before .before .before .before .before .before .before .before .before .before .before .before .before .before .before .pre .1) (c .before .before .before .before .before .before .before .before .before .before .before .before .before .before .before .before .before .before .before .before .before .loop .inv .0) (c .before .before .before .before .before .before .before .before .before .before .before .before .before .before .before .before .before .before .before .before .before .before .before .variable-count .ensures) (c .before .before .before .before .before .before .before .before .before .before .before .before .before .before .before .before .before .before .before .before .before .before .sub-scope-count .ensures) (c .before .before .before .before .before .before .before .before .before .before .before .before .before .before .before .before .before .before .before .before .loop-test .taken) (c .before .before .before .before .before .before .before .before .before .before .before .before .before .before .before .before .before .before .before .byte-at .ensures) (c .before .before .before .before .before .before .before .before .before .before .before .before .before .before .before .before .before .before .if2 .left) (c .before .before .before .before .before .before .before .before .before .before .before .before .before .before .hand-over .ensures) (c .before .before .before .before .before .before .before .before .before .before .before .enum-told2 .given .1) (c .before .before .before .before .before .before .before .before .before .before .sub-scope-at .ensures) (c .before .before .before .before .before .before .enter .ensures .0) ((c .before .before .before .before .before .before .before .before .before .before .before .before .before .before .before .before .before .before .before .byte-at .result - c .before .before .before .before .before .before .before .before .before .before .before .before .before .before .before .before .before .before .before .before .before .before .before .variable-count .result) * 32 + 32 - (c .before .before .before .before .before .before .before .before .before .before .before .before .before .before .before .before .before .before .before .byte-at .result - c .before .before .before .before .before .before .before .before .before .before .before .before .before .before .before .before .before .before .before .before .before .before .before .variable-count .result) * 32) (omega arith) (c .before .m .given .1), c .before .before .before .before .before .before .enter .ensures .1)
+enter-loop-again-2 t c = (turn-call (c .before .before .before .before .before .before .before .before .before .before .before .before .before .before .before .before .before .before .before .before .before .before .before .before .before .before .before .before .before .before .before .before .before .before .before .before .before .before .pre .1) (c .before .before .before .before .before .before .before .before .before .before .before .before .before .before .before .before .before .before .before .before .before .loop .inv .0) (c .before .before .before .before .before .before .before .before .before .before .before .before .before .before .before .before .before .before .before .before .before .before .before .variable-count .ensures) (c .before .before .before .before .before .before .before .before .before .before .before .before .before .before .before .before .before .before .before .before .before .before .sub-scope-count .ensures) (c .before .before .before .before .before .before .before .before .before .before .before .before .before .before .before .before .before .before .before .before .loop-test .taken) (c .before .before .before .before .before .before .before .before .before .before .before .before .before .before .before .before .before .before .before .byte-at .ensures) (c .before .before .before .before .before .before .before .before .before .before .before .before .before .before .before .before .before .before .if2 .left) (c .before .before .before .before .before .before .before .before .before .before .before .before .before .before .hand-over .ensures) (c .before .before .before .before .before .before .before .before .before .before .before .enum-told2 .given .1) (c .before .before .before .before .before .before .before .before .before .before .sub-scope-at .ensures) (c .before .before .before .before .before .before .enter .ensures .0) ((c .before .before .before .before .before .before .before .before .before .before .before .before .before .before .before .before .before .before .before .byte-at .result - c .before .before .before .before .before .before .before .before .before .before .before .before .before .before .before .before .before .before .before .before .before .before .before .variable-count .result) * 32 + 32 - (c .before .before .before .before .before .before .before .before .before .before .before .before .before .before .before .before .before .before .before .byte-at .result - c .before .before .before .before .before .before .before .before .before .before .before .before .before .before .before .before .before .before .before .before .before .before .before .variable-count .result) * 32) (omega arith) (c .before .m .given .1), c .before .before .before .before .before .before .enter .ensures .1)
 
 enter-enum-known-c-3 : (t : ℕ) → enter-lts.Need-enum-known-c-3 (R t) (enter-at t) enter.Post enter-Inv-loop enter-μ-loop
 enter-enum-known-c-3 t c = search needs
 
-enter-add-t62 : (t : ℕ) → enter-lts.Need-add-t62 (R t) (enter-at t) enter.Post enter-Inv-loop enter-μ-loop
-enter-add-t62 t c = omega (arith, few-ended (c .before .before .before .before .before .before .before .before .before .before .before .before .before .before .before .before .before .before .before .before .before .before .before .before .before .before .before .before .before .before .before .before .before .before .before .before .before .before .before .pre .1) (c .before .before .before .before .before .before .before .before .before .before .before .before .before .before .before .before .before .before .before .before .before .loop .inv .0) (c .before .before .before .before .before .before .before .before .before .before .before .before .before .before .before .before .before .before .before .before .before .before .before .variable-count .ensures) (c .before .before .before .before .before .before .before .before .before .before .before .before .before .before .before .before .before .before .before .before .before .before .sub-scope-count .ensures) (c .before .before .before .before .before .before .before .before .before .before .before .before .before .before .before .before .before .before .before .before .loop-test .taken) (c .before .before .before .before .before .before .before .before .before .before .before .before .before .before .before .before .before .before .before .byte-at .ensures) (c .before .before .before .before .before .before .before .before .before .before .before .before .before .before .before .before .before .before .if2 .left) (c .before .before .before .before .before .before .before .before .before .before .before .before .before .before .hand-over .ensures) (c .before .before .before .before .before .before .before .before .before .before .before .enum-told2 .given .1) (c .before .before .before .before .before .before .before .before .before .before .sub-scope-at .ensures) (c .before .before .before .before .before .before .enter .ensures .0) (c .before .c3 .given .1))
+enter-add-t61 : (t : ℕ) → enter-lts.Need-add-t61 (R t) (enter-at t) enter.Post enter-Inv-loop enter-μ-loop
+enter-add-t61 t c = omega (arith, few-ended (c .before .before .before .before .before .before .before .before .before .before .before .before .before .before .before .before .before .before .before .before .before .before .before .before .before .before .before .before .before .before .before .before .before .before .before .before .before .before .pre .1) (c .before .before .before .before .before .before .before .before .before .before .before .before .before .before .before .before .before .before .before .before .before .loop .inv .0) (c .before .before .before .before .before .before .before .before .before .before .before .before .before .before .before .before .before .before .before .before .before .before .before .variable-count .ensures) (c .before .before .before .before .before .before .before .before .before .before .before .before .before .before .before .before .before .before .before .before .before .before .sub-scope-count .ensures) (c .before .before .before .before .before .before .before .before .before .before .before .before .before .before .before .before .before .before .before .before .loop-test .taken) (c .before .before .before .before .before .before .before .before .before .before .before .before .before .before .before .before .before .before .before .byte-at .ensures) (c .before .before .before .before .before .before .before .before .before .before .before .before .before .before .before .before .before .before .if2 .left) (c .before .before .before .before .before .before .before .before .before .before .before .before .before .before .hand-over .ensures) (c .before .before .before .before .before .before .before .before .before .before .before .enum-told2 .given .1) (c .before .before .before .before .before .before .before .before .before .before .sub-scope-at .ensures) (c .before .before .before .before .before .before .enter .ensures .0) (c .before .c3 .given .1))
 
 enter-same-length-7 : (t : ℕ) → enter-lts.Need-same-length-7 (R t) (enter-at t) enter.Post enter-Inv-loop enter-μ-loop
-enter-same-length-7 t c = c .before .before .before .before .before .before .before .before .before .before .before .before .before .before .before .before .before .before .before .before .before .loop .inv .0 .ownRoom ∙ sym (c .before .before .before .before .before .before .before .before .before .before .before .before .before .before .before .before .before .before .before .before .before .before .before .before .before .before .before .before .before .before .before .before .before .before .before .before .before .before .before .pre .1 .room)
+enter-same-length-7 t c = c .before .before .before .before .before .before .before .before .before .before .before .before .before .before .before .before .before .before .before .before .before .loop .inv .0 .ownRoom ∙ sym (c .before .before .before .before .before .before .before .before .before .before .before .before .before .before .before .before .before .before .before .before .before .before .before .before .before .before .before .before .before .before .before .before .before .before .before .before .before .before .pre .1 .room)
 
 enter-same-length-8 : (t : ℕ) → enter-lts.Need-same-length-8 (R t) (enter-at t) enter.Post enter-Inv-loop enter-μ-loop
-enter-same-length-8 t c = c .before .before .before .before .before .before .enter .ensures .1 .size ∙ sym (c .before .before .before .before .before .before .before .before .before .before .before .before .before .before .before .before .before .before .before .before .before .before .before .before .before .before .before .before .before .before .before .before .before .before .before .before .before .before .before .pre .1 .known .size)
+enter-same-length-8 t c = c .before .before .before .before .before .before .enter .ensures .1 .size ∙ sym (c .before .before .before .before .before .before .before .before .before .before .before .before .before .before .before .before .before .before .before .before .before .before .before .before .before .before .before .before .before .before .before .before .before .before .before .before .before .before .pre .1 .known .size)
 
 enter-returns-4 : (t : ℕ) → enter-lts.Need-returns-4 (R t) (enter-at t) enter.Post enter-Inv-loop enter-μ-loop
-enter-returns-4 t c = (end-call (c .before .before .before .before .before .before .before .before .before .before .before .before .before .before .before .before .before .before .before .before .before .before .before .before .before .before .before .before .before .before .before .before .before .before .before .before .before .before .before .pre .1) (c .before .before .before .before .before .before .before .before .before .before .before .before .before .before .before .before .before .before .before .before .before .loop .inv .0) (c .before .before .before .before .before .before .before .before .before .before .before .before .before .before .before .before .before .before .before .before .before .before .before .variable-count .ensures) (c .before .before .before .before .before .before .before .before .before .before .before .before .before .before .before .before .before .before .before .before .before .before .sub-scope-count .ensures) (c .before .before .before .before .before .before .before .before .before .before .before .before .before .before .before .before .before .before .before .before .loop-test .taken) (c .before .before .before .before .before .before .before .before .before .before .before .before .before .before .before .before .before .before .before .byte-at .ensures) (c .before .before .before .before .before .before .before .before .before .before .before .before .before .before .before .before .before .before .if2 .left) (c .before .before .before .before .before .before .before .before .before .before .before .before .before .before .hand-over .ensures) (c .before .before .before .before .before .before .before .before .before .before .before .enum-told2 .given .1) (c .before .before .before .before .before .before .before .before .before .before .sub-scope-at .ensures) (c .before .before .before .before .before .before .enter .ensures .0) (c .before .c3 .given .1), c .before .before .before .before .before .before .enter .ensures .1)
+enter-returns-4 t c = (end-call (c .before .before .before .before .before .before .before .before .before .before .before .before .before .before .before .before .before .before .before .before .before .before .before .before .before .before .before .before .before .before .before .before .before .before .before .before .before .before .pre .1) (c .before .before .before .before .before .before .before .before .before .before .before .before .before .before .before .before .before .before .before .before .before .loop .inv .0) (c .before .before .before .before .before .before .before .before .before .before .before .before .before .before .before .before .before .before .before .before .before .before .before .variable-count .ensures) (c .before .before .before .before .before .before .before .before .before .before .before .before .before .before .before .before .before .before .before .before .before .before .sub-scope-count .ensures) (c .before .before .before .before .before .before .before .before .before .before .before .before .before .before .before .before .before .before .before .before .loop-test .taken) (c .before .before .before .before .before .before .before .before .before .before .before .before .before .before .before .before .before .before .before .byte-at .ensures) (c .before .before .before .before .before .before .before .before .before .before .before .before .before .before .before .before .before .before .if2 .left) (c .before .before .before .before .before .before .before .before .before .before .before .before .before .before .hand-over .ensures) (c .before .before .before .before .before .before .before .before .before .before .before .enum-told2 .given .1) (c .before .before .before .before .before .before .before .before .before .before .sub-scope-at .ensures) (c .before .before .before .before .before .before .enter .ensures .0) (c .before .c3 .given .1), c .before .before .before .before .before .before .enter .ensures .1)
 
 enter-remember-scope-requires : (t : ℕ) → enter-lts.Need-remember-scope-requires (R t) (enter-at t) enter.Post enter-Inv-loop enter-μ-loop
-enter-remember-scope-requires t c κs = (noting (c .before .before .before .before .before .before .before .before .before .before .before .before .before .before .before .before .before .before .before .before .before .pre .1) (c .before .before .before .loop .inv .0 .ownRoom) (c .before .before .before .loop .inv .1), ends (c .before .before .before .before .before .before .before .before .before .before .before .before .before .before .before .before .before .before .before .before .before .pre .1) (c .before .before .before .loop .inv .0) (c .before .before .before .before .before .variable-count .ensures) (c .before .before .before .before .sub-scope-count .ensures) (c .before .before .loop-test .left))
+enter-remember-scope-requires t c κs = (noting (c .before .before .before .before .before .before .before .before .before .before .before .before .before .before .before .before .before .before .before .before .pre .1) (c .before .before .before .loop .inv .0 .ownRoom) (c .before .before .before .loop .inv .1), ends (c .before .before .before .before .before .before .before .before .before .before .before .before .before .before .before .before .before .before .before .before .pre .1) (c .before .before .before .loop .inv .0) (c .before .before .before .before .before .variable-count .ensures) (c .before .before .before .before .sub-scope-count .ensures) (c .before .before .loop-test .left))
 
 enter-same-length-9 : (t : ℕ) → enter-lts.Need-same-length-9 (R t) (enter-at t) enter.Post enter-Inv-loop enter-μ-loop
-enter-same-length-9 t c = c .before .before .before .before .before .before .loop .inv .0 .ownRoom ∙ sym (c .before .before .before .before .before .before .before .before .before .before .before .before .before .before .before .before .before .before .before .before .before .before .before .before .pre .1 .room)
+enter-same-length-9 t c = c .before .before .before .before .before .before .loop .inv .0 .ownRoom ∙ sym (c .before .before .before .before .before .before .before .before .before .before .before .before .before .before .before .before .before .before .before .before .before .before .before .pre .1 .room)
 
 enter-same-length-10 : (t : ℕ) → enter-lts.Need-same-length-10 (R t) (enter-at t) enter.Post enter-Inv-loop enter-μ-loop
-enter-same-length-10 t c = c .before .before .remember-scope .ensures .size ∙ sym (c .before .before .before .before .before .before .before .before .before .before .before .before .before .before .before .before .before .before .before .before .before .before .before .before .pre .1 .known .size)
+enter-same-length-10 t c = c .before .before .remember-scope .ensures .size ∙ sym (c .before .before .before .before .before .before .before .before .before .before .before .before .before .before .before .before .before .before .before .before .before .before .before .pre .1 .known .size)
 
 enter-returns-5 : (t : ℕ) → enter-lts.Need-returns-5 (R t) (enter-at t) enter.Post enter-Inv-loop enter-μ-loop
-enter-returns-5 t c = (ends (c .before .before .before .before .before .before .before .before .before .before .before .before .before .before .before .before .before .before .before .before .before .before .before .before .pre .1) (c .before .before .before .before .before .before .loop .inv .0) (c .before .before .before .before .before .before .before .before .variable-count .ensures) (c .before .before .before .before .before .before .before .sub-scope-count .ensures) (c .before .before .before .before .before .loop-test .left), c .before .before .remember-scope .ensures)
+enter-returns-5 t c = (ends (c .before .before .before .before .before .before .before .before .before .before .before .before .before .before .before .before .before .before .before .before .before .before .before .pre .1) (c .before .before .before .before .before .before .loop .inv .0) (c .before .before .before .before .before .before .before .before .variable-count .ensures) (c .before .before .before .before .before .before .before .sub-scope-count .ensures) (c .before .before .before .before .before .loop-test .left), c .before .before .remember-scope .ensures)
 
 pub +enter-spec : {M : Type 1} → statement M
 +enter-spec = close μ-enter λ t. enter-lts.spec (R t) (enter-at t) enter.Post enter-Inv-loop enter-μ-loop
@@ -267,7 +267,7 @@ pub +enter-spec : {M : Type 1} → statement M
     (enter-loop-less-2 t)
     (enter-loop-again-2 t)
     (enter-enum-known-c-3 t)
-    (enter-add-t62 t)
+    (enter-add-t61 t)
     (enter-same-length-7 t)
     (enter-same-length-8 t)
     (enter-returns-4 t)

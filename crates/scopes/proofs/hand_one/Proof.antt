@@ -20,7 +20,7 @@ same-length : tie.Need-same-length
 same-length c = search needs
 
 returns : tie.Need-returns
-returns c = hands-none _ _ _ _ _ _ _ (sym (c .before .has-clause .ensures) ∙ not-true _ (c .if1 .taken)) (c .before .before .before .before .before .before .before .before .before .pre .room) _
+returns c = hands-none _ _ _ _ _ _ _ (sym (c .before .has-clause .ensures) ∙ not-true _ (c .if1 .taken)) (c .before .before .before .before .before .before .before .before .pre .room) _
 
 eval-tree-requires : tie.Need-eval-tree-requires
 eval-tree-requires c κs = search needs

@@ -3,16 +3,16 @@
 use Prim.Native.Nat.{_-_}
 use borrow.Author.Needs.{needs}
 use native.Mathlib.Omega.{arith}
-use Rattle.book.specs.Tables.{subScopeAt}
+use Rattle.book.specs.Positions.{subScopeAt}
 use Rattle.scopes.proofs.Hands.{Passed, none-passed, pass, halt, end}
 use Rattle.scopes.proofs.hand_over.Statement.{statement}
 use Rattle.scopes.proofs.hand_over.Tie as tie
 
 abbrev Inv-loop : tie.InvT-loop
-Inv-loop book places counts links own called i k handed₀ j count v₀ handed v = Passed book own called i k handed v
+Inv-loop book index links own called i k handed₀ j count v₀ handed v = Passed book own called i k handed v
 
 abbrev μ-loop : tie.MeasureT-loop
-μ-loop book places counts links own called i k handed₀ j count v₀ handed v = count - v
+μ-loop book index links own called i k handed₀ j count v₀ handed v = count - v
 
 sub-scope-at-requires : tie.Need-sub-scope-at-requires Inv-loop μ-loop
 sub-scope-at-requires c κs = search needs
@@ -21,16 +21,16 @@ variable-count-requires : tie.Need-variable-count-requires Inv-loop μ-loop
 variable-count-requires c κs = search needs
 
 loop-holds : tie.Need-loop-holds Inv-loop μ-loop
-loop-holds c = none-passed (c .before .before .before .before .before .before .before .before .before .pre .room)
+loop-holds c = none-passed (c .before .before .before .before .before .before .before .before .pre .room)
 
 cast-hand-one : tie.Need-cast-hand-one Inv-loop μ-loop
 cast-hand-one c = search needs
 
 cast-hand-one-2 : tie.Need-cast-hand-one-2 Inv-loop μ-loop
-cast-hand-one-2 c = omega (arith, c .loop-test .taken, c .before .before .variable-count .ensures, c .before .before .before .before .before .before .before .before .before .before .before .pre .ready .sound .variables (c .before .before .before .sub-scope-at .result))
+cast-hand-one-2 c = omega (arith, c .loop-test .taken, c .before .before .variable-count .ensures, c .before .before .before .before .before .before .before .before .before .before .pre .ready .sound .variables (c .before .before .before .sub-scope-at .result))
 
 hand-one-requires : tie.Need-hand-one-requires Inv-loop μ-loop
-hand-one-requires c κs = record { ready = c .before .before .before .before .before .before .before .before .before .before .before .before .pre .ready; room = omega (arith, c .before .before .loop .inv .size, c .before .loop-test .taken, c .before .before .before .variable-count .ensures, c .before .before .before .before .before .before .before .before .before .before .before .before .pre .ready .sound .variables (c .before .before .before .before .sub-scope-at .result)) }
+hand-one-requires c κs = record { ready = c .before .before .before .before .before .before .before .before .before .before .before .pre .ready; room = omega (arith, c .before .before .loop .inv .size, c .before .loop-test .taken, c .before .before .before .variable-count .ensures, c .before .before .before .before .before .before .before .before .before .before .before .pre .ready .sound .variables (c .before .before .before .before .sub-scope-at .result)) }
 
 enum-told : tie.Need-enum-told Inv-loop μ-loop
 enum-told c = search needs

@@ -5,7 +5,7 @@ use Rattle.scopes.proofs.recall_scope.Statement.{statement}
 use Rattle.scopes.proofs.recall_scope.Tie as tie
 use Rattle.scopes.proofs.recall_scope.Reads as reads
 use Rattle.scopes.proofs.recall_scope.Lts as lts
-use Rattle.tables.proofs.variable_count.Reads as variable-count-reads
+use Rattle.index.proofs.variable_count.Reads as variable-count-reads
 use Rattle.memo.proofs.none_given.Reads as none-given-reads
 use Rattle.memo.proofs.recall.Reads as recall-reads
 
@@ -22,7 +22,7 @@ same-length : tie.Need-same-length
 same-length c = search needs
 
 returns : tie.Need-returns
-returns c = recalled (c .before .before .before .before .before .before .before .before .before .before .before .before .pre) (c .before .before .before .before .none-given .ensures) (c .before .before .before .before .before .variable-count .ensures) (c .before .before .recall .kept .1 .1 .1 .0 ∙ c .before .before .before .before .before .before .before .before .before .before .before .before .pre .room) (c .before .before .recall .ensures)
+returns c = recalled (c .before .before .before .before .before .before .before .before .before .before .before .pre) (c .before .before .before .before .none-given .ensures) (c .before .before .before .before .before .variable-count .ensures) (c .before .before .recall .kept .1 .1 .1 .0 ∙ c .before .before .before .before .before .before .before .before .before .before .before .pre .room) (c .before .before .recall .ensures)
 
 pub recall-scope-spec : {M : Type 1} → statement M
 recall-scope-spec =

@@ -5,7 +5,7 @@ use Rattle.scopes.proofs.remember_scope.Statement.{statement}
 use Rattle.scopes.proofs.remember_scope.Tie as tie
 use Rattle.scopes.proofs.remember_scope.Reads as reads
 use Rattle.scopes.proofs.remember_scope.Lts as lts
-use Rattle.tables.proofs.variable_count.Reads as variable-count-reads
+use Rattle.index.proofs.variable_count.Reads as variable-count-reads
 use Rattle.memo.proofs.none_given.Reads as none-given-reads
 use Rattle.memo.proofs.remember.Reads as remember-reads
 
@@ -22,7 +22,7 @@ same-length : tie.Need-same-length
 same-length c = search needs
 
 returns : tie.Need-returns
-returns c = noted (c .before .before .before .before .before .before .before .before .before .before .before .before .pre .0) (c .before .before .before .before .none-given .ensures) (c .before .before .before .before .before .variable-count .ensures) (c .before .before .before .before .before .before .before .before .before .before .before .before .pre .1) (c .before .before .remember .kept .1 .1 .1 .1 .0 ∙ c .before .before .before .before .before .before .before .before .before .before .before .before .pre .0 .known .size) (c .before .before .remember .ensures)
+returns c = noted (c .before .before .before .before .before .before .before .before .before .before .before .pre .0) (c .before .before .before .before .none-given .ensures) (c .before .before .before .before .before .variable-count .ensures) (c .before .before .before .before .before .before .before .before .before .before .before .pre .1) (c .before .before .remember .kept .1 .1 .1 .1 .0 ∙ c .before .before .before .before .before .before .before .before .before .before .before .pre .0 .known .size) (c .before .before .remember .ensures)
 
 pub remember-scope-spec : {M : Type 1} → statement M
 remember-scope-spec =

@@ -9,7 +9,7 @@ variable-count-requires : tie.Need-variable-count-requires
 variable-count-requires c κs = search needs
 
 add-result : tie.Need-add-result
-add-result c = let l = c .before .before .before .before .pre .within .variables (c .before .before .before .before .args .i) in let e = c .variable-count .ensures in omega arith
+add-result c = let l = c .before .before .before .pre .within .variables (c .before .before .before .args .i) in let e = c .variable-count .ensures in omega arith
 
 returns : tie.Need-returns
 returns c = rw (c .variable-count .ensures)

@@ -11,10 +11,10 @@ use Rattle.steps.proofs.fill_calls.Statement.{statement}
 use Rattle.steps.proofs.fill_calls.Tie as tie
 
 abbrev Inv-loop : tie.InvT-loop
-Inv-loop book places counts scopes deps₀ i₀ deps i = (i ≤ scopes) × Marking deps₀ deps (rowsLeft (scopesOf book) i) (calls (scopesOf book))
+Inv-loop book index scopes deps₀ i₀ deps i = (i ≤ scopes) × Marking deps₀ deps (rowsLeft (scopesOf book) i) (calls (scopesOf book))
 
 abbrev μ-loop : tie.MeasureT-loop
-μ-loop book places counts scopes deps₀ i₀ deps i = scopes - i
+μ-loop book index scopes deps₀ i₀ deps i = scopes - i
 
 loop-holds : tie.Need-loop-holds Inv-loop μ-loop
 loop-holds c = (omega arith, rows-start _ _)

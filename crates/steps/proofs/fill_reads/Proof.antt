@@ -12,10 +12,10 @@ use Rattle.steps.proofs.fill_reads.Statement.{statement}
 use Rattle.steps.proofs.fill_reads.Tie as tie
 
 abbrev Inv-loop : tie.InvT-loop
-Inv-loop book places counts i deps₀ count c₀ deps c = (c ≤ count) × Marking deps₀ deps (clausesLeft (scopesOf book) i c) (dependsOn (scopeAt (scopesOf book) i))
+Inv-loop book index i deps₀ count c₀ deps c = (c ≤ count) × Marking deps₀ deps (clausesLeft (scopesOf book) i c) (dependsOn (scopeAt (scopesOf book) i))
 
 abbrev μ-loop : tie.MeasureT-loop
-μ-loop book places counts i deps₀ count c₀ deps c = count - c
+μ-loop book index i deps₀ count c₀ deps c = count - c
 
 clause-count-requires : tie.Need-clause-count-requires Inv-loop μ-loop
 clause-count-requires c κs = search needs

@@ -9,10 +9,10 @@ use Rattle.steps.proofs.fill_steps.Statement.{statement}
 use Rattle.steps.proofs.fill_steps.Tie as tie
 
 abbrev Inv-loop : tie.InvT-loop
-Inv-loop book places counts scopes orders₀ i₀ orders i = Filling (scopesOf book) orders₀ orders i
+Inv-loop book index scopes orders₀ i₀ orders i = Filling (scopesOf book) orders₀ orders i
 
 abbrev μ-loop : tie.MeasureT-loop
-μ-loop book places counts scopes orders₀ i₀ orders i = scopes - i
+μ-loop book index scopes orders₀ i₀ orders i = scopes - i
 
 loop-holds : tie.Need-loop-holds Inv-loop μ-loop
 loop-holds c = begin _ _
@@ -56,8 +56,8 @@ loop-less c = omega arith
 loop-again : tie.Need-loop-again Inv-loop μ-loop
 loop-again c =
     let m = c .before .before .before .before in
-    fill _ _ _ _ (m .before .before .before .loop .inv) (m .before .before .before .before .before .before .before .before .pre .0 .within)
-    (omega arith) (omega arith) (omega arith) _ _ _ (m .step-order .ensures) (m .step-order .kept .1 .1 .1 .1 .0)
+    fill _ _ _ _ (m .before .before .before .loop .inv) (m .before .before .before .before .before .before .before .pre .0 .within)
+    (omega arith) (omega arith) (omega arith) _ _ _ (m .step-order .ensures) (m .step-order .kept .1 .1 .1 .0)
     (c .before .step-count .ensures) (c .if1 .left)
 
 same-length-2 : tie.Need-same-length-2 Inv-loop μ-loop

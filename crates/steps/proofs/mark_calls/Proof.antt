@@ -11,10 +11,10 @@ use Rattle.steps.proofs.mark_calls.Statement.{statement}
 use Rattle.steps.proofs.mark_calls.Tie as tie
 
 abbrev Inv-loop : tie.InvT-loop
-Inv-loop book places counts i deps₀ count k₀ deps k = (k ≤ count) × Marking deps₀ deps (callsLeft (scopesOf book) i k) (callEdges (scopesOf book) i)
+Inv-loop book index i deps₀ count k₀ deps k = (k ≤ count) × Marking deps₀ deps (callsLeft (scopesOf book) i k) (callEdges (scopesOf book) i)
 
 abbrev μ-loop : tie.MeasureT-loop
-μ-loop book places counts i deps₀ count k₀ deps k = count - k
+μ-loop book index i deps₀ count k₀ deps k = count - k
 
 sub-scope-count-requires : tie.Need-sub-scope-count-requires Inv-loop μ-loop
 sub-scope-count-requires c κs = search needs

@@ -13,7 +13,7 @@ variable-count-requires c κs = search needs
 
 step-with-requires : tie.Need-step-with-requires
 step-with-requires c κs =
-    let s = c .before .before .before .before .before .before in
+    let s = c .before .before .before .before .before in
     rw (c .variable-count .ensures) (s .pre .0 .within .variables (s .args .i))
 
 node-count-requires : tie.Need-node-count-requires
@@ -36,7 +36,7 @@ same-length c = search needs
 
 returns : tie.Need-returns
 returns c =
-    let s = c .before .before .before .before .before .before .before .before .before .before .before .before .before .before .before .before .before .before .before in
+    let s = c .before .before .before .before .before .before .before .before .before .before .before .before .before .before .before .before .before .before in
     let m = c .before .before .before .before .before in
     definition _ _ _ (s .pre .0 .within .nodes (s .args .i)) _
     (m .before .before .before .before .before .before .before .before .before .clause-at .ensures) _ _ _
@@ -50,7 +50,7 @@ same-length-2 c = search needs
 
 returns-2 : tie.Need-returns-2
 returns-2 c =
-    let s = c .before .before .before .before .before .before .before .before .before .before .before .before .before .before in
+    let s = c .before .before .before .before .before .before .before .before .before .before .before .before .before in
     let m = c .before .before .before .before in
     rule _ _ _ (s .pre .0 .within .nodes (s .args .i)) _ (m .before .before .before .before .before .clause-at .ensures) _ _ _
     (m .before .before .before .before .variable-count .ensures) (m .before .before .before .step-with .ensures)

@@ -14,7 +14,7 @@ sub-scope-count-requires c κs = search needs
 
 add-result : tie.Need-add-result
 add-result c =
-    let s = c .before .before .before .before .before in
+    let s = c .before .before .before .before in
     omega
     (arith, c .before .variable-count .ensures, c .sub-scope-count .ensures, s .pre .within .variables (s .args .i), s .pre .within .subScopes (s .args .i))
 

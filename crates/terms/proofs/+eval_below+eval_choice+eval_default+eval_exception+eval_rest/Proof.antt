@@ -34,7 +34,7 @@ use Rattle.terms.proofs.+eval_below+eval_choice+eval_default+eval_excep
 use Rattle.terms.proofs.eval_rest.Reads as eval-rest
 use Rattle.terms.proofs.eval_rest.Kinds as eval-rest-kinds
 use Rattle.terms.proofs.+eval_below+eval_choice+eval_default+eval_exception+eval_rest.Lts-eval_rest as eval-rest-lts
-use Rattle.tables.proofs.node_at.Reads as node-at-reads
+use Rattle.index.proofs.node_at.Reads as node-at-reads
 use Rattle.operators.proofs.eval_binary.Reads as eval-binary-reads
 use Rattle.operators.proofs.eval_unary.Reads as eval-unary-reads
 use Rattle.defaults.proofs.gather.Reads as gather-reads
@@ -45,71 +45,71 @@ use Rattle.terms.proofs.value_at.Reads as value-at-reads
 use Rattle.terms.proofs.+eval_below+eval_choice+eval_default+eval_exception+eval_rest.{statement}
 use Rattle.terms.proofs.+eval_below+eval_choice+eval_default+eval_exception+eval_rest.Tie.{close}
 
-abbrev μ-eval-below : Measures 5 eval-below-kinds.ps ℕ
-μ-eval-below κs a = 3 * (a .1 .1 .1 .1 .1 .1 .0)
+abbrev μ-eval-below : Measures 4 eval-below-kinds.ps ℕ
+μ-eval-below κs a = 3 * (a .1 .1 .1 .1 .1 .0)
 
-abbrev μ-eval-choice : Measures 5 eval-choice-kinds.ps ℕ
-μ-eval-choice κs a = 3 * (a .1 .1 .1 .1 .1 .1 .0) + 1
+abbrev μ-eval-choice : Measures 4 eval-choice-kinds.ps ℕ
+μ-eval-choice κs a = 3 * (a .1 .1 .1 .1 .1 .0) + 1
 
-abbrev μ-eval-default : Measures 5 eval-default-kinds.ps ℕ
-μ-eval-default κs a = 3 * (a .1 .1 .1 .1 .1 .1 .0) + 2
+abbrev μ-eval-default : Measures 4 eval-default-kinds.ps ℕ
+μ-eval-default κs a = 3 * (a .1 .1 .1 .1 .1 .0) + 2
 
-abbrev μ-eval-exception : Measures 5 eval-exception-kinds.ps ℕ
-μ-eval-exception κs a = 3 * (a .1 .1 .1 .1 .1 .1 .0) + 1
+abbrev μ-eval-exception : Measures 4 eval-exception-kinds.ps ℕ
+μ-eval-exception κs a = 3 * (a .1 .1 .1 .1 .1 .0) + 1
 
-abbrev μ-eval-rest : Measures 5 eval-rest-kinds.ps ℕ
-μ-eval-rest κs a = 3 * (a .1 .1 .1 .1 .1 .1 .0) + 1
+abbrev μ-eval-rest : Measures 4 eval-rest-kinds.ps ℕ
+μ-eval-rest κs a = 3 * (a .1 .1 .1 .1 .1 .0) + 1
 
-abbrev eval-below-at : ℕ → In 5 eval-below-kinds.ps
+abbrev eval-below-at : ℕ → In 4 eval-below-kinds.ps
 eval-below-at t =
-    and 5 eval-below-kinds.ps (is 5 eval-below-kinds.ps μ-eval-below t) eval-below.Pre
+    and 4 eval-below-kinds.ps (is 4 eval-below-kinds.ps μ-eval-below t) eval-below.Pre
 
-abbrev eval-below-below : ℕ → In 5 eval-below-kinds.ps
+abbrev eval-below-below : ℕ → In 4 eval-below-kinds.ps
 eval-below-below t =
-    and 5 eval-below-kinds.ps (falls 5 eval-below-kinds.ps _<_ μ-eval-below t) eval-below.Pre
+    and 4 eval-below-kinds.ps (falls 4 eval-below-kinds.ps _<_ μ-eval-below t) eval-below.Pre
 
-abbrev eval-choice-at : ℕ → In 5 eval-choice-kinds.ps
+abbrev eval-choice-at : ℕ → In 4 eval-choice-kinds.ps
 eval-choice-at t =
-    and 5 eval-choice-kinds.ps (is 5 eval-choice-kinds.ps μ-eval-choice t) eval-choice.Pre
+    and 4 eval-choice-kinds.ps (is 4 eval-choice-kinds.ps μ-eval-choice t) eval-choice.Pre
 
-abbrev eval-choice-below : ℕ → In 5 eval-choice-kinds.ps
+abbrev eval-choice-below : ℕ → In 4 eval-choice-kinds.ps
 eval-choice-below t =
-    and 5 eval-choice-kinds.ps (falls 5 eval-choice-kinds.ps _<_ μ-eval-choice t) eval-choice.Pre
+    and 4 eval-choice-kinds.ps (falls 4 eval-choice-kinds.ps _<_ μ-eval-choice t) eval-choice.Pre
 
-abbrev eval-default-at : ℕ → In 5 eval-default-kinds.ps
+abbrev eval-default-at : ℕ → In 4 eval-default-kinds.ps
 eval-default-at t =
-    and 5 eval-default-kinds.ps (is 5 eval-default-kinds.ps μ-eval-default t) eval-default.Pre
+    and 4 eval-default-kinds.ps (is 4 eval-default-kinds.ps μ-eval-default t) eval-default.Pre
 
-abbrev eval-default-below : ℕ → In 5 eval-default-kinds.ps
+abbrev eval-default-below : ℕ → In 4 eval-default-kinds.ps
 eval-default-below t =
     and
-    5
+    4
     eval-default-kinds.ps
-    (falls 5 eval-default-kinds.ps _<_ μ-eval-default t)
+    (falls 4 eval-default-kinds.ps _<_ μ-eval-default t)
     eval-default.Pre
 
-abbrev eval-exception-at : ℕ → In 5 eval-exception-kinds.ps
+abbrev eval-exception-at : ℕ → In 4 eval-exception-kinds.ps
 eval-exception-at t =
     and
-    5
+    4
     eval-exception-kinds.ps
-    (is 5 eval-exception-kinds.ps μ-eval-exception t)
+    (is 4 eval-exception-kinds.ps μ-eval-exception t)
     eval-exception.Pre
 
-abbrev eval-exception-below : ℕ → In 5 eval-exception-kinds.ps
+abbrev eval-exception-below : ℕ → In 4 eval-exception-kinds.ps
 eval-exception-below t =
     and
-    5
+    4
     eval-exception-kinds.ps
-    (falls 5 eval-exception-kinds.ps _<_ μ-eval-exception t)
+    (falls 4 eval-exception-kinds.ps _<_ μ-eval-exception t)
     eval-exception.Pre
 
-abbrev eval-rest-at : ℕ → In 5 eval-rest-kinds.ps
-eval-rest-at t = and 5 eval-rest-kinds.ps (is 5 eval-rest-kinds.ps μ-eval-rest t) eval-rest.Pre
+abbrev eval-rest-at : ℕ → In 4 eval-rest-kinds.ps
+eval-rest-at t = and 4 eval-rest-kinds.ps (is 4 eval-rest-kinds.ps μ-eval-rest t) eval-rest.Pre
 
-abbrev eval-rest-below : ℕ → In 5 eval-rest-kinds.ps
+abbrev eval-rest-below : ℕ → In 4 eval-rest-kinds.ps
 eval-rest-below t =
-    and 5 eval-rest-kinds.ps (falls 5 eval-rest-kinds.ps _<_ μ-eval-rest t) eval-rest.Pre
+    and 4 eval-rest-kinds.ps (falls 4 eval-rest-kinds.ps _<_ μ-eval-rest t) eval-rest.Pre
 
 abbrev R-eval-below : ℕ → eval-below-lts.Claims
 R-eval-below t =
@@ -136,12 +136,12 @@ After t = eval-below-lts.After-node-at (R-eval-below t) (eval-below-at t) eval-b
 
 -- the outcome of node n, by the variant that it was found to be
 found : (t : ℕ) (c : After t) (nd : Node) → c .node-at .result ≡ nd →
-    let s = c .before .before .before .before .before .before .before .args in
+    let s = c .before .before .before .before .before .before .args in
     outcomeBelow (now (s .book)) (now (s .own)) (now (s .called)) (s .i) (s .limit) (s .n)
     ≡ eval (envOf (now (s .own)) (now (s .called))) (nodeTerm (termBelow (scopeAt (scopesOf (now (s .book))) (s .i) .nodes) (s .n)) nd)
 found t c nd told =
-    let s = c .before .before .before .before .before .before .before .args in
-    let few = c .before .before .before .before .before .before .before .pre .1 .few in
+    let s = c .before .before .before .before .before .before .args in
+    let few = c .before .before .before .before .before .before .pre .1 .few in
     here (now (s .book)) (now (s .own)) (now (s .called)) (s .i) (s .limit) (s .n) _ nd (c .before .if1 .left) few (c .node-at .ensures) told
 
 eval-below-returns : (t : ℕ) → eval-below-lts.Need-returns (R-eval-below t) (eval-below-at t) eval-below.Post

@@ -12,11 +12,11 @@ slot-of-requires c κs = search needs
 
 eval-chain-requires : tie.Need-eval-chain-requires
 eval-chain-requires c κs =
-    let few = slot-few _ _ _ _ _ (c .before .before .before .before .before .before .before .pre) _ _ _ (c .slot-of .ensures) in
-    record { ready = c .before .before .before .before .before .before .before .pre; head = omega arith }
+    let few = slot-few _ _ _ _ (c .before .before .before .before .before .before .pre) _ _ _ (c .slot-of .ensures) in
+    record { ready = c .before .before .before .before .before .before .pre; head = omega arith }
 
 add-byte-at : tie.Need-add-byte-at
-add-byte-at c = let few = slot-few _ _ _ _ _ (c .before .before .before .before .before .before .before .before .pre) _ _ _ (c .before .slot-of .ensures) in omega arith
+add-byte-at c = let few = slot-few _ _ _ _ (c .before .before .before .before .before .before .before .pre) _ _ _ (c .before .slot-of .ensures) in omega arith
 
 byte-at-requires : tie.Need-byte-at-requires
 byte-at-requires c κs = search needs
@@ -30,12 +30,12 @@ settle-requires-2 c κs = search needs
 returns : tie.Need-returns
 returns c =
     c .settle .ensures
-    ∙ tree-unruled _ _ _ _ _ (c .before .before .before .before .before .before .before .before .before .before .before .pre) _ _ _ (c .before .before .before .before .slot-of .ensures) _ _ _ (c .before .before .before .eval-chain .ensures) _ (c .before .before .byte-at .ensures) (c .before .if1 .taken)
+    ∙ tree-unruled _ _ _ _ (c .before .before .before .before .before .before .before .before .before .before .pre) _ _ _ (c .before .before .before .before .slot-of .ensures) _ _ _ (c .before .before .before .eval-chain .ensures) _ (c .before .before .byte-at .ensures) (c .before .if1 .taken)
 
 returns-2 : tie.Need-returns-2
 returns-2 c =
     c .settle2 .ensures
-    ∙ tree-ruled _ _ _ _ _ (c .before .before .before .before .before .before .before .before .before .before .before .pre) _ _ _ (c .before .before .before .before .slot-of .ensures) _ _ _ (c .before .before .before .eval-chain .ensures) _ (c .before .before .byte-at .ensures) (c .before .if1 .left)
+    ∙ tree-ruled _ _ _ _ (c .before .before .before .before .before .before .before .before .before .before .pre) _ _ _ (c .before .before .before .before .slot-of .ensures) _ _ _ (c .before .before .before .eval-chain .ensures) _ (c .before .before .byte-at .ensures) (c .before .if1 .left)
 
 pub eval-tree-spec : {M : Type 1} → statement M
 eval-tree-spec =

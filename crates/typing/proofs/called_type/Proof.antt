@@ -1,6 +1,6 @@
 -- `typing::called_type` meets its contract.
 -- Assumes nothing.
-use Rattle.book.specs.Tables.{subScopeAt}
+use Rattle.book.specs.Positions.{subScopeAt}
 use Rattle.typing.specs.Types.{ownType, calledType}
 use borrow.Author.Needs.{needs}
 use Rattle.typing.proofs.called_type.Statement.{statement}

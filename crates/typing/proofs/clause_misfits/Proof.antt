@@ -7,17 +7,17 @@ use native.Mathlib.Omega.{arith}
 use borrow.Author.Needs.{needs}
 use Rattle.book.specs.Decode.{scopesOf}
 use Rattle.book.specs.References.{scopeAt, noClause}
-use Rattle.book.specs.Tables.{clauseAt}
+use Rattle.book.specs.Positions.{clauseAt}
 use Rattle.typing.specs.Types.{clauseSuits, clauseMisfits}
 use Rattle.book.proofs.Searches.{Sought, start, turn, found, ended, any-from}
 use Rattle.typing.proofs.clause_misfits.Statement.{statement}
 use Rattle.typing.proofs.clause_misfits.Tie as tie
 
 abbrev Inv-loop : tie.InvT-loop
-Inv-loop book places counts i types count n₀ n = Sought (λ k c. not (clauseSuits (scopesOf book) i types c)) (scopeAt (scopesOf book) i .clauses) n
+Inv-loop book index i types count n₀ n = Sought (λ k c. not (clauseSuits (scopesOf book) i types c)) (scopeAt (scopesOf book) i .clauses) n
 
 abbrev μ-loop : tie.MeasureT-loop
-μ-loop book places counts i types count n₀ n = count - n
+μ-loop book index i types count n₀ n = count - n
 
 clause-count-requires : tie.Need-clause-count-requires Inv-loop μ-loop
 clause-count-requires c κs = search needs

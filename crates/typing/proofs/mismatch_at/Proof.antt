@@ -11,15 +11,15 @@ use Rattle.book.specs.References.{scopeAt}
 use Rattle.book.specs.Syntax.{noNode}
 use Rattle.book.proofs.Searches.{Sought, found, ended}
 use Rattle.book.proofs.Searches.{start as begin, turn as pass}
-use Rattle.typing.proofs.Table.{few, misfit, Table, start, turn, told, mismatch-found, clause-left}
+use Rattle.typing.proofs.Table.{misfit, Table, start, turn, told, mismatch-found, clause-left}
 use Rattle.typing.proofs.mismatch_at.Statement.{statement}
 use Rattle.typing.proofs.mismatch_at.Tie as tie
 
 abbrev Inv-loop : tie.InvT-loop
-Inv-loop book places counts i types₀ count n₀ types n = Table (scopesOf book) i types n × Sought (misfit (scopesOf book) i) (scopeAt (scopesOf book) i .nodes) n
+Inv-loop book index i types₀ count n₀ types n = Table (scopesOf book) i types n × Sought (misfit (scopesOf book) i) (scopeAt (scopesOf book) i .nodes) n
 
 abbrev μ-loop : tie.MeasureT-loop
-μ-loop book places counts i types₀ count n₀ types n = count - n
+μ-loop book index i types₀ count n₀ types n = count - n
 
 node-count-requires : tie.Need-node-count-requires Inv-loop μ-loop
 node-count-requires c κs = search needs
@@ -31,15 +31,14 @@ node-at-requires : tie.Need-node-at-requires Inv-loop μ-loop
 node-at-requires c κs = search needs
 
 -- the node's number: below the count of nodes, and below 256
-within : (c : tie.In-loop Inv-loop μ-loop) → c .before .loop .n < length (scopeAt (scopesOf (now (c .before .before .before .before .before .before .args .book))) (c .before .before .before .before .before .before .args .i) .nodes)
+within : (c : tie.In-loop Inv-loop μ-loop) → c .before .loop .n < length (scopeAt (scopesOf (now (c .before .before .before .before .before .args .book))) (c .before .before .before .before .before .args .i) .nodes)
 within c = rw (← c .before .before .node-count .ensures) (c .loop-test .taken)
 
 small : (c : tie.In-loop Inv-loop μ-loop) → c .before .loop .n < 256
 small c =
-    let s = c .before .before .before .before .before .before in
-    let f = few (now (s .args .counts)) (s .args .i) _ (omega (arith, c .before .before .before .shared-slice-known3 .given (s .args .i * 4 + 2))) (s .pre .0 .nodeCount (s .args .i)) in
+    let s = c .before .before .before .before .before in
     let w = within c in
-    omega arith
+    omega (arith, s .pre .0 .within .nodes (s .args .i))
 
 slice-aggregate-node-suits : tie.Need-slice-aggregate-node-suits Inv-loop μ-loop
 slice-aggregate-node-suits c = search needs
@@ -50,7 +49,7 @@ node-suits-requires c κs = search needs
 returns : tie.Need-returns Inv-loop μ-loop
 returns c =
     let at = c .before .before .before .before in
-    let s = at .before .before .before .before .before .before in
+    let s = at .before .before .before .before .before in
     mismatch-found _ _
     (found _ _ _ (at .before .loop .inv .1) noNode (within at)
     (told _ _ _ _ (at .before .loop .inv .0) (within at) (s .pre .1) _ (c .before .before .before .node-at .ensures) _ (c .before .node-suits .ensures) ∙ c .if1 .taken))
@@ -76,7 +75,7 @@ loop-less c = omega arith
 loop-again : tie.Need-loop-again Inv-loop μ-loop
 loop-again c =
     let at = c .before .before .before .before .before .before .before in
-    let s = at .before .before .before .before .before .before in (
+    let s = at .before .before .before .before .before in (
       turn _ _ _ _ (at .before .loop .inv .0) (small at) (within at) _ _ _
           (c .before .before .before .before .before .before .node-at .ensures)
           (c .before .type-over .ensures)

@@ -1,6 +1,6 @@
 -- `typing::own_type` meets its contract.
 -- Assumes nothing.
-use Rattle.book.specs.Tables.{variableAt}
+use Rattle.book.specs.Positions.{variableAt}
 use Rattle.typing.specs.Types.{ownType}
 use borrow.Author.Needs.{needs}
 use Rattle.typing.proofs.own_type.Statement.{statement}

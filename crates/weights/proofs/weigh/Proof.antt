@@ -12,11 +12,11 @@ use Rattle.weights.proofs.weigh.Statement.{statement}
 use Rattle.weights.proofs.weigh.Tie as tie
 
 abbrev Inv-loop : tie.InvT-loop
-Inv-loop book places counts i weights count total₀ k₀ total k =
+Inv-loop book index i weights count total₀ k₀ total k =
     (k ≤ count) × (total ≤ 1 + k * 65535) × (total + sumFrom (scopesOf book) i weights k ≡ weightBy weights (scopeAt (scopesOf book) i))
 
 abbrev μ-loop : tie.MeasureT-loop
-μ-loop book places counts i weights count total₀ k₀ total k = count - k
+μ-loop book index i weights count total₀ k₀ total k = count - k
 
 sub-scope-count-requires : tie.Need-sub-scope-count-requires Inv-loop μ-loop
 sub-scope-count-requires c κs = search needs
@@ -32,7 +32,7 @@ weight-at-requires c κs = search needs
 
 add-total : tie.Need-add-total Inv-loop μ-loop
 add-total c =
-    let s = c .before .before .before .before .before .before .before .before .before in
+    let s = c .before .before .before .before .before .before .before .before in
     omega (arith, c .before .before .before .before .sub-scope-count .ensures, s .pre .within .subScopes (s .args .i))
 
 add-k : tie.Need-add-k Inv-loop μ-loop

@@ -1,0 +1,197 @@
+// A book by its index: how many variables, sub-scopes, nodes and clauses each scope has, and each of them read from its record.
+use book::Clause;
+use book::Consequence;
+use book::Node;
+use book::Target;
+use book::ValueType;
+use book::Variable;
+use calculus::Binary;
+use calculus::Unary;
+use integers::number_at;
+use types::type_of;
+ghost use mathlib.Core.Path.{_≡_};
+ghost use Prim.Native.Nat.{_+_, _<_};
+ghost use lib.ListN.{length, getD};
+ghost use Rattle.book.specs.Decode.{scopesOf};
+ghost use Rattle.book.specs.References.{scopeAt};
+ghost use Rattle.book.specs.Positions.{nodeFrom, clauseFrom, nodeLength, variableAt, subScopeAt, nodeAt, clauseAt};
+ghost use Rattle.index.specs.Index.{indexAt, Laid};
+
+// The rows of an index, and where each sort of records begins in one: four counts stand before them.
+const SCOPES: usize = 32;
+
+pub const ROW: usize = 422;
+
+pub const VARIABLES: usize = 4;
+
+pub const SUB_SCOPES: usize = 36;
+
+pub const NODES: usize = 44;
+
+pub const CLAUSES: usize = 294;
+
+// The node whose record begins at a position.
+fn node_of(book: &[u8], at: usize) -> Node
+    requires { ⌜ at + nodeLength (getD (now book) at 0) < length (now book) ⌝ }
+    ensures { λ r. ⌜ r ≡ nodeFrom (now (book .entry)) at ⌝ }
+{
+    let a = book[at + 1];
+    match book[at] {
+        4 => Node::Constant(a == 1),
+        5 => Node::Number(number_at(book, at + 1)),
+        6 => Node::Own(a),
+        7 => Node::Called(a, book[at + 2]),
+        8 => Node::Empty(type_of(a)),
+        9 => Node::Conflict(type_of(a)),
+        10 => Node::Unary(Unary::Not, a),
+        11 => Node::Unary(Unary::Negate, a),
+        12 => Node::Binary(Binary::And, a, book[at + 2]),
+        13 => Node::Binary(Binary::Add, a, book[at + 2]),
+        14 => Node::Binary(Binary::Subtract, a, book[at + 2]),
+        15 => Node::Binary(Binary::Equal, a, book[at + 2]),
+        16 => Node::Binary(Binary::Less, a, book[at + 2]),
+        17 => Node::Choice(a, book[at + 2], book[at + 3]),
+        _ => Node::Default(a, book[at + 2], book[at + 3], book[at + 4], book[at + 5]),
+    }
+}
+
+// The clause whose record begins at a position.
+fn clause_of(book: &[u8], at: usize) -> Clause
+    requires { ⌜ at + 5 < length (now book) ⌝ }
+    ensures { λ r. ⌜ r ≡ clauseFrom (now (book .entry)) at ⌝ }
+{
+    let last = book[at + 5];
+    let target = Target {
+        sub: book[at + 1],
+        variable: book[at + 2],
+    };
+    let parent = book[at + 3];
+    let condition = book[at + 4];
+    let consequence = if book[at] == 19 {
+        Consequence::Of(last)
+    } else {
+        Consequence::Fixed(last == 1)
+    };
+    Clause {
+        target,
+        parent,
+        condition,
+        consequence,
+    }
+}
+
+// Column k of scope i's row.
+fn column_at(index: &[u16], i: usize, k: usize) -> usize
+    requires { ⌜ (length (now index) ≡ 13504) × (i < 32) × (k < 422) ⌝ }
+    ensures { λ r. ⌜ r ≡ indexAt (now (index .entry)) i k ⌝ }
+{
+    index[i * ROW + k] as usize
+}
+
+// How many records of a sort scope i has: 0 variables, 1 sub-scopes, 2 nodes, 3 clauses.
+fn count_at(index: &[u16], i: usize, sort: usize) -> usize
+    requires { ⌜ (length (now index) ≡ 13504) × (sort < 4) ⌝ }
+    ensures { λ r. ⌜ r ≡ indexAt (now (index .entry)) i sort ⌝ }
+{
+    if SCOPES <= i {
+        return 0;
+    }
+    column_at(index, i, sort)
+}
+
+// How many variables scope i has.
+pub fn variable_count(book: &[u8], index: &[u16], i: usize) -> usize
+    requires { ⌜ Laid (now book) (now index) ⌝ }
+    ensures { λ r. ⌜ r ≡ length (scopeAt (scopesOf (now (book .entry))) i .variables) ⌝ }
+{
+    count_at(index, i, 0)
+}
+
+// How many sub-scopes scope i has.
+pub fn sub_scope_count(book: &[u8], index: &[u16], i: usize) -> usize
+    requires { ⌜ Laid (now book) (now index) ⌝ }
+    ensures { λ r. ⌜ r ≡ length (scopeAt (scopesOf (now (book .entry))) i .subScopes) ⌝ }
+{
+    count_at(index, i, 1)
+}
+
+// How many nodes scope i has.
+pub fn node_count(book: &[u8], index: &[u16], i: usize) -> usize
+    requires { ⌜ Laid (now book) (now index) ⌝ }
+    ensures { λ r. ⌜ r ≡ length (scopeAt (scopesOf (now (book .entry))) i .nodes) ⌝ }
+{
+    count_at(index, i, 2)
+}
+
+// How many clauses scope i has.
+pub fn clause_count(book: &[u8], index: &[u16], i: usize) -> usize
+    requires { ⌜ Laid (now book) (now index) ⌝ }
+    ensures { λ r. ⌜ r ≡ length (scopeAt (scopesOf (now (book .entry))) i .clauses) ⌝ }
+{
+    count_at(index, i, 3)
+}
+
+// Variable v of scope i.
+pub fn variable_at(book: &[u8], index: &[u16], i: usize, v: usize) -> Variable
+    requires { ⌜ Laid (now book) (now index) ⌝ }
+    ensures { λ r. ⌜ r ≡ variableAt (scopesOf (now (book .entry))) i v ⌝ }
+{
+    if v < count_at(index, i, 0) {
+        let at = column_at(index, i, VARIABLES + v);
+        Variable {
+            holds: type_of(book[at + 1]),
+        }
+    } else {
+        Variable {
+            holds: ValueType::YesNo,
+        }
+    }
+}
+
+// The scope number of sub-scope k of scope i.
+pub fn sub_scope_at(book: &[u8], index: &[u16], i: usize, k: usize) -> usize
+    requires { ⌜ Laid (now book) (now index) ⌝ }
+    ensures { λ r. ⌜ r ≡ subScopeAt (scopesOf (now (book .entry))) i k ⌝ }
+{
+    if k < count_at(index, i, 1) {
+        let at = column_at(index, i, SUB_SCOPES + k);
+        book[at + 1] as usize
+    } else {
+        0
+    }
+}
+
+// Node n of scope i.
+pub fn node_at(book: &[u8], index: &[u16], i: usize, n: usize) -> Node
+    requires { ⌜ Laid (now book) (now index) ⌝ }
+    ensures { λ r. ⌜ r ≡ nodeAt (scopesOf (now (book .entry))) i n ⌝ }
+{
+    if n < count_at(index, i, 2) {
+        let at = column_at(index, i, NODES + n);
+        node_of(book, at)
+    } else {
+        Node::Constant(false)
+    }
+}
+
+// Clause c of scope i.
+pub fn clause_at(book: &[u8], index: &[u16], i: usize, c: usize) -> Clause
+    requires { ⌜ Laid (now book) (now index) ⌝ }
+    ensures { λ r. ⌜ r ≡ clauseAt (scopesOf (now (book .entry))) i c ⌝ }
+{
+    if c < count_at(index, i, 3) {
+        let at = column_at(index, i, CLAUSES + c);
+        clause_of(book, at)
+    } else {
+        let target = Target {
+            sub: 255,
+            variable: 255,
+        };
+        Clause {
+            target,
+            parent: 255,
+            condition: 255,
+            consequence: Consequence::Fixed(false),
+        }
+    }
+}
