@@ -9,6 +9,7 @@ pub mod damage;
 pub mod draft;
 pub mod faults;
 pub mod fixed;
+pub mod handed;
 pub mod handmade;
 pub mod inputs;
 pub mod long;

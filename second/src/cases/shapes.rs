@@ -205,13 +205,19 @@ fn renumber(rng: &mut Random, draft: &mut Draft) {
     draft.permute(&place);
 }
 
-/// A book whose heaviest scope weighs exactly 4,096.
-pub fn heaviest(rng: &mut Random, renumbered: bool) -> Draft {
+/// Scopes of nothing but calls, the last of which weighs exactly 4,096.
+pub(super) fn heaviest_calls() -> Draft {
     let mut draft = doubling(12);
     draft.scopes.push(DraftScope {
         subscopes: vec![11],
         ..DraftScope::default()
     });
+    draft
+}
+
+/// A book whose heaviest scope weighs exactly 4,096.
+pub fn heaviest(rng: &mut Random, renumbered: bool) -> Draft {
+    let mut draft = heaviest_calls();
     furnish(rng, &mut draft);
     if renumbered {
         renumber(rng, &mut draft);
