@@ -1,28 +1,38 @@
 //! Time a call, the engine's and the second program's, on named books, in one run.
 
+use crate::clock;
 use crate::engine;
 use crate::evaluating::outcome;
 use crate::family;
 use crate::ocaml;
-use second::cases;
+use crate::stack;
+use second::cases::{self, draft::Draft};
+use second::Outcome;
 use std::hint::black_box;
 use std::time::Instant;
 
-/// Microseconds of one call in a round of about a millisecond.
+/// Microseconds of processor time of one call, in a round of about a millisecond.
 fn round(call: &mut impl FnMut()) -> f64 {
-    let (start, mut calls) = (Instant::now(), 0u32);
+    let (before, start, mut calls) = (clock::microseconds(), Instant::now(), 0u32);
     while start.elapsed().as_micros() < 1000 {
         call();
         calls += 1;
     }
-    start.elapsed().as_secs_f64() * 1e6 / f64::from(calls)
+    (clock::microseconds() - before) / f64::from(calls)
 }
+
+/// Most rounds of a row, and the seconds after which no other begins.
+const ROUNDS: usize = 300;
+const SECONDS: u64 = 3;
 
 /// Microseconds of one call of each: the best of many rounds, in turns, so that what
 /// else the machine does slows both alike.
 fn times(mut one: impl FnMut(), mut other: impl FnMut()) -> (f64, f64) {
+    let start = Instant::now();
+    let in_time = |_: &usize| start.elapsed().as_secs() < SECONDS;
     let best = |(a, b): (f64, f64), _| (a.min(round(&mut one)), b.min(round(&mut other)));
-    (0..300).fold((f64::INFINITY, f64::INFINITY), best)
+    let rounds = (0..ROUNDS).take_while(in_time);
+    rounds.fold((f64::INFINITY, f64::INFINITY), best)
 }
 
 fn line(service: &str, book: &str, engine: f64, second: f64) {
@@ -30,27 +40,65 @@ fn line(service: &str, book: &str, engine: f64, second: f64) {
     println!("| {service} | {book} | {engine:.2} | {second:.2} | {ratio:.2} |");
 }
 
-/// The smallest worked example of the specification, a book of a real law's size, and
-/// fixed cases by name.
-fn books() -> Vec<(String, Vec<u8>, usize)> {
+/// A book, and the scope of it that is asked for.
+struct Book {
+    name: String,
+    bytes: Vec<u8>,
+    scope: usize,
+}
+
+impl Book {
+    fn new(name: &str, bytes: Vec<u8>, scope: usize) -> Book {
+        let name = name.to_string();
+        Book { name, bytes, scope }
+    }
+}
+
+/// A draft whose last scope has this weight and enters as many scopes: evaluating it must
+/// end in values, the second program's and those of running its code.
+fn entering(count: usize, name: &str, draft: &Draft) -> Book {
+    let (bytes, scope) = (draft.bytes(), draft.scopes.len() - 1);
+    let weight = second::weights_of(&bytes).map(|weights| weights[scope]);
+    assert_eq!(weight, Ok(count), "{name}: the weight");
+    let [mut ours, mut theirs, mut of_code] = [[0; 192]; 3];
+    let answer = engine::evaluate(&bytes, scope, &[], &mut ours);
+    let entered = answer.map(|answer| (answer.outcome, answer.count));
+    assert_eq!(entered, Ok((Outcome::Values, count)), "{name}: evaluated");
+    let second = second::evaluate(&bytes, scope, &[], &mut theirs);
+    assert_eq!((second, theirs), (answer, ours), "{name}: second program");
+    let ran = engine::run(&compiled(&bytes), scope, &[], &mut of_code);
+    assert_eq!((ran, of_code), (answer, ours), "{name}: run");
+    Book::new(name, bytes, scope)
+}
+
+/// The smallest worked example of the specification, a book of a real law's size, fixed
+/// cases by name, the deepest nesting of scopes, and two books in which every call hands a
+/// value over.
+fn books() -> Vec<Book> {
     let text = "010202020105004593C00601050022C9E013FF00FFFF0013FF00000102";
     let byte = |at: usize| u8::from_str_radix(&text[at..at + 2], 16).expect("hexadecimal");
     let paper = (0..text.len()).step_by(2).map(byte).collect();
     let mut books = vec![
-        ("the paper's 29 bytes".to_string(), paper, 0),
-        (family::NAME.to_string(), family::book(), family::HOUSEHOLD),
+        Book::new("the paper's 29 bytes", paper, 0),
+        Book::new(family::NAME, family::book(), family::HOUSEHOLD),
     ];
+    let all = cases::fixed();
     for name in [
         "wide scope",
         "32,768 bytes",
         "weight 4,096",
         "250 nested nodes",
     ] {
-        let all = cases::fixed();
         let case = all.iter().find(|case| case.label == name);
         let case = case.expect("a fixed case");
-        books.push((name.to_string(), case.bytes.clone(), case.scope));
+        books.push(Book::new(name, case.bytes.clone(), case.scope));
     }
+    let (small, full) = (cases::handed::small(), cases::handed::full());
+    books.extend([
+        entering(32, "32 nested scopes", &cases::shapes::deep_scopes(false)),
+        entering(4_096, "weight 4,096, handed, small scopes", &small),
+        entering(4_096, "weight 4,096, handed, full scopes", &full),
+    ]);
     books
 }
 
@@ -61,7 +109,7 @@ fn compare(service: &str, name: &str, ours: impl FnMut(), theirs: impl FnMut()) 
 }
 
 /// The code of a book, as the engine writes it.
-fn compiled(book: &[u8]) -> Vec<u8> {
+pub fn compiled(book: &[u8]) -> Vec<u8> {
     let length = second::code_of(book).expect("an accepted book").len();
     let mut code = vec![0; length];
     assert_eq!(engine::compile(book, &mut code), Ok(length), "the code");
@@ -127,18 +175,18 @@ fn ending(book: &[u8], scope: usize) -> &'static str {
 }
 
 /// Evaluating, running and OCaml side by side.
-fn side_by_side(books: &[(String, Vec<u8>, usize)]) {
+fn side_by_side(books: &[Book]) {
     match ocaml::version() {
         Some(version) => println!("\nOCaml is ocamlopt {version}.\n"),
         None => println!("\nOCaml is not installed (no ocamlopt).\n"),
     }
     println!("| book | ends in | evaluate us | run us | run/evaluate | OCaml us | run/OCaml |");
     println!("|---|---|---|---|---|---|---|");
-    for (name, book, scope) in books {
-        let (evaluated, ran) = evaluated_and_run(book, *scope);
-        let (ending, ratio) = (ending(book, *scope), ran / evaluated);
+    for Book { name, bytes, scope } in books {
+        let (evaluated, ran) = evaluated_and_run(bytes, *scope);
+        let (ending, ratio) = (ending(bytes, *scope), ran / evaluated);
         print!("| {name} | {ending} | {evaluated:.2} | {ran:.2} | {ratio:.2} |");
-        let ocaml = ocaml::version().and_then(|_| in_ocaml(name, book, *scope));
+        let ocaml = ocaml::version().and_then(|_| in_ocaml(name, bytes, *scope));
         match ocaml {
             Some(time) => println!(" {time:.2} | {:.1} |", ran / time),
             None => println!(" - | - |"),
@@ -146,13 +194,33 @@ fn side_by_side(books: &[(String, Vec<u8>, usize)]) {
     }
 }
 
-pub fn run() -> bool {
+/// The stack that a call of each exported function takes.
+fn stacks(books: &[Book]) {
+    println!("\n| book | engine_judge | engine_evaluate | engine_compile | engine_run |");
+    println!("|---|---|---|---|---|");
+    for book in books {
+        let [judge, evaluate, compile, run] = stack::of_services(&book.bytes, book.scope);
+        println!(
+            "| {} | {judge} | {evaluate} | {compile} | {run} |",
+            book.name
+        );
+    }
+}
+
+/// All three tables, of the books whose name has this part.
+pub fn run(part: &str) -> bool {
+    let mut books = books();
+    books.retain(|book| book.name.contains(part));
+    if books.is_empty() {
+        eprintln!("no book has {part:?} in its name");
+        return false;
+    }
     println!("| service | book | engine us | second us | ratio |");
     println!("|---|---|---|---|---|");
-    let books = books();
-    for (name, book, scope) in &books {
-        services(name, book, *scope);
+    for Book { name, bytes, scope } in &books {
+        services(name, bytes, *scope);
     }
     side_by_side(&books);
+    stacks(&books);
     true
 }

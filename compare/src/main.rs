@@ -1,6 +1,7 @@
 //! Compares the proved engine with the second program.
 
 mod bench;
+mod clock;
 mod compiling;
 mod engine;
 mod evaluating;
@@ -9,11 +10,12 @@ mod judging;
 mod ocaml;
 mod running;
 mod runs;
+mod stack;
 mod tally;
 
 use std::process::ExitCode;
 
-const USAGE: &str = "compare judge CASES | compare evaluate CASES | compare compile CASES | compare run CASES | compare runs PROGRAM STACK_KIB FILE | compare ocaml CASES | compare bench";
+const USAGE: &str = "compare judge CASES | compare evaluate CASES | compare compile CASES | compare run CASES | compare runs PROGRAM STACK_KIB FILE | compare ocaml CASES | compare bench [PART_OF_A_BOOKS_NAME]";
 
 fn main() -> ExitCode {
     let words: Vec<String> = std::env::args().skip(1).collect();
@@ -25,7 +27,8 @@ fn main() -> ExitCode {
         ["run", cases] => running::run(cases.parse().expect(USAGE)),
         ["runs", program, stack, file] => runs::run(program, stack.parse().expect(USAGE), file),
         ["ocaml", cases] => ocaml::run(cases.parse().expect(USAGE)),
-        ["bench"] => bench::run(),
+        ["bench"] => bench::run(""),
+        ["bench", part] => bench::run(part),
         _ => {
             eprintln!("{USAGE}");
             false

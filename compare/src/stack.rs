@@ -1,0 +1,82 @@
+//! The stack that a call of the engine takes: what lies below the caller is painted
+//! beforehand, and the paint that is gone shows how far down the call went.
+
+use crate::bench::compiled;
+use crate::engine;
+use std::thread;
+
+/// Bytes of the stack of a thread that measures.
+const STACK: usize = 8 << 20;
+
+/// Words of it that are painted.
+const WORDS: usize = (6 << 20) / 8;
+
+/// Bytes that are left as they are below the local that marks the caller's frame: what
+/// the frame itself has there, and what painting needs.
+const SPARED: usize = 4096;
+
+const PAINT: u64 = 0xa5c3_96e1_5ad2_784b;
+
+/// Bytes from the frame of this function down to the lowest word that a call changes.
+#[inline(never)]
+fn below(call: &mut dyn FnMut()) -> usize {
+    let mark = 0u64;
+    let top = &raw const mark as usize;
+    let word = |at: usize| (top - SPARED - 8 * at) as *mut u64;
+    // The words belong to this thread's stack, and no frame that is in use reaches down
+    // to them. They are no objects of Rust: only volatile access is sure to be made.
+    let paint = |at: usize| unsafe { word(at).write_volatile(PAINT) };
+    let gone = |at: &usize| unsafe { word(*at).read_volatile() } != PAINT;
+    (0..WORDS).for_each(paint);
+    call();
+    let lowest = (0..WORDS)
+        .rev()
+        .find(gone)
+        .expect("a call that takes more than is spared");
+    SPARED + 8 * lowest
+}
+
+/// Bytes of stack that a call takes, in a thread of its own.
+fn taken(mut call: impl FnMut() + Send) -> usize {
+    thread::scope(|scope| {
+        let thread = thread::Builder::new().stack_size(STACK);
+        let measured = thread.spawn_scoped(scope, || below(&mut call));
+        measured
+            .expect("a thread")
+            .join()
+            .expect("a call that ends")
+    })
+}
+
+/// Bytes of stack that judging, evaluating, compiling and running take.
+pub fn of_services(book: &[u8], scope: usize) -> [usize; 4] {
+    let code = compiled(book);
+    let (mut room, mut results) = (code.clone(), [0; 192]);
+    let accepted = "an accepted book";
+    [
+        taken(|| _ = engine::judge(book).expect(accepted)),
+        taken(|| _ = engine::evaluate(book, scope, &[], &mut results).expect(accepted)),
+        taken(|| _ = engine::compile(book, &mut room).expect(accepted)),
+        taken(|| _ = engine::run(&code, scope, &[], &mut results).expect(accepted)),
+    ]
+}
+
+#[cfg(test)]
+mod tests {
+    use super::*;
+    use std::hint::black_box;
+
+    /// Takes `LENGTH` bytes of stack and little more.
+    #[inline(never)]
+    fn takes<const LENGTH: usize>() {
+        black_box(&mut [1u8; LENGTH]);
+    }
+
+    #[test]
+    fn a_call_takes_what_its_locals_take() {
+        let some = taken(takes::<100_000>);
+        assert!((100_000..102_000).contains(&some), "{some}");
+        let more = taken(takes::<3_000_000>);
+        assert!((3_000_000..3_002_000).contains(&more), "{more}");
+    }
+}
