@@ -5,7 +5,7 @@ ghost use Prim.Native.Nat.{_*_, _≤_};
 ghost use lib.ListN.{length};
 ghost use Rattle.order.specs.Order.{next};
 ghost use Rattle.order.specs.Matrix.{marked, edgeOf};
-ghost use Rattle.order.specs.Memo.{Met};
+ghost use Rattle.order.specs.Memo.{Met, DoneBelow};
 ghost use Rattle.order.specs.Answer.{Filled};
 
 // The most vertices of a graph, and the bytes of a row.
@@ -18,17 +18,21 @@ pub enum Ordered {
     Unfit,
 }
 
-// The ready vertex of lowest number, n where none is ready. Of what v depends on, all below met[v] is done: row v is read from there,
-// and met[v] keeps where the reading stopped. So all searches together read each row once.
-fn ready_vertex(deps: &[u8], done: &[u8], met: &mut [u8], n: usize) -> usize
-    requires { ⌜ (n ≤ 40) × (n * 40 ≤ length (now deps)) × (n ≤ length (now done)) × Met (now deps) n (now done) (now met) ⌝ }
+// The ready vertex of lowest number, n where none is ready. Each vertex below `low` is done, so the search starts there. Of what v depends
+// on, all below met[v] is done: row v is read from there, and met[v] keeps where the reading stopped. So all searches together read each
+// row once.
+fn ready_vertex(deps: &[u8], done: &[u8], met: &mut [u8], n: usize, low: usize) -> usize
+    requires { ⌜
+        (n ≤ 40) × (n * 40 ≤ length (now deps)) × (n ≤ length (now done)) × Met (now deps) n (now done) (now met)
+        × (low ≤ n) × DoneBelow (now done) low
+        ⌝ }
     ensures { λ r.
         ⌜
         (r ≡ next (edgeOf (now (deps .entry))) n (marked (now (done .entry))))
         × Met (now (deps .entry)) n (now (done .entry)) (now (met .exit))
         ⌝ }
 {
-    let mut v: usize = 0;
+    let mut v: usize = low;
     let found = 'search: loop {
         if v == n {
             break 'search n;
@@ -61,13 +65,17 @@ fn write_order(deps: &[u8], n: usize, out: &mut [u8]) -> Ordered
     let mut done = [0u8; WIDTH];
     let mut met = [0u8; WIDTH];
     let mut k: usize = 0;
+    let mut low: usize = 0;
     while k < n {
-        let v = ready_vertex(deps, &done, &mut met, n);
+        let v = ready_vertex(deps, &done, &mut met, n, low);
         if v == n {
             return Ordered::Taken(k);
         }
         out[k] = v as u8;
         done[v] = 1;
+        if done[low] != 0 {
+            low += 1;
+        }
         k += 1;
     }
     Ordered::Taken(k)

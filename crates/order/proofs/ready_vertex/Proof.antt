@@ -11,36 +11,35 @@ use Rattle.order.specs.Search.{lowestFrom, lowest}
 use Rattle.order.specs.Order.{unmet, ready, next}
 use Rattle.order.specs.Matrix.{marked, edgeOf}
 use Rattle.order.specs.Memo.{Met}
-use Rattle.order.proofs.Search.{left-start, left-end, left-step, left-here}
+use Rattle.order.proofs.Search.{left-end, left-step, left-here}
 use Rattle.order.proofs.Matrix.{marked-true, marked-false, edge-true, edge-false}
 use Rattle.order.proofs.Ready.{unmet-first, met-done, met-none, ready-now, ready-blocked, ready-done}
-use Rattle.order.proofs.Memo.{met-scan, met-stop}
+use Rattle.order.proofs.Memo.{met-scan, met-stop, below-scan}
 use Rattle.order.proofs.ready_vertex.Statement.{statement}
 use Rattle.order.proofs.ready_vertex.Tie as tie
 
 abbrev Inv-loop : tie.InvT-loop
-Inv-loop deps done met₀ n v w₀ met w =
+Inv-loop deps done met₀ n low v w₀ met w =
     (w ≤ n)
     × (lowestFrom (unmet (edgeOf deps) (marked done) v) w (n - w) ≡ lowest (unmet (edgeOf deps) (marked done) v) n)
     × Met deps n done met
     × (length met ≡ length met₀)
 
 abbrev μ-loop : tie.MeasureT-loop
-μ-loop deps done met₀ n v w₀ met w = n - w
+μ-loop deps done met₀ n low v w₀ met w = n - w
 
 abbrev Inv-search : tie.InvT-search
-Inv-search deps done met₀ n v₀ met v =
+Inv-search deps done met₀ n low v₀ met v =
     (v ≤ n)
     × (lowestFrom (ready (edgeOf deps) n (marked done)) v (n - v) ≡ next (edgeOf deps) n (marked done))
     × Met deps n done met
     × (length met ≡ length met₀)
 
 abbrev μ-search : tie.MeasureT-search
-μ-search deps done met₀ n v₀ met v = n - v
+μ-search deps done met₀ n low v₀ met v = n - v
 
 search-holds : tie.Need-search-holds Inv-loop μ-loop Inv-search μ-search
-unfolding next
-search-holds c = (omega arith, left-start _ _, search needs, refl)
+search-holds c = (omega arith, below-scan _ _ (c .pre .5) _ _ (omega arith), search needs, refl)
 
 shared-slice-read-if2 : tie.Need-shared-slice-read-if2 Inv-loop μ-loop Inv-search μ-search
 shared-slice-read-if2 c = omega arith
