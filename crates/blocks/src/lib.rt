@@ -332,7 +332,8 @@ fn run_given(
     run_block(code, spans, heads, places, p, st, tr, own, &mut memo)
 }
 
-// Runs block p with a stack and tries that always suffice.
+// Runs block p with a stack and tries that always suffice. It calls itself first, `again` times: a function that does is not made part of its
+// caller, where these arrays would take their room on the stack in every run.
 fn run_large(
     code: &[u8],
     spans: &[usize],
@@ -341,10 +342,14 @@ fn run_large(
     p: usize,
     given: &[u64],
     own: &mut [u64],
+    again: usize,
 ) -> Ran
     requires { ⌜ Entry (now code) (now spans) (now heads) (now places) p (now own) × (length (now given) ≡ 32) ⌝ }
     ensures { λ r. ⌜ CameTo (now (code .entry)) p (now (given .entry)) r (now (own .exit)) ⌝ }
 {
+    if 0 < again {
+        return run_large(code, spans, heads, places, p, given, own, again - 1);
+    }
     let mut st = [0u64; 32768];
     let mut tr = [0usize; 32768];
     run_given(code, spans, heads, places, p, given, &mut st, &mut tr, own)
@@ -369,6 +374,6 @@ pub fn run_cells(
         Ran::Values(n) => Ran::Values(n),
         Ran::Ended(c, n) => Ran::Ended(c, n),
         Ran::Stuck => Ran::Stuck,
-        Ran::NoRoom => run_large(code, spans, heads, places, p, given, own),
+        Ran::NoRoom => run_large(code, spans, heads, places, p, given, own, 1),
     }
 }
