@@ -1,7 +1,7 @@
 // Judging code in one pass over its bytes: whether it is accepted, and the tables by which the blocks of accepted code are found.
 //   sizes   of each of 32 scopes the weight of its block, then the number of its variables; 0 where it has no block
 //   ring    the landings of distances that lie ahead: a mark for each position, by its remainder modulo 65,536; short code has no more
-//           positions than a ring of 8,192 marks
+//           positions than a ring of 8,192 marks, or of 1,024
 use record::Medium;
 use record::Shape;
 use record::shape_in;
@@ -505,16 +505,39 @@ fn judge_code(
     }
 }
 
-// Judges code: whether it is accepted, and of accepted code the tables of its blocks. A small ring has a mark for each position of short code.
+// Judges code of any length, with a ring of 65,536 marks. It calls itself first, `again` times: a function that does is not made part of its
+// caller, where the ring would take its room on the stack for short code, too.
+fn judge_long(
+    code: &[u8],
+    spans: &mut [usize],
+    heads: &mut [u8],
+    places: &mut [u8],
+    again: usize,
+) -> Verdict
+    requires { ⌜ Room (now spans) (now heads) (now places) × (now places ≡ replicate 32 0) ⌝ }
+    ensures { λ r. ⌜ Judged (now (code .entry)) (now (spans .exit)) (now (heads .exit)) (now (places .exit)) r ⌝ }
+{
+    if 0 < again {
+        return judge_long(code, spans, heads, places, again - 1);
+    }
+    let mut sizes = [0usize; 64];
+    let mut ring = [0u8; 65536];
+    judge_code(code, spans, heads, places, &mut sizes, &mut ring)
+}
+
+// Judges code: whether it is accepted, and of accepted code the tables of its blocks. A smaller ring has a mark for each position of short code.
 pub fn verify(code: &[u8], spans: &mut [usize], heads: &mut [u8], places: &mut [u8]) -> Verdict
     requires { ⌜ Room (now spans) (now heads) (now places) × (now places ≡ replicate 32 0) ⌝ }
     ensures { λ r. ⌜ Judged (now (code .entry)) (now (spans .exit)) (now (heads .exit)) (now (places .exit)) r ⌝ }
 {
-    let mut sizes = [0usize; 64];
-    if code.len() < 8192 {
-        let mut small = [0u8; 8192];
-        return judge_code(code, spans, heads, places, &mut sizes, &mut small);
+    if 8191 < code.len() {
+        return judge_long(code, spans, heads, places, 1);
     }
-    let mut ring = [0u8; 65536];
-    judge_code(code, spans, heads, places, &mut sizes, &mut ring)
+    let mut sizes = [0usize; 64];
+    if 1023 < code.len() {
+        let mut medium = [0u8; 8192];
+        return judge_code(code, spans, heads, places, &mut sizes, &mut medium);
+    }
+    let mut small = [0u8; 1024];
+    judge_code(code, spans, heads, places, &mut sizes, &mut small)
 }
