@@ -1,35 +1,65 @@
-// What a variable holds, as one number: slices of numbers hold the variables of a scope.
+// A variable, a joined value and an outcome as one number, a cell; slices of cells hold the variables of a scope.
+use calculus::Cause;
 use calculus::Given;
 use calculus::Value;
 use integers::bits_of;
 use integers::number_of;
 ghost use mathlib.Core.Path.{_≡_};
-ghost use Rattle.cells.specs.Cells.{cellOf, givenOf, givenAt, held};
+ghost use Rattle.cells.specs.Cells.{givenOf, givenAt, held};
+ghost use Rattle.cells.specs.Codec.{valueCell, causeOf};
+
+// The cells in their order, a tag times 2 ^ 32: a value is below MANY, and what is not below EMPTY is an end with its cause.
+pub const NOTHING: u64 = 0;
+
+pub const NO: u64 = 4294967296;
+
+pub const YES: u64 = 8589934592;
+
+// Of the number 0: the bits of another are added.
+pub const ZERO: u64 = 12884901888;
+
+pub const MANY: u64 = 25769803776;
+
+pub const EMPTY: u64 = 30064771072;
+
+pub const CONFLICT: u64 = 34359738368;
+
+pub const OUT_OF_RANGE: u64 = 38654705664;
 
 // The cell of a value.
 pub fn cell_of(v: Value) -> u64
-    ensures { λ r. ⌜ r ≡ cellOf v ⌝ }
+    ensures { λ r. ⌜ r ≡ valueCell v ⌝ }
 {
     match v {
-        Value::Truth(b) => if b { 2 } else { 1 },
-        Value::Number(n) => 3 + (bits_of(n) as u64),
+        Value::Truth(b) => if b { YES } else { NO },
+        Value::Number(n) => ZERO + (bits_of(n) as u64),
     }
 }
 
-// What a cell holds.
+// The cause of an end's cell.
+pub fn cause_of(c: u64) -> Cause
+    ensures { λ r. ⌜ r ≡ causeOf c ⌝ }
+{
+    if c < CONFLICT {
+        return Cause::Empty;
+    }
+    if c < OUT_OF_RANGE {
+        return Cause::Conflict;
+    }
+    Cause::OutOfRange
+}
+
+// What a variable's cell holds.
 pub fn given_of(c: u64) -> Given
     ensures { λ r. ⌜ r ≡ givenOf c ⌝ }
 {
-    if c == 0 {
+    if c == NOTHING {
         return Given::Absent;
     }
-    if c == 1 {
-        return Given::Present(Value::Truth(false));
+    if c < ZERO {
+        return Given::Present(Value::Truth(c == YES));
     }
-    if c == 2 {
-        return Given::Present(Value::Truth(true));
-    }
-    Given::Present(Value::Number(number_of(((c - 3) % 4294967296) as u32)))
+    Given::Present(Value::Number(number_of((c % 4294967296) as u32)))
 }
 
 // What the cell at a place holds; past the end nothing.

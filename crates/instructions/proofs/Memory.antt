@@ -10,13 +10,15 @@ use native.Mathlib.Omega.{arith}
 use lib.ListN.{length, getD, set}
 use lib.Seq.{getD-set-same, getD-set-other}
 use lib.Dec.{eqb}
-use borrow.Author.Tests.{ne-eqb, not-true, not-false}
+use borrow.Author.Tests.{ne-eqb, le-ltb, not-true, not-false}
 use Rattle.calculus.specs.declared.Value.{Value}
 use Rattle.calculus.specs.declared.Joined.{Joined}
 use Rattle.calculus.specs.declared.Joined.the-variants.{One}
 use Rattle.calculus.specs.declared.Given.{Given}
 use Rattle.calculus.specs.declared.Given.the-variants.{Absent, Present}
+use Rattle.cells.specs.Codec.{noCell, zeroCell, manyCell, valueOf}
 use Rattle.cells.specs.Cells.{givenOf, held}
+use Rattle.cells.proofs.Variables.{held-is}
 use Rattle.book.specs.Syntax.{sameType}
 use Rattle.book.specs.declared.ValueType.{ValueType}
 use Rattle.lists.specs.Writing.{valueType}
@@ -74,38 +76,22 @@ absent e = rw e
 
 pub present : (c : ℕ) → (c ≡ 0 → ⊥) → givenOf c ≡ Present (held (givenOf c))
 unfolding givenOf
-present c p = rw (ne-eqb c 0 p) (ones (eqb c 1) (eqb c 2) _ _ _)
-  where
-    ones : (a b : Bool) (x y z : Value) → cond a (Present x) (cond b (Present y) (Present z)) ≡ Present (held (cond a (Present x) (cond b (Present y) (Present z))))
-    ones true b x y z = refl
-    ones false true x y z = refl
-    ones false false x y z = refl
+present c p = rw (ne-eqb c 0 p)
 
-pub cell-zero : {c : ℕ} → c ≡ 0 → entryOf 1 ≡ One (held (givenOf c))
-unfolding entryOf givenOf
+pub cell-zero : {c : ℕ} → c ≡ 0 → entryOf noCell ≡ One (held (givenOf c))
+unfolding entryOf givenOf valueOf
 cell-zero e = rw e
 
-pub cell-small : (c : ℕ) → (c ≡ 0 → ⊥) → c < 3 → entryOf c ≡ One (held (givenOf c))
-cell-small c p q = value-entry c p (omega arith)
+same-number : (a b : ℕ) → zeroCell ≤ a → zeroCell ≤ b → a % 4294967296 ≡ b % 4294967296 → valueOf a ≡ valueOf b
+unfolding valueOf
+same-number a b p q e = rw (le-ltb a zeroCell p, le-ltb b zeroCell q, e)
 
-same-number : (a b : ℕ) → 3 ≤ a → 3 ≤ b → (a - 3) % 4294967296 ≡ (b - 3) % 4294967296 → givenOf a ≡ givenOf b
-unfolding givenOf
-same-number a b p q e =
-    rw (
-      ne-eqb a 0 (λ z. absurd (omega arith)),
-      ne-eqb a 1 (λ z. absurd (omega arith)),
-      ne-eqb a 2 (λ z. absurd (omega arith)),
-      ne-eqb b 0 (λ z. absurd (omega arith)),
-      ne-eqb b 1 (λ z. absurd (omega arith)),
-      ne-eqb b 2 (λ z. absurd (omega arith)),
-      e,
-    )
-
-pub cell-number : (c : ℕ) → 3 ≤ c → entryOf ((c - 3) % 4294967296 + 3) ≡ One (held (givenOf c))
-cell-number c p =
-    let n = (c - 3) % 4294967296 in
+pub cell-high : (c : ℕ) → manyCell ≤ c → entryOf (c % 4294967296 + zeroCell) ≡ One (held (givenOf c))
+cell-high c p =
+    let n = c % 4294967296 in
     let l : n < 4294967296 = omega arith in
-    value-entry (n + 3) (λ e. absurd (omega arith)) (omega arith) ∙ ap (λ (g : Given). One (held g)) (same-number (n + 3) c (omega arith) p (omega arith))
+    let d = n + zeroCell in
+    value-entry d (λ e. absurd (omega arith)) (omega arith) ∙ ap One (held-is d ∙ same-number d c (omega arith) (omega arith) (omega arith) ∙ sym (held-is c))
 
 -- Reading
 

@@ -33,8 +33,10 @@ use Rattle.calculus.specs.declared.Given.{Given}
 use Rattle.calculus.specs.declared.Given.the-variants.{Absent, Present}
 use Rattle.calculus.specs.declared.Unary.{Unary}
 use Rattle.calculus.specs.declared.Binary.{Binary}
-use Rattle.cells.specs.Cells.{cellOf, givenOf, held}
-use Rattle.cells.proofs.RoundTrip.{given-cell}
+use Rattle.cells.specs.Codec.{manyCell, valueCell}
+use Rattle.cells.specs.Cells.{givenOf, held}
+use Rattle.cells.proofs.Codec.{value-high, value-low}
+use Rattle.cells.proofs.Variables.{given-cell}
 use Rattle.book.specs.Syntax.{sameType}
 use Rattle.book.specs.Typing.{unaryType, operandType}
 use Rattle.book.specs.declared.ValueType.{ValueType}
@@ -68,30 +70,24 @@ entries-top st h p = let e : h ≡ suc (h - 1) = omega arith in ap (entries st) 
 
 -- Values as entries
 
-cell-low : (v : Value) → SFits w32 (numberOf v) → (0 < cellOf v) × (cellOf v < 8589934592)
-unfolding cellOf
-cell-low (Truth false) f = (omega arith, omega arith)
-cell-low (Truth true) f = (omega arith, omega arith)
-cell-low (Number z) f = let l : ofZ w32 z < 4294967296 = fits-ofZ f .fits in (omega arith, omega arith)
-
-pub value-entry : (c : ℕ) → (c ≡ 0 → ⊥) → c < 8589934592 → entryOf c ≡ One (held (givenOf c))
+pub value-entry : (c : ℕ) → (c ≡ 0 → ⊥) → c < manyCell → entryOf c ≡ One (held (givenOf c))
 unfolding entryOf
-value-entry c p q = rw (ne-eqb c 0 p, lt-ltb c 8589934592 q)
+value-entry c p q = rw (ne-eqb c 0 p, lt-ltb c manyCell q)
 
 pub nothing-entry : {c : ℕ} → c ≡ 0 → entryOf c ≡ Nothing
 unfolding entryOf
 nothing-entry e = rw e
 
-pub many-entry : (c : ℕ) → 8589934592 ≤ c → entryOf c ≡ Many
+pub many-entry : (c : ℕ) → manyCell ≤ c → entryOf c ≡ Many
 unfolding entryOf
-many-entry c p = rw (ne-eqb c 0 (λ e. absurd (omega arith)), le-ltb c 8589934592 p)
+many-entry c p = rw (ne-eqb c 0 (λ e. absurd (omega arith)), le-ltb c manyCell p)
 
-pub encodes : (v : Value) → SFits w32 (numberOf v) → Encodes v (cellOf v)
+pub encodes : (v : Value) → SFits w32 (numberOf v) → Encodes v (valueCell v)
 encodes v f =
-    let l = cell-low v f in
+    let l = value-high v in
     record {
       cell = given-cell v f;
-      entry = value-entry (cellOf v) (λ e. absurd (omega arith)) (l .1) ∙ ap (λ (g : Given). One (held g)) (given-cell v f);
+      entry = value-entry (valueCell v) (λ e. absurd (omega arith)) (value-low v f) ∙ ap (λ (g : Given). One (held g)) (given-cell v f);
     }
 
 -- The top
@@ -113,10 +109,10 @@ module _ (st : List ℕ) (h : ℕ) where
   pub take-nothing : 0 < h → getD st (h - 1) 0 ≡ 0 → Takes Absent st h
   take-nothing p e = no-value (λ f. rw (entries-top st h p, nothing-entry e))
 
-  pub take-many : 0 < h → 8589934592 ≤ getD st (h - 1) 0 → Takes Absent st h
+  pub take-many : 0 < h → manyCell ≤ getD st (h - 1) 0 → Takes Absent st h
   take-many p e = no-value (λ f. rw (entries-top st h p, many-entry (getD st (h - 1) 0) e))
 
-  pub take-value : 0 < h → (getD st (h - 1) 0 ≡ 0 → ⊥) → getD st (h - 1) 0 < 8589934592 → Takes (Present (held (givenOf (getD st (h - 1) 0)))) st h
+  pub take-value : 0 < h → (getD st (h - 1) 0 ≡ 0 → ⊥) → getD st (h - 1) 0 < manyCell → Takes (Present (held (givenOf (getD st (h - 1) 0)))) st h
   take-value p q r =
       record {
         none = λ e. absurd (absent-not (sym e));
@@ -228,10 +224,10 @@ joined-left b e = rw (nothing-entry e)
 pub joined-right : (a : ℕ) {b : ℕ} → b ≡ 0 → entryOf a ≡ defaults.join (entryOf a) (entryOf b)
 joined-right a e = rw (nothing-entry e) (sym (join-right (entryOf a)))
 
-pub joined-many : (a b : ℕ) → (a ≡ 0 → ⊥) → (b ≡ 0 → ⊥) → entryOf 8589934592 ≡ defaults.join (entryOf a) (entryOf b)
+pub joined-many : (a b : ℕ) → (a ≡ 0 → ⊥) → (b ≡ 0 → ⊥) → entryOf manyCell ≡ defaults.join (entryOf a) (entryOf b)
 unfolding entryOf
 joined-many a b p q =
-    rw (ne-eqb a 0 p, ne-eqb b 0 q) (sym (join-filled (ltb a 8589934592) (ltb b 8589934592) (held (givenOf a)) (held (givenOf b))))
+    rw (ne-eqb a 0 p, ne-eqb b 0 q) (sym (join-filled (ltb a manyCell) (ltb b manyCell) (held (givenOf a)) (held (givenOf b))))
 
 entries-two : (st : List ℕ) (h : ℕ) → 2 ≤ h
     → entries st h ≡ entryOf (getD st (h - 1) 0) ∷ (entryOf (getD st (h - 2) 0) ∷ entries st (h - 2))
@@ -288,7 +284,7 @@ module _ (env : Surroundings) (left : ℕ) (m : Memory) where
     unfolding effect entries
     settle-empty ts e = rw e
 
-    pub settle-many : (ts : List Try) → 0 < h → 8589934592 ≤ getD st (h - 1) 0
+    pub settle-many : (ts : List Try) → 0 < h → manyCell ≤ getD st (h - 1) 0
         → effect env (Instruction.settle d) left (entries st h) ts m ≡ stop (ran (ended Conflict (m .count)))
     unfolding effect
     settle-many ts l e = rw (entries-top st h l, many-entry (getD st (h - 1) 0) e)
@@ -300,7 +296,7 @@ module _ (env : Surroundings) (left : ℕ) (m : Memory) where
       settle-nothing e =
           (rw (entries-top st h l, nothing-entry e), omega arith, record { height = omega arith; stack = omega arith; tries = q .0; pairs = q .1 })
 
-      pub settle-value : (getD st (h - 1) 0 ≡ 0 → ⊥) → getD st (h - 1) 0 < 8589934592
+      pub settle-value : (getD st (h - 1) 0 ≡ 0 → ⊥) → getD st (h - 1) 0 < manyCell
           → Moves (move.Go (2 + d) h t) 2 st tr m (effect env (Instruction.settle d) left (entries st h) (opened tr t) m)
       unfolding effect
       settle-value e f =

@@ -9,12 +9,13 @@ use Rattle.calculus.specs.declared.Joined.{Joined}
 use Rattle.calculus.specs.declared.Joined.the-variants.{Nothing, One, Many}
 use Rattle.calculus.specs.declared.Given.{Given}
 use Rattle.calculus.specs.declared.Given.the-variants.{Absent, Present}
+use Rattle.cells.specs.Codec.{manyCell}
 use Rattle.cells.specs.Cells.{givenOf, held}
 use Rattle.machine.specs.Machine.{Cell, unset, given, stored, Callee, waiting, entered, Memory, Try}
 
--- an entry of the stack: 0 nothing, then the cells of values, from 8,589,934,592 on many
+-- an entry of the stack by its cell: nothing, a value, many
 unfoldable pub entryOf : ℕ → Joined
-entryOf c = cond (eqb c 0) Nothing (cond (ltb c 8589934592) (One (held (givenOf c))) Many)
+entryOf c = cond (eqb c 0) Nothing (cond (ltb c manyCell) (One (held (givenOf c))) Many)
 
 -- the entries below height h, the top first
 unfoldable pub entries : List ℕ → ℕ → List Joined

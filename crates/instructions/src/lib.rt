@@ -6,6 +6,10 @@ use calculus::Given;
 use calculus::Outcome;
 use calculus::Unary;
 use calculus::Value;
+use cells::MANY;
+use cells::NO;
+use cells::NOTHING;
+use cells::ZERO;
 use cells::cell_of;
 use cells::given_of;
 use cells::value_of;
@@ -49,8 +53,6 @@ const STACK: usize = 1024;
 
 const TRIES: usize = 512;
 
-const MANY: u64 = 8589934592;
-
 // The cell of a value, which is also its entry.
 fn encode(v: Value) -> u64
     ensures { λ r. ⌜ Encodes v r ⌝ }
@@ -88,7 +90,7 @@ fn top_value(st: &[u64], h: usize) -> Given
         return Given::Absent;
     }
     let c = st[h - 1];
-    if c == 0 {
+    if c == NOTHING {
         return Given::Absent;
     }
     if c < MANY {
@@ -196,10 +198,10 @@ fn join_top(st: &mut [u64], h: usize, t: usize) -> Move
 fn joined(a: u64, b: u64) -> u64
     ensures { λ r. ⌜ entryOf r ≡ join (entryOf a) (entryOf b) ⌝ }
 {
-    if a == 0 {
+    if a == NOTHING {
         return b;
     }
-    if b == 0 {
+    if b == NOTHING {
         return a;
     }
     MANY
@@ -235,7 +237,7 @@ fn settle(d: usize, st: &[u64], h: usize, t: usize) -> Move
         return Move::Stuck;
     }
     let c = st[h - 1];
-    if c == 0 {
+    if c == NOTHING {
         return Move::Go(2, h - 1, t);
     }
     if c < MANY {
@@ -309,13 +311,13 @@ fn end_try(h: usize, t: usize) -> Move
 fn value_cell(c: u64) -> u64
     ensures { λ r. ⌜ entryOf r ≡ One (held (givenOf c)) ⌝ }
 {
-    if c == 0 {
-        return 1;
+    if c == NOTHING {
+        return NO;
     }
-    if c < 3 {
+    if c < MANY {
         return c;
     }
-    (c - 3) % 4294967296 + 3
+    c % 4294967296 + ZERO
 }
 
 fn first(rest: &[u8]) -> usize
@@ -360,7 +362,7 @@ fn read_own(x: usize, own: &[u64], st: &mut [u64], h: usize, t: usize) -> Move
         → Moves r 1 (now (st .exit)) tr m (readFrom (ownCell (now (own .entry)) flags x) (entries (now (st .entry)) h) (opened tr t) m)) ⌝ }
 {
     let c = own[x];
-    if c == 0 {
+    if c == NOTHING {
         return Move::Stuck;
     }
     push(st, h, value_cell(c), 1, t)
@@ -406,7 +408,7 @@ fn store(
             if !has_type(wanted, v) {
                 return Move::Stuck;
             }
-            if own[x] != 0 {
+            if own[x] != NOTHING {
                 return Move::Stuck;
             }
             own[x] = encode(v);
@@ -440,7 +442,7 @@ fn hand_over(
                 return Move::Stuck;
             }
             let at = k * 32 + x;
-            if called[at] != 0 {
+            if called[at] != NOTHING {
                 return Move::Stuck;
             }
             called[at] = encode(v);
@@ -455,7 +457,7 @@ fn jump_if_given(x: usize, d: usize, own: &[u64], flags: &[u8], h: usize, t: usi
     ensures { λ r. ⌜ ((st tr : List ℕ) (m : Memory) → Room h t st tr
         → Moves r 3 st tr m (jumpedIfGiven (ownCell (now (own .entry)) (now (flags .entry)) x) d (entries st h) (opened tr t) m)) ⌝ }
 {
-    if own[x] == 0 {
+    if own[x] == NOTHING {
         return Move::Go(3, h, t);
     }
     if flags[x] == 0 {

@@ -24,8 +24,9 @@ use Rattle.calculus.specs.declared.Given.the-variants.{Absent, Present}
 use Rattle.slices.specs.Bytes.{bigEndian, numberAt}
 use Rattle.order.proofs.Booleans.{decide, neither}
 use Rattle.order.proofs.Matrix.{zeros}
-use Rattle.cells.specs.Cells.{cellOf, givenOf, givenAt}
-use Rattle.cells.proofs.RoundTrip.{given-cell}
+use Rattle.cells.specs.Codec.{valueCell, AllKept}
+use Rattle.cells.specs.Cells.{givenOf, givenAt}
+use Rattle.cells.proofs.Variables.{given-cell, kept-nothing, kept-stored}
 use Rattle.book.specs.Syntax.{sameType}
 use Rattle.book.specs.declared.ValueType.the-variants.{YesNo}
 use Rattle.book.specs.declared.Variable.{Variable}
@@ -61,7 +62,7 @@ fine variables given k rest e =
     }
 
 -- a record's number is one of 32 bits
-pub number-fits : (n : ℕ) → SFits w32 (toZ w32 n)
+number-fits : (n : ℕ) → SFits w32 (toZ w32 n)
 number-fits n = ⊎-elim (λ q. record { sfits = rw q (ltb-true n 2147483648 q) }) (λ q. record { sfits = rw q (omega (arith, ltb-false n 2147483648 q)) }) (decide (ltb n 2147483648))
 
 value-fits : (k : ℕ) (rest : List ℕ) → SFits w32 (numberOf (inputValue k rest))
@@ -127,6 +128,7 @@ pub record Read (variables : List Variable) (bytes cells : List ℕ) (at : ℕ) 
   pub rest : inputsFrom variables (drop at bytes) 0 givens ≡ inputs variables bytes
   pub number : length givens ≡ length variables
   pub decoded : Decoded cells givens
+  pub kept : AllKept cells
   pub inside : at ≤ length bytes
   pub size : length cells ≡ 32
 
@@ -138,6 +140,7 @@ start variables bytes e =
       rest = refl;
       number = length-map variables (λ v. Absent);
       decoded = λ v. rw (e, zeros 32 v) (sym (List·getD-map (λ (x : Variable). Absent) variables v (record { holds = YesNo })));
+      kept = λ v. rw (e, zeros 32 v) kept-nothing;
       inside = omega arith;
       size = rw e refl;
     }
@@ -151,6 +154,7 @@ module _ {variables : List Variable} {bytes cells : List ℕ} {at : ℕ} (r : Re
         list = sym (r .rest) ∙ rw (drop-of-length-le bytes h);
         number = r .number;
         decoded = r .decoded;
+        kept = r .kept;
       }
 
   module _ (within : at < length bytes) where
@@ -176,13 +180,13 @@ module _ {variables : List Variable} {bytes cells : List ℕ} {at : ℕ} (r : Re
 
       pub turn :
           Read variables bytes
-          (set cells (getD (drop (at + 1) bytes) 0 0) (cellOf (inputValue (getD bytes at 0) (drop (at + 1) bytes))))
+          (set cells (getD (drop (at + 1) bytes) 0 0) (valueCell (inputValue (getD bytes at 0) (drop (at + 1) bytes))))
           (at + 1 + inputLength (getD bytes at 0))
       turn =
           let k = getD bytes at 0 in
           let rest = drop (at + 1) bytes in
           let v = getD rest 0 0 in
-          let c = cellOf (inputValue k rest) in
+          let c = valueCell (inputValue k rest) in
           let g = Present (inputValue k rest) in
           let here : v < length (r .givens) = rw (r .number) (f .known) in
           record {
@@ -194,6 +198,7 @@ module _ {variables : List Variable} {bytes cells : List ℕ} {at : ℕ} (r : Re
                 ∙ r .rest;
             number = length-set (r .givens) v g ∙ r .number;
             decoded = stored cells (r .givens) v c g cell here (given-cell (inputValue k rest) (value-fits k rest)) (r .decoded);
+            kept = kept-stored cells v (inputValue k rest) (value-fits k rest) (r .kept);
             inside = room;
             size = length-set cells v c ∙ r .size;
           }

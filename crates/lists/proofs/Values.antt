@@ -10,8 +10,8 @@ use lib.IntN.{ℤ}
 use mir.Syntax.{w32}
 use mir.Val.{SFits, toZ}
 use Rattle.calculus.specs.Values.{numberOf}
-use Rattle.cells.specs.Cells.{givenOf, givenAt, held}
-use Rattle.lists.proofs.Reading.{number-fits}
+use Rattle.cells.specs.Cells.{givenAt, held}
+use Rattle.cells.proofs.Variables.{held-is, value-fits}
 use mathlib.Core.Path.{_≡_, refl, sym, ap, _∙_}
 use mathlib.Core.List.{List, [], _∷_, map}
 use native.Mathlib.Omega.{arith}
@@ -26,19 +26,9 @@ use Rattle.lists.specs.Results.{resultLength, results}
 use Rattle.lists.specs.Writing.{valuesFrom, valuesOf, valueType, isOf, Typed}
 use Rattle.lists.proofs.Lengths.{results-length}
 
-by-cases : (a b d : Bool) (z : ℤ) → SFits w32 z
-    → SFits w32 (numberOf (held (cond a Absent (cond b (Present (Truth false)) (cond d (Present (Truth true)) (Present (Number z)))))))
-by-cases true b d z f = record { sfits = omega arith }
-by-cases false true d z f = record { sfits = omega arith }
-by-cases false false true z f = record { sfits = omega arith }
-by-cases false false false z f = f
-
 pub held-fits : (cells : List ℕ) (v : ℕ) → SFits w32 (numberOf (held (givenAt cells v)))
-unfolding givenAt givenOf
-held-fits cells v =
-    let c = getD cells v 0 in
-    let bits = (c - 3) % 4294967296 in
-    by-cases (eqb c 0) (eqb c 1) (eqb c 2) (toZ w32 bits) (number-fits bits)
+unfolding givenAt
+held-fits cells v = rw (held-is (getD cells v 0)) (value-fits (getD cells v 0))
 
 values-decoded : (cells : List ℕ) (k : ℕ) (gs : List Given) → ((v : ℕ) → givenAt cells (k + v) ≡ getD gs v Absent) → map held gs ≡ valuesFrom cells k (length gs)
 unfolding valuesFrom

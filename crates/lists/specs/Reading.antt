@@ -7,6 +7,7 @@ use lib.ListN.{length, getD, take}
 use lib.Dec.{eqb, ltb}
 use Rattle.calculus.specs.declared.Given.{Given}
 use Rattle.calculus.specs.declared.Given.the-variants.{Absent}
+use Rattle.cells.specs.Codec.{AllKept}
 use Rattle.cells.specs.Cells.{givenAt}
 use Rattle.book.specs.Syntax.{typeOf}
 use Rattle.book.specs.declared.Variable.{Variable}
@@ -31,6 +32,7 @@ pub record Taken (variables : List Variable) (bytes cells : List ℕ) : Type 0 w
   pub list : inputs variables bytes ≡ good givens
   pub number : length givens ≡ length variables
   pub decoded : (v : ℕ) → givenAt cells v ≡ getD givens v Absent
+  pub kept : AllKept cells
 
 -- what reading a list answers, and leaves in the cells; what they hold after a bad list is not said
 pub record Reading (variables : List Variable) (bytes : List ℕ) (answer : Bool) (cells : List ℕ) : Type 0 where

@@ -18,18 +18,19 @@ use Rattle.calculus.specs.declared.Value.{Value}
 use Rattle.calculus.specs.declared.Value.the-variants.{Truth}
 use Rattle.calculus.specs.declared.Given.{Given}
 use Rattle.calculus.specs.declared.Given.the-variants.{Absent, Present}
-use Rattle.cells.specs.Cells.{cellOf, givenOf, givenAt, held}
-use Rattle.cells.proofs.RoundTrip.{given-cell}
+use Rattle.cells.specs.Codec.{valueCell}
+use Rattle.cells.specs.Cells.{givenOf, givenAt, held}
+use Rattle.cells.proofs.Variables.{given-cell}
 use Rattle.lists.specs.Writing.{valuesFrom}
 use Rattle.scopes.specs.Steps.{Stored, givensFrom}
 
-pub stored : (xs : List ℕ) (at : ℕ) (v : Value) → SFits w32 (numberOf v) → at < length xs → Stored xs at v (set xs at (cellOf v))
+pub stored : (xs : List ℕ) (at : ℕ) (v : Value) → SFits w32 (numberOf v) → at < length xs → Stored xs at v (set xs at (valueCell v))
 unfolding givenAt
 stored xs at v f l =
     record {
-      size = length-set xs at (cellOf v);
-      here = ap givenOf (getD-set-same xs at (cellOf v) 0 l) ∙ given-cell v f;
-      there = λ x ne. ap givenOf (getD-set-other xs at x (cellOf v) 0 ne);
+      size = length-set xs at (valueCell v);
+      here = ap givenOf (getD-set-same xs at (valueCell v) 0 l) ∙ given-cell v f;
+      there = λ x ne. ap givenOf (getD-set-other xs at x (valueCell v) 0 ne);
     }
 
 -- what given cells hold, as a list

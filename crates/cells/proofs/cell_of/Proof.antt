@@ -3,7 +3,7 @@
 use mir.Facts.{toZ-ofZ}
 use mir.Val.{SFits}
 use mir.Syntax.{w32}
-use Rattle.cells.specs.Cells.{cellOf}
+use Rattle.cells.specs.Codec.{valueCell}
 use borrow.Author.Needs.{needs}
 use Rattle.cells.proofs.cell_of.Statement.{statement}
 use Rattle.cells.proofs.cell_of.Tie as tie
@@ -24,15 +24,15 @@ add-result : tie.Need-add-result
 add-result c = search needs
 
 returns : tie.Need-returns
-unfolding cellOf
+unfolding valueCell
 returns c = rw (c .before .before .v .given .1, c .if1 .taken)
 
 returns-2 : tie.Need-returns-2
-unfolding cellOf
+unfolding valueCell
 returns-2 c = rw (c .before .before .v .given .1, c .if1 .left)
 
 returns-3 : tie.Need-returns-3
-unfolding cellOf
+unfolding valueCell
 returns-3 c =
     let f : SFits w32 (c .before .before .v2 .given .0 .0) = search needs in
     rw (c .before .before .v2 .given .1, c .bits-of .ensures, toZ-ofZ f)

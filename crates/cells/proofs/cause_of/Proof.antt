@@ -1,0 +1,21 @@
+-- `cells::cause_of` meets its contract.
+-- Assumes nothing.
+use Rattle.cells.specs.Codec.{causeOf}
+use borrow.Author.Tests.{lt-ltb, le-ltb}
+use Rattle.cells.proofs.cause_of.Statement.{statement}
+use Rattle.cells.proofs.cause_of.Tie as tie
+
+returns : tie.Need-returns
+unfolding causeOf
+returns c = rw (lt-ltb _ _ (c .if1 .taken))
+
+returns-2 : tie.Need-returns-2
+unfolding causeOf
+returns-2 c = rw (le-ltb _ _ (c .before .if1 .left), lt-ltb _ _ (c .if2 .taken))
+
+returns-3 : tie.Need-returns-3
+unfolding causeOf
+returns-3 c = rw (le-ltb _ _ (c .before .if1 .left), le-ltb _ _ (c .if2 .left))
+
+pub cause-of-spec : {M : Type 1} → statement M
+cause-of-spec = tie.close (tie.spec returns returns-2 returns-3)
