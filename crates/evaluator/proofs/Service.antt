@@ -14,6 +14,7 @@ use borrow.Author.Tests.{lt-ltb, le-ltb, le-leb, lt-leb}
 use Rattle.calculus.specs.declared.Cause.{Cause}
 use Rattle.calculus.specs.declared.Given.{Given}
 use Rattle.calculus.specs.declared.Given.the-variants.{Absent, Present}
+use Rattle.cells.specs.Codec.{AllKept}
 use Rattle.cells.specs.Cells.{givenAt, held}
 use Rattle.book.specs.Syntax.{sameType}
 use Rattle.book.specs.Decode.{scopesOf}
@@ -146,8 +147,8 @@ module _ {bytes index orders : List ℕ} {n i : ℕ} {given memory : List ℕ} (
   pub all-links : n * 834 ≤ 26688
   all-links = let few = accepted-scopes bytes n (a .tabled .accepted) in omega (arith, few)
 
-  pub entry : {links own memo : List ℕ} → AllLinked bytes n links → length own ≡ 32 → Known bytes memo → Entry bytes index links orders i own memo
-  entry linked size known =
+  pub entry : {links own memo : List ℕ} → AllLinked bytes n links → length own ≡ 32 → AllKept own → Known bytes memo → Entry bytes index links orders i own memo
+  entry linked size kept known =
       record {
         world = record {
           accepted = a .tabled .accepted ∙ ap judged.Accepted total;
@@ -157,6 +158,7 @@ module _ {bytes index orders : List ℕ} {n i : ℕ} {given memory : List ℕ} (
         };
         scope = omega (arith, a .scope, total);
         room = size;
+        kept = kept;
         known = known;
       }
 

@@ -1,2 +1,2 @@
-mod Rows
-mod Bodies
+pub mod Rows
+pub mod Bodies

@@ -4,6 +4,47 @@ ghost use mathlib.Core.Path.{_≡_};
 ghost use Rattle.record.specs.Kinds.{shapesOf, shapeIn};
 ghost use Rattle.record.specs.Record.{recordAt, bodyAt};
 
+// The kinds of a book's records.
+pub const KIND_SCOPE: u8 = 1;
+
+pub const KIND_VARIABLE: u8 = 2;
+
+pub const KIND_SUB_SCOPE: u8 = 3;
+
+pub const KIND_CONSTANT: u8 = 4;
+
+pub const KIND_NUMBER: u8 = 5;
+
+pub const KIND_OWN: u8 = 6;
+
+pub const KIND_CALLED: u8 = 7;
+
+pub const KIND_EMPTY: u8 = 8;
+
+pub const KIND_CONFLICT: u8 = 9;
+
+pub const KIND_NOT: u8 = 10;
+
+pub const KIND_NEGATE: u8 = 11;
+
+pub const KIND_AND: u8 = 12;
+
+pub const KIND_ADD: u8 = 13;
+
+pub const KIND_SUBTRACT: u8 = 14;
+
+pub const KIND_EQUAL: u8 = 15;
+
+pub const KIND_LESS: u8 = 16;
+
+pub const KIND_CHOICE: u8 = 17;
+
+pub const KIND_DEFAULT: u8 = 18;
+
+pub const KIND_DEFINITION: u8 = 19;
+
+pub const KIND_RULE: u8 = 20;
+
 // Where a record stands: the same kind can have another body in a book than in code.
 pub enum Medium {
     Book,
@@ -33,18 +74,18 @@ fn shapes_of(kind: u8) -> Shapes
     ensures { λ r. ⌜ r ≡ shapesOf kind ⌝ }
 {
     match kind {
-        1 => Shapes(0, 1, 1, 1),
-        2 => Shapes(1, 2, 1, 2),
-        3 => Shapes(1, 3, 1, 3),
-        4 | 6 => Shapes(1, 4, 1, 4),
-        5 => Shapes(4, 4, 4, 4),
-        7 => Shapes(2, 4, 2, 4),
-        8..=9 => Shapes(1, 4, 0, 0),
-        10..=11 => Shapes(1, 4, 0, 4),
-        12..=16 => Shapes(2, 4, 0, 4),
-        17 => Shapes(3, 4, 0, 0),
-        18 => Shapes(5, 4, 0, 0),
-        19..=20 => Shapes(5, 5, 0, 0),
+        KIND_SCOPE => Shapes(0, 1, 1, 1),
+        KIND_VARIABLE => Shapes(1, 2, 1, 2),
+        KIND_SUB_SCOPE => Shapes(1, 3, 1, 3),
+        KIND_CONSTANT | KIND_OWN => Shapes(1, 4, 1, 4),
+        KIND_NUMBER => Shapes(4, 4, 4, 4),
+        KIND_CALLED => Shapes(2, 4, 2, 4),
+        KIND_EMPTY..=KIND_CONFLICT => Shapes(1, 4, 0, 0),
+        KIND_NOT..=KIND_NEGATE => Shapes(1, 4, 0, 4),
+        KIND_AND..=KIND_LESS => Shapes(2, 4, 0, 4),
+        KIND_CHOICE => Shapes(3, 4, 0, 0),
+        KIND_DEFAULT => Shapes(5, 4, 0, 0),
+        KIND_DEFINITION..=KIND_RULE => Shapes(5, 5, 0, 0),
         32 | 37 | 39 => Shapes(0, 0, 0, 4),
         33 | 38 => Shapes(0, 0, 0, 4),
         34 | 36 | 40 | 42 => Shapes(0, 0, 2, 4),

@@ -2,6 +2,7 @@
 --     stored                              a value put into a cell is held there
 --     givens-at, givens-list              what is given, as a list
 --     values-at, values-held              the values that cells hold, as a list
+--     kept-none, kept-taken, ..           cells that are nothing or a value's stay so
 --     pasted-length, pasted-in, ..        cells of which a part is put in place of another
 -- Assumes nothing.
 use Prim.Native.Nat.{ℕ, zero, suc, _+_, _-_, _<_, _≤_}
@@ -9,7 +10,7 @@ use mathlib.Core.Path.{_≡_, refl, sym, ap, _∙_}
 use mathlib.Core.Bool.{false}
 use mathlib.Core.List.{List, [], _∷_, _++_, map}
 use native.Mathlib.Omega.{arith}
-use lib.ListN.{length, getD, set, take, drop, length-set, length-append, length-drop, List·getD-append}
+use lib.ListN.{length, getD, set, take, drop, replicate, length-set, length-append, length-drop, List·getD-append}
 use lib.Seq.{getD-set-same, getD-set-other, getD-append-add, length-take-le, getD-take, getD-drop}
 use mir.Syntax.{w32}
 use mir.Val.{SFits}
@@ -18,9 +19,9 @@ use Rattle.calculus.specs.declared.Value.{Value}
 use Rattle.calculus.specs.declared.Value.the-variants.{Truth}
 use Rattle.calculus.specs.declared.Given.{Given}
 use Rattle.calculus.specs.declared.Given.the-variants.{Absent, Present}
-use Rattle.cells.specs.Codec.{valueCell}
+use Rattle.cells.specs.Codec.{valueCell, AllKept}
 use Rattle.cells.specs.Cells.{givenOf, givenAt, held}
-use Rattle.cells.proofs.Variables.{given-cell}
+use Rattle.cells.proofs.Variables.{given-cell, kept-nothing, kept-stored}
 use Rattle.lists.specs.Writing.{valuesFrom}
 use Rattle.scopes.specs.Steps.{Stored, givensFrom}
 
@@ -31,7 +32,28 @@ stored xs at v f l =
       size = length-set xs at (valueCell v);
       here = ap givenOf (getD-set-same xs at (valueCell v) 0 l) ∙ given-cell v f;
       there = λ x ne. ap givenOf (getD-set-other xs at x (valueCell v) 0 ne);
+      kept = kept-stored xs at v f;
     }
+
+-- cells that are nothing or a value's, taken apart and put together
+pub kept-none : (n : ℕ) → AllKept (replicate n 0)
+kept-none zero x = kept-nothing
+kept-none (suc n) zero = kept-nothing
+kept-none (suc n) (suc x) = kept-none n x
+
+pub kept-taken : (n : ℕ) (xs : List ℕ) → AllKept xs → AllKept (take n xs)
+kept-taken zero xs h x = kept-nothing
+kept-taken (suc n) [] h x = kept-nothing
+kept-taken (suc n) (y ∷ xs) h zero = h zero
+kept-taken (suc n) (y ∷ xs) h (suc x) = kept-taken n xs (λ x. h (suc x)) x
+
+pub kept-dropped : (n : ℕ) (xs : List ℕ) → AllKept xs → AllKept (drop n xs)
+kept-dropped n xs h x = rw (getD-drop n xs x 0) (h (n + x))
+
+kept-appended : (xs ys : List ℕ) → AllKept xs → AllKept ys → AllKept (xs ++ ys)
+kept-appended [] ys h k x = k x
+kept-appended (z ∷ xs) ys h k zero = h zero
+kept-appended (z ∷ xs) ys h k (suc x) = kept-appended xs ys (λ x. h (suc x)) k x
 
 -- what given cells hold, as a list
 pub givens-at : (cells : List ℕ) (v n x : ℕ) → x < n → getD (givensFrom cells v n) x Absent ≡ givenAt cells (v + x)
@@ -74,6 +96,11 @@ values-held cells v (g ∷ gs) h =
 -- a part in place of another
 abbrev pub pasted : List ℕ → ℕ → ℕ → List ℕ → List ℕ
 pasted xs a w ys = take a xs ++ (ys ++ drop w (drop a xs))
+
+pub kept-pasted : (xs : List ℕ) (a w : ℕ) (ys : List ℕ) → AllKept xs → AllKept ys → AllKept (pasted xs a w ys)
+kept-pasted xs a w ys h k =
+    kept-appended (take a xs) (ys ++ drop w (drop a xs)) (kept-taken a xs h)
+    (kept-appended ys (drop w (drop a xs)) k (kept-dropped w (drop a xs) (kept-dropped a xs h)))
 
 module _ (xs ys : List ℕ) (a w : ℕ) (size : length ys ≡ w) (room : a + w ≤ length xs) where
   front : length (take a xs) ≡ a

@@ -27,7 +27,8 @@ use Rattle.acceptance.specs.Accepted.{AcceptedBook}
 use Rattle.order.proofs.Among.{among-none}
 use Rattle.order.proofs.Booleans.{decide}
 use Rattle.acceptance.proofs.Orders.{accepted-book, blocks-after}
-use Rattle.trees.specs.Chains.{Ready}
+use Rattle.cells.specs.Codec.{AllKept}
+use Rattle.trees.specs.Rows.{Evaluable}
 use Rattle.evaluation.specs.Run.{ended}
 use Rattle.evaluation.proofs.Entering.{accepted-complete, accepted-formed}
 use Rattle.scopes.specs.Steps.{stepOutcome, Stored, Assigned, HandedAll, enteredAt, Came}
@@ -42,7 +43,7 @@ hasValues (Ended c m) = false
 
 pub ended-came : {bytes : List ℕ} {i : ℕ} {given own : List ℕ} {c : Cause} {m : ℕ} → length own ≡ 32 → enteredAt bytes i given ≡ ended c m
     → Came bytes i given (Ended c m) own
-ended-came size e = record { size = size; same = sym e; present = λ m q x l. absurd (false≢true (ap hasValues q)) }
+ended-came size e = record { size = size; same = sym e; present = λ m q x l. absurd (false≢true (ap hasValues q)); kept = λ m q. absurd (false≢true (ap hasValues q)) }
 
 -- a value is in its variable's cell; an end changes no cell
 pub assigns : {bytes given own called : List ℕ} {i x : ℕ} {o : Outcome} {v : Value} {after : List ℕ} → o ≡ stepOutcome bytes given own called i x → o ≡ Gives v
@@ -94,9 +95,6 @@ module _ {bytes index links orders : List ℕ} {i : ℕ} {own₀ memo₀ : List 
   pub scope-few : i < 32
   scope-few = omega (arith, e .scope, accepted .scopes)
 
-  pub row-ready : Ready bytes index (take 834 (drop (i * 834) links)) i
-  row-ready = record { sound = e .world .sound; linked = e .world .linked .rows i (e .scope) }
-
   step-at : (n : ℕ) → n < stepCount s → getD orders (i * 40 + n) 0 ≡ getD (stepOrder s) n 0
   step-at n l =
       sym (getD-drop (i * 40) orders n 0)
@@ -118,15 +116,16 @@ module _ {bytes index links orders : List ℕ} {i : ℕ} {own₀ memo₀ : List 
       ∙ blocks-after book c f (rank bytes i) low k (omega (arith, long)) in
       subst (λ (z : ℕ). rank bytes z < rank bytes i) (sym is) (place-first (blocks book) (rank bytes i) (getD (s .subScopes) k 0) first)
 
-  pub callee : (k j : ℕ) (part memo : List ℕ) → k < length (s .subScopes) → j ≡ subScopeAt book i k → length part ≡ 32 → Known bytes memo
+  pub callee : (k j : ℕ) (part memo : List ℕ) → k < length (s .subScopes) → j ≡ subScopeAt book i k → length part ≡ 32 → AllKept part → Known bytes memo
       → Entry bytes index links orders j part memo
   unfolding subScopeAt
-  callee k j part memo l is room known =
+  callee k j part memo l is room kept known =
       let f = accepted-formed bytes (length book) (e .world .accepted) in
       record {
         world = e .world;
         scope = subst (λ (z : ℕ). z < length book) (sym is) (f i (e .scope) .subScopesNamed k l);
         room = room;
+        kept = kept;
         known = known;
       }
 
@@ -134,8 +133,21 @@ module _ {bytes index links orders : List ℕ} {i : ℕ} {own₀ memo₀ : List 
   pub noting : {own memo : List ℕ} → length own ≡ 32 → Known bytes memo → Noting bytes index i own memo
   noting room known = record { laid = e .world .sound .laid; scope = scope-few; room = room; known = known }
 
-  pub begins : (given own : List ℕ) → length own ≡ 32 → Running bytes i given own (replicate 256 0) (replicate 32 0) 1 0
-  begins given own room = start bytes i given (e .world .accepted) (e .scope) own room
+  pub begins : (given own : List ℕ) → length own ≡ 32 → AllKept own → Running bytes i given own (replicate 256 0) (replicate 32 0) 1 0
+  begins given own room kept = start bytes i given (e .world .accepted) (e .scope) own room kept
+
+  -- its trees can be evaluated
+  pub evaluable : {given own called handed : List ℕ} {count n : ℕ} → Running bytes i given own called handed count n
+      → Evaluable bytes index (take 834 (drop (i * 834) links)) own called i
+  evaluable r =
+      record {
+        ready = record { sound = e .world .sound; linked = e .world .linked .rows i (e .scope) };
+        scope = scope-few;
+        ownRoom = omega (arith, r .ownRoom);
+        calledRoom = omega (arith, r .calledRoom);
+        ownKept = r .ownKept;
+        calledKept = r .calledKept;
+      }
 
   pub ends : {given own called handed : List ℕ} {count n a b : ℕ} → Running bytes i given own called handed count n
       → a ≡ length (s .variables) → b ≡ length (s .subScopes) → a + b ≤ n → Came bytes i given (Values count) own

@@ -40,11 +40,11 @@ entered-none bytes i given h =
 
 came-none : (bytes : List ℕ) (i : ℕ) (given : List ℕ) (r : Ran) (own : List ℕ) → NoneGiven given (length (scopeAt (scopesOf bytes) i .variables))
     → Came bytes i given r own → Came bytes i [] r own
-came-none bytes i given r own h c = record { size = c .size; same = c .same ∙ entered-none bytes i given h; present = c .present }
+came-none bytes i given r own h c = record { size = c .size; same = c .same ∙ entered-none bytes i given h; present = c .present; kept = c .kept }
 
 none-came : (bytes : List ℕ) (i : ℕ) (given : List ℕ) (r : Ran) (own : List ℕ) → NoneGiven given (length (scopeAt (scopesOf bytes) i .variables))
     → Came bytes i [] r own → Came bytes i given r own
-none-came bytes i given r own h c = record { size = c .size; same = c .same ∙ sym (entered-none bytes i given h); present = c .present }
+none-came bytes i given r own h c = record { size = c .size; same = c .same ∙ sym (entered-none bytes i given h); present = c .present; kept = c .kept }
 
 -- Rows
 
@@ -56,10 +56,11 @@ module _ {bytes index : List ℕ} {i : ℕ} {own memo : List ℕ} (n : Noting by
     bare : b ≡ true → NoneGiven given (length (scopeAt (scopesOf bytes) i .variables))
     bare t x l = u .none t x (omega (arith, v))
 
-    pub recalled : {own' : List ℕ} {r : ℕ} → length own' ≡ 32 → cells.Recalled memo i b own r own' → Recalled bytes i given r own'
+    pub recalled : {own' : List ℕ} {r : ℕ} → length own' ≡ 32 → cells.Recalled memo i b own r own' → Recalled bytes i given own r own'
     recalled {own'} {r} s f =
         record {
           size = s;
+          same = f .kept;
           found = λ ne. none-came bytes i given (Values r) own' (bare (f .found ne .0)) (kept-found _ (n .known) (n .scope) f ne);
         }
 

@@ -26,6 +26,7 @@ use Rattle.calculus.specs.declared.Given.the-variants.{Absent, Present}
 use Rattle.order.specs.Order.{among}
 use Rattle.order.proofs.Booleans.{decide, or-cases}
 use Rattle.order.proofs.Among.{among-snoc, among-none}
+use Rattle.cells.specs.Codec.{AllKept}
 use Rattle.cells.specs.Cells.{givenAt, held}
 use Rattle.book.specs.Syntax.{Scope}
 use Rattle.book.specs.Decode.{scopesOf}
@@ -51,7 +52,7 @@ use Rattle.evaluation.proofs.Counts.{bounded-count, entered-bounded}
 use Rattle.scopes.specs.Steps.{stepOutcome, Stored, givensFrom, overAll, calledCount, overView, HandedAll, enteredAt, ranView, Came}
 use Rattle.scopes.specs.declared.Ran.{Ran}
 use Rattle.scopes.specs.declared.Ran.the-variants.{Values, Ended}
-use Rattle.scopes.proofs.Cells.{givens-at, values-at, values-held, pasted, pasted-length, pasted-in, pasted-before, pasted-after}
+use Rattle.scopes.proofs.Cells.{givens-at, values-at, values-held, kept-none, kept-pasted, pasted, pasted-length, pasted-in, pasted-before, pasted-after}
 use Rattle.scopes.proofs.Hands.{onOver, overrides-over, over-agrees}
 
 -- the first n steps are done
@@ -68,6 +69,8 @@ pub record Running (bytes : List ℕ) (i : ℕ) (given own called handed : List 
   pub handedRoom : length handed ≡ 32
   pub ownLength : length (state .own) ≡ length (scopeAt (scopesOf bytes) i .variables)
   pub calledLength : length (state .called) ≡ length (scopeAt (scopesOf bytes) i .subScopes)
+  pub ownKept : AllKept own
+  pub calledKept : AllKept called
   pub rest :
       runSteps (scopesOf bytes) (enter (scopesOf bytes) (reverse (blocks (scopesOf bytes)))) (scopeAt (scopesOf bytes) i)
       (givensFrom given 0 (length (scopeAt (scopesOf bytes) i .variables))) (drop n (stepOrder (scopeAt (scopesOf bytes) i))) state
@@ -114,9 +117,9 @@ module _ (bytes : List ℕ) (i : ℕ) (given : List ℕ) (ok : judge bytes ≡ A
       let w = accepted .weights i here in
       omega (arith, b, w)
 
-  pub start : (own : List ℕ) → length own ≡ 32 → Running bytes i given own (replicate 256 0) (replicate 32 0) 1 0
+  pub start : (own : List ℕ) → length own ≡ 32 → AllKept own → Running bytes i given own (replicate 256 0) (replicate 32 0) 1 0
   unfolding enteredAt
-  start own size =
+  start own size kept =
       record {
         state = begin s;
         counted = refl;
@@ -126,6 +129,8 @@ module _ (bytes : List ℕ) (i : ℕ) (given : List ℕ) (ok : judge bytes ≡ A
         handedRoom = refl;
         ownLength = length-map (s .variables) _;
         calledLength = length-map (s .subScopes) _;
+        ownKept = kept;
+        calledKept = kept-none 256;
         rest = sym (accepted-entered-steps bytes (length book) ok i here gs);
         owns = λ x l d. among-none x d;
         calls = λ k x l m d. among-none (vars + k) d;
@@ -204,6 +209,8 @@ module _ (bytes : List ℕ) (i : ℕ) (given : List ℕ) (ok : judge bytes ≡ A
             handedRoom = r .handedRoom;
             ownLength = length-set (st .own) x (Present v) ∙ r .ownLength;
             calledLength = r .calledLength;
+            ownKept = put .kept (r .ownKept);
+            calledKept = r .calledKept;
             rest = sym
                 (whole
                 ∙ ap (λ (z : Outcome). onValue z (st .count) (λ v. runSteps book all-blocks s gs (drop (suc n) (stepOrder s)) (record { own = set (st .own) x (Present v); called = st .called; count = st .count }))) (sym e ∙ q));
@@ -317,6 +324,8 @@ module _ (bytes : List ℕ) (i : ℕ) (given : List ℕ) (ok : judge bytes ≡ A
                 handedRoom = h .size;
                 ownLength = r .ownLength;
                 calledLength = length-set (st .called) k (valuesOf part (calledCount book i k)) ∙ r .calledLength;
+                ownKept = r .ownKept;
+                calledKept = kept-pasted called (k * 32) 32 part (r .calledKept) (came .kept m e);
                 rest = sym (call-values m e);
                 owns = λ y l d.
                     ⊎-elim (λ (p : Done bytes i n y). r .owns y l p) (λ (p : y ≡ x). absurd (omega arith)) (done-now y d);
@@ -369,4 +378,5 @@ module _ (bytes : List ℕ) (i : ℕ) (given : List ℕ) (ok : judge bytes ≡ A
         size = r .ownRoom;
         same = sym (λ t. values (vals t) (r .counted t)) ∙ over;
         present = λ m e x h. ap isGiven (held-own x h);
+        kept = λ m e. r .ownKept;
       }

@@ -4,6 +4,7 @@ use Prim.Native.Nat.{ℕ, _<_}
 use mathlib.Core.Path.{_≡_}
 use mathlib.Core.List.{List, []}
 use lib.ListN.{length}
+use Rattle.cells.specs.Codec.{AllKept}
 use Rattle.memo.specs.Rows.{Kept}
 use Rattle.book.specs.Decode.{scopesOf}
 use Rattle.index.specs.Index.{Laid}
@@ -21,9 +22,10 @@ pub record Noting (bytes index : List ℕ) (i : ℕ) (own memo : List ℕ) : Typ
   pub room : length own ≡ 32
   pub known : Known bytes memo
 
--- where the answer is not 0, it is the count of scopes entered, and the cells hold the values
-pub record Recalled (bytes : List ℕ) (i : ℕ) (given : List ℕ) (r : ℕ) (own : List ℕ) : Type 0 where
+-- where the answer is not 0, it is the count of scopes entered, and the cells hold the values; else they are as they were
+pub record Recalled (bytes : List ℕ) (i : ℕ) (given before : List ℕ) (r : ℕ) (own : List ℕ) : Type 0 where
   pub size : length own ≡ 32
+  pub same : r ≡ 0 → own ≡ before
   pub found : (r ≡ 0 → ⊥) → Came bytes i given (Values r) own
 
 -- scope i can be entered
@@ -31,4 +33,5 @@ pub record Entry (bytes index links orders : List ℕ) (i : ℕ) (own memo : Lis
   pub world : World bytes index links orders
   pub scope : i < length (scopesOf bytes)
   pub room : length own ≡ 32
+  pub kept : AllKept own
   pub known : Known bytes memo

@@ -11,6 +11,7 @@ use Rattle.calculus.specs.declared.Outcome.{Outcome}
 use Rattle.calculus.specs.declared.Outcome.the-variants.{Gives, Ends}
 use Rattle.calculus.specs.declared.Given.{Given}
 use Rattle.calculus.specs.declared.Given.the-variants.{Absent, Present}
+use Rattle.cells.specs.Codec.{AllKept}
 use Rattle.cells.specs.Cells.{givenAt}
 use Rattle.book.specs.Syntax.{Scope}
 use Rattle.book.specs.Decode.{scopesOf}
@@ -24,7 +25,7 @@ use Rattle.terms.specs.Outcomes.{envOf}
 use Rattle.lists.specs.Inputs.{isGiven}
 use Rattle.lists.specs.Writing.{valuesOf}
 use Rattle.links.specs.Links.{Sound, AllLinked}
-use Rattle.trees.specs.Chains.{Ready}
+use Rattle.trees.specs.Rows.{Evaluable}
 use Rattle.evaluation.specs.Run.{Entered, values, ended, enter}
 use Rattle.scopes.specs.declared.Ran.{Ran}
 use Rattle.scopes.specs.declared.Ran.the-variants.{Values, Ended}
@@ -38,10 +39,11 @@ pub record Stored (before : List ℕ) (at : ℕ) (v : Value) (after : List ℕ) 
   pub size : length after ≡ length before
   pub here : givenAt after at ≡ Present v
   pub there : (x : ℕ) → (x ≡ at → ⊥) → givenAt after x ≡ givenAt before x
+  pub kept : AllKept before → AllKept after
 
 -- a tree of scope i can be evaluated, and variable v has a cell
-pub record Filling (bytes index links : List ℕ) (i : ℕ) (cells : List ℕ) (v : ℕ) : Type 0 where
-  pub ready : Ready bytes index links i
+pub record Filling (bytes index links own called : List ℕ) (i : ℕ) (cells : List ℕ) (v : ℕ) : Type 0 where
+  pub evaluable : Evaluable bytes index links own called i
   pub room : v < length cells
 
 -- a value is in a cell; where there is none, the cells are as they were
@@ -108,8 +110,8 @@ abbrev pub overView : Outcome → List Given → Over
 overView (Gives v) gs = all gs
 overView (Ends c) gs = stopped c
 
-pub record HandsAll (bytes index links : List ℕ) (i k : ℕ) (handed : List ℕ) : Type 0 where
-  pub ready : Ready bytes index links i
+pub record HandsAll (bytes index links own called : List ℕ) (i k : ℕ) (handed : List ℕ) : Type 0 where
+  pub evaluable : Evaluable bytes index links own called i
   pub number : k < 8
   pub room : length handed ≡ 32
 
@@ -140,3 +142,4 @@ pub record Came (bytes : List ℕ) (i : ℕ) (given : List ℕ) (r : Ran) (own :
   pub size : length own ≡ 32
   pub same : ranView r own (length (scopeAt (scopesOf bytes) i .variables)) ≡ enteredAt bytes i given
   pub present : (m : ℕ) → r ≡ Values m → (x : ℕ) → x < length (scopeAt (scopesOf bytes) i .variables) → isGiven (givenAt own x) ≡ true
+  pub kept : (m : ℕ) → r ≡ Values m → AllKept own

@@ -3,8 +3,12 @@ use calculus::Cause;
 use calculus::Given;
 use calculus::Outcome;
 use calculus::Value;
+use cells::EMPTY;
+use cells::cause_of;
 use cells::cell_of;
 use cells::given_at;
+use cells::given_of;
+use cells::value_of;
 use index::sub_scope_at;
 use index::sub_scope_count;
 use index::variable_count;
@@ -18,7 +22,8 @@ use trees::has_clause;
 ghost use mathlib.Core.Path.{_≡_};
 ghost use Prim.Native.Nat.{_<_};
 ghost use lib.ListN.{length};
-ghost use Rattle.trees.specs.Chains.{Ready};
+ghost use Rattle.cells.specs.Codec.{outcomeOf};
+ghost use Rattle.trees.specs.Rows.{Evaluable};
 ghost use Rattle.scopes.specs.Steps.{stepOutcome, Stored, Filling, Assigned, HandedOne, HandsAll, HandedAll, Came};
 ghost use Rattle.scopes.specs.Known.{Known, Noting, Recalled, Entry};
 ghost use Rattle.scopes.specs.declared.Ran.the-variants.{Values};
@@ -44,6 +49,16 @@ fn put_cell(cells: &mut [u64], at: usize, v: Value)
     cells[at] = cell_of(v);
 }
 
+// The outcome of a cell.
+fn outcome_of(c: u64) -> Outcome
+    ensures { λ r. ⌜ r ≡ outcomeOf c ⌝ }
+{
+    if c < EMPTY {
+        return Outcome::Gives(value_of(given_of(c)));
+    }
+    Outcome::Ends(cause_of(c))
+}
+
 // The value of own variable x of scope i: what is given, or what its default tree comes to.
 fn step_value(
     book: &[u8],
@@ -55,12 +70,12 @@ fn step_value(
     i: usize,
     x: u8,
 ) -> Outcome
-    requires { ⌜ Ready (now book) (now index) (now links) i ⌝ }
+    requires { ⌜ Evaluable (now book) (now index) (now links) (now own) (now called) i ⌝ }
     ensures { λ r. ⌜ r ≡ stepOutcome (now (book .entry)) (now (given .entry)) (now (own .entry)) (now (called .entry)) i x ⌝ }
 {
     let g = given_at(given, x as usize);
     match g {
-        Given::Absent => eval_tree(book, index, links, own, called, i, 255, x),
+        Given::Absent => { outcome_of(eval_tree(book, index, links, own, called, i, 255, x)) }
         Given::Present(v) => Outcome::Gives(v),
     }
 }
@@ -76,7 +91,7 @@ fn set_variable(
     i: usize,
     x: u8,
 ) -> Outcome
-    requires { ⌜ Filling (now book) (now index) (now links) i (now own) x ⌝ }
+    requires { ⌜ Filling (now book) (now index) (now links) (now own) (now called) i (now own) x ⌝ }
     ensures { λ r.
         ⌜ Assigned (now (book .entry)) (now (given .entry)) (now (own .entry)) (now (called .entry)) i x r (now (own .exit)) ⌝ }
 {
@@ -103,7 +118,7 @@ fn hand_one(
     v: u8,
     handed: &mut [u64],
 ) -> Outcome
-    requires { ⌜ Filling (now book) (now index) (now links) i (now handed) v ⌝ }
+    requires { ⌜ Filling (now book) (now index) (now links) (now own) (now called) i (now handed) v ⌝ }
     ensures { λ r.
         ⌜ HandedOne (now (book .entry)) (now (own .entry)) (now (called .entry)) i k v (now (handed .entry)) r (now (handed .exit)) ⌝ }
 {
@@ -111,7 +126,7 @@ fn hand_one(
         handed[v as usize] = 0;
         return Outcome::Gives(Value::Truth(true));
     }
-    let o = eval_tree(book, index, links, own, called, i, k, v);
+    let o = outcome_of(eval_tree(book, index, links, own, called, i, k, v));
     match o {
         Outcome::Gives(y) => {
             put_cell(handed, v as usize, y);
@@ -132,7 +147,7 @@ fn hand_over(
     k: usize,
     handed: &mut [u64],
 ) -> Outcome
-    requires { ⌜ HandsAll (now book) (now index) (now links) i k (now handed) ⌝ }
+    requires { ⌜ HandsAll (now book) (now index) (now links) (now own) (now called) i k (now handed) ⌝ }
     ensures { λ r.
         ⌜ HandedAll (now (book .entry)) (now (own .entry)) (now (called .entry)) i k r (now (handed .exit)) ⌝ }
 {
@@ -160,7 +175,7 @@ fn recall_scope(
     own: &mut [u64],
 ) -> usize
     requires { ⌜ Noting (now book) (now index) i (now own) (now memo) ⌝ }
-    ensures { λ r. ⌜ Recalled (now (book .entry)) i (now (given .entry)) r (now (own .exit)) ⌝ }
+    ensures { λ r. ⌜ Recalled (now (book .entry)) i (now (given .entry)) (now (own .entry)) r (now (own .exit)) ⌝ }
 {
     let bare = none_given(given, variable_count(book, index, i));
     recall(memo, i, bare, own)

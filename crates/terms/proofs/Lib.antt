@@ -1,4 +1,7 @@
 -- Laws that the proofs of several functions use, and those that other crates cite.
-mod Nodes
+mod Operators
+pub mod Defaults
+pub mod Nodes
+mod Clauses
 pub mod Agreement
 pub mod Trees

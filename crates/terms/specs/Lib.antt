@@ -1,2 +1,4 @@
+pub mod Operators
 pub mod Outcomes
+pub mod Clauses
 pub mod Agreement

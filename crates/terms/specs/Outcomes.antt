@@ -1,73 +1,80 @@
--- What the nodes of a scope evaluate to, over the cells of its variables and of its sub-scopes' variables.
-use Prim.Native.Nat.{ℕ, _+_, _*_, _≤_}
-use mathlib.Core.Bool.{Bool, true, false, cond}
-use mathlib.Core.List.{List}
-use lib.ListN.{length}
+-- What the nodes of a scope evaluate to, by its row of positions, over the cells of its variables and of its sub-scopes' variables.
+use Prim.Native.Nat.{ℕ, suc, _+_, _*_, _<_, _≤_}
+use mathlib.Core.Path.{_≡_}
+use mathlib.Core.Bool.{cond}
+use mathlib.Core.List.{List, [], _∷_}
+use lib.ListN.{length, getD}
 use lib.Dec.{eqb}
 use Rattle.calculus.specs.Evaluation.{Env, eval}
-use Rattle.calculus.specs.Defaults.{gather, settle}
-use Rattle.calculus.specs.Outcomes.{choose}
-use Rattle.calculus.specs.declared.Cause.the-variants.{Empty}
+use Rattle.calculus.specs.Defaults.{gather}
 use Rattle.calculus.specs.declared.Outcome.{Outcome}
-use Rattle.calculus.specs.declared.Outcome.the-variants.{Ends}
-use Rattle.calculus.specs.declared.Joined.the-variants.{Nothing, One, Many}
 use Rattle.calculus.specs.declared.Gathered.{Gathered}
-use Rattle.calculus.specs.declared.Gathered.the-variants.{SoFar, Ended}
+use Rattle.book.specs.Positions.{nodeFrom, nodeLength}
+use Rattle.book.specs.Trees.{termBelow}
+use Rattle.book.specs.declared.Node.{Node}
+use Rattle.book.specs.declared.Node.the-variants as node
+use Rattle.cells.specs.Codec.{Gathers, AllKept}
 use Rattle.cells.specs.Cells.{givenAt, held}
-use Rattle.book.specs.Decode.{scopesOf}
-use Rattle.book.specs.References.{scopeAt}
-use Rattle.index.specs.Index.{Laid}
-use Rattle.book.specs.Trees.{termBelow, termOf, conditionTerm, consequenceTerm}
-use Rattle.book.specs.declared.Consequence.{Consequence}
 
 -- one cell for each own variable, 32 for each sub-scope
 abbrev pub envOf : List ℕ → List ℕ → Env
 envOf own called = record { own = λ x. held (givenAt own x); called = λ k x. held (givenAt called (k * 32 + x)) }
 
--- node n of scope i of the book
-unfoldable pub nodeOutcome : List ℕ → List ℕ → List ℕ → ℕ → ℕ → Outcome
-nodeOutcome bytes own called i n = eval (envOf own called) (termOf (scopeAt (scopesOf bytes) i) n)
+-- the nodes whose records begin at the positions of a row
+unfoldable pub nodesIn : List ℕ → List ℕ → List Node
+nodesIn bytes [] = []
+nodesIn bytes (at ∷ row) = nodeFrom bytes at ∷ nodesIn bytes row
 
--- a clause's condition, "255: always"
-unfoldable pub conditionOutcome : List ℕ → List ℕ → List ℕ → ℕ → ℕ → Outcome
-conditionOutcome bytes own called i n = eval (envOf own called) (conditionTerm (scopeAt (scopesOf bytes) i) n)
+-- node n of a row
+unfoldable pub outcomeIn : List ℕ → List ℕ → List ℕ → List ℕ → ℕ → Outcome
+outcomeIn bytes row own called n = eval (envOf own called) (termBelow (nodesIn bytes row) (suc n) n)
 
-unfoldable pub consequenceOutcome : List ℕ → List ℕ → List ℕ → ℕ → Consequence → Outcome
-consequenceOutcome bytes own called i c = eval (envOf own called) (consequenceTerm (scopeAt (scopesOf bytes) i) c)
+-- the exceptions so far and one more, a node of a row, "255: none"
+unfoldable pub gatherIn : List ℕ → List ℕ → List ℕ → List ℕ → Gathered → ℕ → Gathered
+gatherIn bytes row own called g x = cond (eqb x 255) g (gather g (outcomeIn bytes row own called x))
 
--- node n among the nodes below a limit
-unfoldable pub outcomeBelow : List ℕ → List ℕ → List ℕ → ℕ → ℕ → ℕ → Outcome
-outcomeBelow bytes own called i limit n = eval (envOf own called) (termBelow (scopeAt (scopesOf bytes) i .nodes) limit n)
+-- a default whose record begins at a position
+abbrev pub defaultFrom : List ℕ → ℕ → Node
+defaultFrom bytes at =
+    node.Default (getD bytes (at + 1) 0) (getD bytes (at + 2) 0) (getD bytes (at + 3) 0) (getD bytes (at + 4) 0) (getD bytes (at + 5) 0)
 
--- an "if" of nodes below a limit: condition, then, else
-unfoldable pub choiceBelow : List ℕ → List ℕ → List ℕ → ℕ → ℕ → ℕ → ℕ → ℕ → Outcome
-choiceBelow bytes own called i limit c a b =
-    choose (outcomeBelow bytes own called i limit c) (outcomeBelow bytes own called i limit a) (outcomeBelow bytes own called i limit b)
+abbrev pub NamesException : ℕ → ℕ → Type 0
+NamesException n x = (x ≡ 255 → ⊥) → x < n
 
--- the exceptions so far and one more, a node below a limit, "255: none"
-unfoldable pub gatherBelow : List ℕ → List ℕ → List ℕ → ℕ → ℕ → Gathered → ℕ → Gathered
-gatherBelow bytes own called i limit g x = cond (eqb x 255) g (gather g (outcomeBelow bytes own called i limit x))
+-- what node n names are nodes of lower number, and variables that have cells
+abbrev pub Names : ℕ → ℕ → ℕ → Node → Type 0
+Names n own called (node.Constant b) = Unit {0}
+Names n own called (node.Number z) = Unit {0}
+Names n own called (node.Own x) = x < own
+Names n own called (node.Called k x) = k * 32 + x < called
+Names n own called (node.Empty t) = Unit {0}
+Names n own called (node.Conflict t) = Unit {0}
+Names n own called (node.Unary op a) = a < n
+Names n own called (node.Binary op a b) = (a < n) × (b < n)
+Names n own called (node.Choice c a b) = (c < n) × (a < n) × (b < n)
+Names n own called (node.Default x y z j c) = NamesException n x × NamesException n y × NamesException n z × (j < n) × (c < n)
 
--- "With none, the justification is evaluated; yes evaluates the consequence, no gives empty"
-unfoldable pub restBelow : List ℕ → List ℕ → List ℕ → ℕ → ℕ → ℕ → ℕ → Outcome
-restBelow bytes own called i limit j c =
-    choose (outcomeBelow bytes own called i limit j) (outcomeBelow bytes own called i limit c) (Ends Empty)
+-- at place n of the row stands a node, whole, and what it names is there
+pub record Stands (bytes row own called : List ℕ) (n : ℕ) : Type 0 where
+  pub inside : n < length row
+  pub whole : getD row n 0 + nodeLength (getD bytes (getD row n 0) 0) < length bytes
+  pub names : Names n (length own) (length called) (nodeFrom bytes (getD row n 0))
 
--- a default of nodes below a limit: three exceptions, justification, consequence
-unfoldable pub defaultBelow : List ℕ → List ℕ → List ℕ → ℕ → ℕ → ℕ → ℕ → ℕ → ℕ → ℕ → Outcome
-defaultBelow bytes own called i limit x y z j c =
-    settle
-    (gatherBelow bytes own called i limit (gatherBelow bytes own called i limit (gatherBelow bytes own called i limit (SoFar Nothing) x) y) z)
-    (restBelow bytes own called i limit j c)
+-- node n of the row can be evaluated
+pub record Readable (bytes row own called : List ℕ) (n : ℕ) : Type 0 where
+  pub stands : (m : ℕ) → m ≤ n → Stands bytes row own called m
+  pub ownKept : AllKept own
+  pub calledKept : AllKept called
 
--- every exception was empty: justification and consequence decide
-abbrev pub isNothing : Gathered → Bool
-isNothing (SoFar Nothing) = true
-isNothing (SoFar (One v)) = false
-isNothing (SoFar Many) = false
-isNothing (Ended c) = false
+-- so can node n, a default
+pub record ReadableDefault (bytes row own called : List ℕ) (n : ℕ) : Type 0 where
+  pub readable : Readable bytes row own called n
+  pub whole : getD row n 0 + 5 < length bytes
+  pub is : nodeFrom bytes (getD row n 0) ≡ defaultFrom bytes (getD row n 0)
 
--- the tables are those of the book, and the limit is at most the number of nodes of scope i
-pub record Limited (bytes index : List ℕ) (i limit : ℕ) : Type 0 where
-  pub laid : Laid bytes index
-  pub few : limit ≤ length (scopeAt (scopesOf bytes) i .nodes)
+-- an exception of a default can be
+abbrev pub ReadableException : List ℕ → List ℕ → List ℕ → List ℕ → ℕ → Type 0
+ReadableException bytes row own called x = (x ≡ 255 → ⊥) → Readable bytes row own called x
+
+abbrev pub GathersIn : List ℕ → List ℕ → List ℕ → List ℕ → ℕ → ℕ → ℕ → Type 0
+GathersIn bytes row own called c x r = (g : Gathered) → Gathers c g → Gathers r (gatherIn bytes row own called g x)

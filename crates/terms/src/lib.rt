@@ -1,238 +1,237 @@
-// The nodes of a scope, evaluated on demand: one branch of an "if", a right operand where the left gave a value, the
-// justification where no exception gave one, the consequence where the justification is yes.
-use book::Consequence;
-use book::Node;
-use calculus::Cause;
-use calculus::Gathered;
-use calculus::Joined;
-use calculus::Outcome;
-use calculus::Value;
-use cells::given_at;
-use cells::value_of;
-use defaults::gather;
-use defaults::settle;
-use index::node_at;
-use index::node_count;
-use operators::eval_binary;
-use operators::eval_unary;
-use operators::truth_of;
+// The nodes of a scope, evaluated on demand over the cells of variables: one branch of an "if", a right operand where the left gave a value,
+// the justification where no exception gave one, the consequence where the justification is yes. An outcome is a cell.
+use cells::CONFLICT;
+use cells::EMPTY;
+use cells::MANY;
+use cells::NO;
+use cells::NOTHING;
+use cells::OUT_OF_RANGE;
+use cells::YES;
+use cells::ZERO;
+use integers::bits_of;
+use integers::number_at;
+use integers::number_of;
+use record::KIND_ADD;
+use record::KIND_AND;
+use record::KIND_CALLED;
+use record::KIND_CHOICE;
+use record::KIND_CONFLICT;
+use record::KIND_CONSTANT;
+use record::KIND_DEFINITION;
+use record::KIND_EMPTY;
+use record::KIND_EQUAL;
+use record::KIND_LESS;
+use record::KIND_NEGATE;
+use record::KIND_NOT;
+use record::KIND_NUMBER;
+use record::KIND_OWN;
+use record::KIND_SUBTRACT;
 ghost use mathlib.Core.Path.{_≡_};
-ghost use Rattle.index.specs.Index.{Laid};
-ghost use Rattle.cells.specs.Cells.{givenAt, held};
-ghost use Rattle.terms.specs.Outcomes.{nodeOutcome, conditionOutcome, consequenceOutcome};
-ghost use Rattle.terms.specs.Outcomes.{outcomeBelow, choiceBelow, defaultBelow, gatherBelow, restBelow, isNothing, Limited};
+ghost use Rattle.calculus.specs.Values.{ranged as Values·ranged};
+ghost use Rattle.calculus.specs.declared.Value.the-variants.{Number};
+ghost use Rattle.calculus.specs.declared.Unary.the-variants.{Not, Negate};
+ghost use Rattle.cells.specs.Codec.{truthCell, valueCell, payload, heldCell, Codes};
+ghost use Rattle.terms.specs.Operators.{operator, OnOne, OnTwo, OnBoth};
+ghost use Rattle.terms.specs.Outcomes.{outcomeIn, Readable, ReadableDefault, ReadableException, GathersIn};
+ghost use Rattle.terms.specs.Clauses.{restIn, ReadableClause};
 
-// What a variable holds; one that is not set holds no.
-fn value_at(cells: &[u64], at: usize) -> Value
-    ensures { λ r. ⌜ r ≡ held (givenAt (now (cells .entry)) at) ⌝ }
+// The cell of a yes/no.
+fn truth(b: bool) -> u64
+    ensures { λ r. ⌜ r ≡ truthCell b ⌝ }
 {
-    value_of(given_at(cells, at))
+    if b { YES } else { NO }
 }
 
-// Whether every exception was empty.
-fn is_nothing(g: Gathered) -> bool
-    ensures { λ r. ⌜ r ≡ isNothing g ⌝ }
+// The cell of a number.
+fn number(z: i32) -> u64
+    ensures { λ r. ⌜ r ≡ valueCell (Number z) ⌝ }
 {
-    match g {
-        Gathered::SoFar(j) => match j {
-            Joined::Nothing => true,
-            Joined::One(_) => false,
-            Joined::Many => false,
-        },
-        Gathered::Ended(_) => false,
+    ZERO + (bits_of(z) as u64)
+}
+
+// The cell of a number, or of out of range.
+fn ranged(z: i64) -> u64
+    ensures { λ r. ⌜ Codes r (Values·ranged z) ⌝ }
+{
+    if z < -2147483648 {
+        return OUT_OF_RANGE;
+    }
+    if 2147483647 < z {
+        return OUT_OF_RANGE;
+    }
+    number(z as i32)
+}
+
+// The number in a cell; of a yes/no, 0.
+fn signed(c: u64) -> i64
+    ensures { λ r. ⌜ r ≡ payload c ⌝ }
+{
+    number_of((c % 4294967296) as u32) as i64
+}
+
+// "Not" of a cell; an end passes.
+fn not(x: u64) -> u64
+    ensures { λ r. ⌜ OnOne Not x r ⌝ }
+{
+    if EMPTY <= x {
+        return x;
+    }
+    if x == YES { NO } else { YES }
+}
+
+// The negated number of a cell; an end passes.
+fn negate(x: u64) -> u64
+    ensures { λ r. ⌜ OnOne Negate x r ⌝ }
+{
+    if EMPTY <= x {
+        return x;
+    }
+    ranged(-signed(x))
+}
+
+// The operator of a node's kind on two cells; the first end passes.
+fn binary(kind: u8, x: u64, y: u64) -> u64
+    ensures { λ r. ⌜ OnTwo (operator kind) x y r ⌝ }
+{
+    if EMPTY <= x {
+        return x;
+    }
+    if EMPTY <= y {
+        return y;
+    }
+    match kind {
+        KIND_AND => truth((x == YES) & (y == YES)),
+        KIND_ADD => ranged(signed(x) + signed(y)),
+        KIND_SUBTRACT => ranged(signed(x) - signed(y)),
+        KIND_EQUAL => truth(x == y),
+        _ => truth(signed(x) < signed(y)),
     }
 }
 
-// Node n of scope i among the nodes below a limit. A node names only nodes below itself.
-fn eval_below(
-    book: &[u8],
-    index: &[u16],
-    own: &[u64],
-    called: &[u64],
-    i: usize,
-    limit: usize,
-    n: usize,
-) -> Outcome
-    requires { ⌜ Limited (now book) (now index) i limit ⌝ }
-    ensures { λ r. ⌜ r ≡ outcomeBelow (now (book .entry)) (now (own .entry)) (now (called .entry)) i limit n ⌝ }
+// The exceptions so far, and one more.
+pub fn gather(g: u64, o: u64) -> u64
+    ensures { λ r. ⌜ OnBoth g o r ⌝ }
 {
-    if limit <= n {
-        return Outcome::Ends(Cause::Empty);
+    if EMPTY <= g {
+        return g;
     }
-    let node = node_at(book, index, i, n);
-    match node {
-        Node::Constant(b) => Outcome::Gives(Value::Truth(b)),
-        Node::Number(z) => Outcome::Gives(Value::Number(z)),
-        Node::Own(x) => Outcome::Gives(value_at(own, x as usize)),
-        Node::Called(k, x) => Outcome::Gives(value_at(called, (k as usize) * 32 + (x as usize))),
-        Node::Empty(_) => Outcome::Ends(Cause::Empty),
-        Node::Conflict(_) => Outcome::Ends(Cause::Conflict),
-        Node::Unary(op, a) => {
-            let x = eval_below(book, index, own, called, i, n, a as usize);
-            eval_unary(op, x)
+    if o == EMPTY {
+        return g;
+    }
+    if EMPTY < o {
+        return o;
+    }
+    if g == NOTHING { o } else { MANY }
+}
+
+// A variable's cell where it is read; one that is not set holds no.
+fn held_cell(c: u64) -> u64
+    ensures { λ r. ⌜ r ≡ heldCell c ⌝ }
+{
+    if c == NOTHING { NO } else { c }
+}
+
+// Node n of a scope, by the scope's row of positions. A node names only nodes below itself.
+fn eval_below(book: &[u8], row: &[u16], own: &[u64], called: &[u64], n: usize) -> u64
+    requires { ⌜ Readable (now book) (now row) (now own) (now called) n ⌝ }
+    ensures { λ r. ⌜ Codes r (outcomeIn (now (book .entry)) (now (row .entry)) (now (own .entry)) (now (called .entry)) n) ⌝ }
+{
+    let at = row[n] as usize;
+    let kind = book[at];
+    let a = book[at + 1];
+    match kind {
+        KIND_CONSTANT => truth(a == 1),
+        KIND_NUMBER => number(number_at(book, at + 1)),
+        KIND_OWN => held_cell(own[a as usize]),
+        KIND_CALLED => {
+            let x = book[at + 2];
+            held_cell(called[(a as usize) * 32 + (x as usize)])
         }
-        Node::Binary(op, a, b) => {
-            let x = eval_below(book, index, own, called, i, n, a as usize);
-            match x {
-                Outcome::Gives(_) => {
-                    let y = eval_below(book, index, own, called, i, n, b as usize);
-                    eval_binary(op, x, y)
-                }
-                Outcome::Ends(_) => x,
+        KIND_EMPTY => EMPTY,
+        KIND_CONFLICT => CONFLICT,
+        KIND_NOT => not(eval_below(book, row, own, called, a as usize)),
+        KIND_NEGATE => negate(eval_below(book, row, own, called, a as usize)),
+        KIND_AND | KIND_ADD | KIND_SUBTRACT | KIND_EQUAL | KIND_LESS => {
+            let b = book[at + 2];
+            let x = eval_below(book, row, own, called, a as usize);
+            if EMPTY <= x {
+                return x;
             }
+            let y = eval_below(book, row, own, called, b as usize);
+            binary(kind, x, y)
         }
-        Node::Choice(c, a, b) => { eval_choice(book, index, own, called, i, n, c, a, b) }
-        Node::Default(x, y, z, j, c) => {
-            eval_default(book, index, own, called, i, n, x, y, z, j, c)
+        KIND_CHOICE => {
+            let t = eval_below(book, row, own, called, a as usize);
+            if EMPTY <= t {
+                return t;
+            }
+            let taken = if t == YES { book[at + 2] } else { book[at + 3] };
+            eval_below(book, row, own, called, taken as usize)
         }
+        _ => eval_default(book, row, own, called, n),
     }
 }
 
-// An "if" of nodes below a limit: the branch that the condition c takes.
-fn eval_choice(
-    book: &[u8],
-    index: &[u16],
-    own: &[u64],
-    called: &[u64],
-    i: usize,
-    limit: usize,
-    c: u8,
-    a: u8,
-    b: u8,
-) -> Outcome
-    requires { ⌜ Limited (now book) (now index) i limit ⌝ }
-    ensures { λ r. ⌜ r ≡ choiceBelow (now (book .entry)) (now (own .entry)) (now (called .entry)) i limit c a b ⌝ }
+// Node n, a default: three exceptions, justification, consequence.
+fn eval_default(book: &[u8], row: &[u16], own: &[u64], called: &[u64], n: usize) -> u64
+    requires { ⌜ ReadableDefault (now book) (now row) (now own) (now called) n ⌝ }
+    ensures { λ r. ⌜ Codes r (outcomeIn (now (book .entry)) (now (row .entry)) (now (own .entry)) (now (called .entry)) n) ⌝ }
 {
-    let t = eval_below(book, index, own, called, i, limit, c as usize);
-    match t {
-        Outcome::Gives(v) => {
-            let taken = if truth_of(v) { a } else { b };
-            eval_below(book, index, own, called, i, limit, taken as usize)
-        }
-        Outcome::Ends(_) => t,
+    let at = row[n] as usize;
+    let first = exception(book, row, own, called, NOTHING, book[at + 1]);
+    let second = exception(book, row, own, called, first, book[at + 2]);
+    let all = exception(book, row, own, called, second, book[at + 3]);
+    if all == MANY {
+        return CONFLICT;
     }
-}
-
-// A default of nodes below a limit: exceptions x, y and z, justification j, consequence c.
-fn eval_default(
-    book: &[u8],
-    index: &[u16],
-    own: &[u64],
-    called: &[u64],
-    i: usize,
-    limit: usize,
-    x: u8,
-    y: u8,
-    z: u8,
-    j: u8,
-    c: u8,
-) -> Outcome
-    requires { ⌜ Limited (now book) (now index) i limit ⌝ }
-    ensures { λ r. ⌜ r ≡ defaultBelow (now (book .entry)) (now (own .entry)) (now (called .entry)) i limit x y z j c ⌝ }
-{
-    let none = Gathered::SoFar(Joined::Nothing);
-    let first = eval_exception(book, index, own, called, i, limit, none, x);
-    let second = eval_exception(book, index, own, called, i, limit, first, y);
-    let all = eval_exception(book, index, own, called, i, limit, second, z);
-    if is_nothing(all) {
-        eval_rest(book, index, own, called, i, limit, j, c)
+    if all != NOTHING {
+        return all;
+    }
+    let j = eval_below(book, row, own, called, book[at + 4] as usize);
+    if EMPTY <= j {
+        return j;
+    }
+    if j == YES {
+        eval_below(book, row, own, called, book[at + 5] as usize)
     } else {
-        settle(all, Outcome::Ends(Cause::Empty))
+        EMPTY
     }
 }
 
 // The exceptions so far, and node x; where they have ended, x is not evaluated.
-fn eval_exception(
-    book: &[u8],
-    index: &[u16],
-    own: &[u64],
-    called: &[u64],
-    i: usize,
-    limit: usize,
-    g: Gathered,
-    x: u8,
-) -> Gathered
-    requires { ⌜ Limited (now book) (now index) i limit ⌝ }
-    ensures { λ r. ⌜ r ≡ gatherBelow (now (book .entry)) (now (own .entry)) (now (called .entry)) i limit g x ⌝ }
+fn exception(book: &[u8], row: &[u16], own: &[u64], called: &[u64], g: u64, x: u8) -> u64
+    requires { ⌜ ReadableException (now book) (now row) (now own) (now called) x ⌝ }
+    ensures { λ r. ⌜ GathersIn (now (book .entry)) (now (row .entry)) (now (own .entry)) (now (called .entry)) g x r ⌝ }
 {
     if x == 255 {
         return g;
     }
-    match g {
-        Gathered::SoFar(_) => {
-            let o = eval_below(book, index, own, called, i, limit, x as usize);
-            gather(g, o)
+    if EMPTY <= g {
+        return g;
+    }
+    let o = eval_below(book, row, own, called, x as usize);
+    gather(g, o)
+}
+
+// The consequence of the clause at a position where its condition is yes.
+pub fn eval_rest(book: &[u8], row: &[u16], own: &[u64], called: &[u64], at: usize) -> u64
+    requires { ⌜ ReadableClause (now book) (now row) (now own) (now called) at ⌝ }
+    ensures { λ r. ⌜ Codes r (restIn (now (book .entry)) (now (row .entry)) (now (own .entry)) (now (called .entry)) at) ⌝ }
+{
+    let kind = book[at];
+    let condition = book[at + 4];
+    let last = book[at + 5];
+    if condition != 255 {
+        let t = eval_below(book, row, own, called, condition as usize);
+        if EMPTY <= t {
+            return t;
         }
-        Gathered::Ended(_) => g,
+        if t != YES {
+            return EMPTY;
+        }
     }
-}
-
-// The consequence c where the justification j is yes.
-fn eval_rest(
-    book: &[u8],
-    index: &[u16],
-    own: &[u64],
-    called: &[u64],
-    i: usize,
-    limit: usize,
-    j: u8,
-    c: u8,
-) -> Outcome
-    requires { ⌜ Limited (now book) (now index) i limit ⌝ }
-    ensures { λ r. ⌜ r ≡ restBelow (now (book .entry)) (now (own .entry)) (now (called .entry)) i limit j c ⌝ }
-{
-    let t = eval_below(book, index, own, called, i, limit, j as usize);
-    match t {
-        Outcome::Gives(v) => if truth_of(v) {
-            eval_below(book, index, own, called, i, limit, c as usize)
-        } else {
-            Outcome::Ends(Cause::Empty)
-        },
-        Outcome::Ends(_) => t,
+    if kind == KIND_DEFINITION {
+        return eval_below(book, row, own, called, last as usize);
     }
-}
-
-// Node n of scope i.
-fn eval_node(book: &[u8], index: &[u16], own: &[u64], called: &[u64], i: usize, n: usize) -> Outcome
-    requires { ⌜ Laid (now book) (now index) ⌝ }
-    ensures { λ r. ⌜ r ≡ nodeOutcome (now (book .entry)) (now (own .entry)) (now (called .entry)) i n ⌝ }
-{
-    let limit = node_count(book, index, i);
-    eval_below(book, index, own, called, i, limit, n)
-}
-
-// A clause's condition, node n of scope i; 255: always.
-pub fn eval_condition(
-    book: &[u8],
-    index: &[u16],
-    own: &[u64],
-    called: &[u64],
-    i: usize,
-    n: usize,
-) -> Outcome
-    requires { ⌜ Laid (now book) (now index) ⌝ }
-    ensures { λ r. ⌜ r ≡ conditionOutcome (now (book .entry)) (now (own .entry)) (now (called .entry)) i n ⌝ }
-{
-    if n == 255 {
-        return Outcome::Gives(Value::Truth(true));
-    }
-    eval_node(book, index, own, called, i, n)
-}
-
-// A clause's consequence: a node of scope i, or a rule's no or yes.
-pub fn eval_consequence(
-    book: &[u8],
-    index: &[u16],
-    own: &[u64],
-    called: &[u64],
-    i: usize,
-    c: Consequence,
-) -> Outcome
-    requires { ⌜ Laid (now book) (now index) ⌝ }
-    ensures { λ r. ⌜ r ≡ consequenceOutcome (now (book .entry)) (now (own .entry)) (now (called .entry)) i c ⌝ }
-{
-    match c {
-        Consequence::Of(n) => { eval_node(book, index, own, called, i, n as usize) }
-        Consequence::Fixed(b) => Outcome::Gives(Value::Truth(b)),
-    }
+    truth(last == 1)
 }

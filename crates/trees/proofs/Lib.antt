@@ -1,3 +1,7 @@
 pub mod Chains
-pub mod Walking
 pub mod Targets
+mod Rows
+mod Clauses
+mod Walking
+mod Walks
+mod Trees

@@ -157,22 +157,24 @@ module _ (bytes index links : List ℕ) (i : ℕ) (w : Ready bytes index links i
       ∙ sym (base-first scope target chained)
       ∙ sym (claused scope target chained)
 
-  module _ (own called : List ℕ) (g : Gathered) (eg : g ≡ chainOutcome bytes own called i slot) where
-    bases-outcome : g ≡ exceptions (envOf own called) (SoFar Nothing) (bases scope target)
+  module _ (own called : List ℕ) where
+    bases-outcome : chainOutcome bytes own called i slot ≡ exceptions (envOf own called) (SoFar Nothing) (bases scope target)
     unfolding chainOutcome
-    bases-outcome = eg ∙ ap (exceptions (envOf own called) (SoFar Nothing)) (rw at (sym (bases-chain scope chained target)))
+    bases-outcome = ap (exceptions (envOf own called) (SoFar Nothing)) (rw at (sym (bases-chain scope chained target)))
 
-    pub tree-unruled : (r : ℕ) → r ≡ getD links (545 + slot) 0 → r ≡ 255 → settle g (Ends Empty) ≡ treeOutcome bytes own called i k v
+    pub tree-unruled : getD links (545 + slot) 0 ≡ 255 → treeOutcome bytes own called i k v ≡ settle (chainOutcome bytes own called i slot) (Ends Empty)
     unfolding treeOutcome
-    tree-unruled r e z =
+    tree-unruled z =
         let none : hasRule scope target ≡ false =
-        rule-first scope target chained ∙ ap (λ (n : ℕ). not (eqb n 255)) (sym (rule-link r e) ∙ z) in
-        ap (λ (a : Gathered). settle a (Ends Empty)) bases-outcome ∙ sym (unruled (envOf own called) scope target none)
+        rule-first scope target chained ∙ ap (λ (n : ℕ). not (eqb n 255)) (sym (rule-link _ refl) ∙ z) in
+        unruled (envOf own called) scope target none ∙ sym (ap (λ (a : Gathered). settle a (Ends Empty)) bases-outcome)
 
-    pub tree-ruled : (r : ℕ) → r ≡ getD links (545 + slot) 0 → (r ≡ 255 → ⊥)
-        → settle g (Gives (Truth false)) ≡ treeOutcome bytes own called i k v
+    pub tree-ruled : (getD links (545 + slot) 0 ≡ 255 → ⊥)
+        → treeOutcome bytes own called i k v ≡ settle (chainOutcome bytes own called i slot) (Gives (Truth false))
     unfolding treeOutcome
-    tree-ruled r e z =
+    tree-ruled z =
         let some : hasRule scope target ≡ true =
-        rule-first scope target chained ∙ ap (λ (n : ℕ). not (eqb n 255)) (sym (rule-link r e)) ∙ ap not (ne-eqb r 255 z) in
-        ap (λ (a : Gathered). settle a (Gives (Truth false))) bases-outcome ∙ sym (ruled (envOf own called) scope target some)
+        rule-first scope target chained
+        ∙ ap (λ (n : ℕ). not (eqb n 255)) (sym (rule-link _ refl))
+        ∙ ap not (ne-eqb (getD links (545 + slot) 0) 255 z) in
+        ruled (envOf own called) scope target some ∙ sym (ap (λ (a : Gathered). settle a (Gives (Truth false))) bases-outcome)

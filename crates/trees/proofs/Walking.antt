@@ -25,10 +25,11 @@ use Rattle.book.specs.Decode.{scopesOf}
 use Rattle.book.specs.References.{scopeAt, noClause}
 use Rattle.book.specs.Positions.{clauseAt}
 use Rattle.book.specs.declared.Clause.{Clause}
-use Rattle.terms.specs.Outcomes.{envOf, conditionOutcome, consequenceOutcome}
+use Rattle.terms.specs.Outcomes.{envOf}
 use Rattle.links.specs.Links.{headOf, inChain, firstFrom}
-use Rattle.trees.specs.Chains.{chainOutcome, restOutcome, settledClause, Walk}
-use Rattle.links.proofs.Named.{Chained, sound-chained, chained-head}
+use Rattle.trees.specs.Chains.{chainOutcome, restOutcome, settledClause}
+use Rattle.trees.specs.Rows.{Walk}
+use Rattle.links.proofs.Named.{Chained, chained-head}
 use Rattle.trees.proofs.Chains.{found, clauseTerm, chainFrom, from-start, from-past, from-here, from-first, exceptions-chain}
 
 abbrev clausesOf : List ℕ → ℕ → List Clause
@@ -38,7 +39,7 @@ module _ (bytes own called : List ℕ) (i : ℕ) (few : Chained (clausesOf bytes
   -- a clause that is there
   term-chain : (c : ℕ) → c < length (clausesOf bytes i)
       → eval (envOf own called) (clauseTerm (scopeAt (scopesOf bytes) i) c) ≡ settledClause bytes own called i c (chainOutcome bytes own called i (289 + c))
-  unfolding clauseTerm settledClause restOutcome chainOutcome conditionOutcome consequenceOutcome clauseAt eval
+  unfolding clauseTerm settledClause restOutcome chainOutcome clauseAt eval
   term-chain c l =
       ap
       (λ (ts : Terms). settle (exceptions (envOf own called) (SoFar Nothing) ts) (restOutcome bytes own called i c))
@@ -48,21 +49,18 @@ pub record Walking (bytes own called : List ℕ) (i k : ℕ) (g : Gathered) (c :
   pub has : c < length (clausesOf bytes i) → inChain k (getD (clausesOf bytes i) c noClause) ≡ true
   pub left : chainOutcome bytes own called i k ≡ exceptions (envOf own called) g (chainFrom (scopeAt (scopesOf bytes) i) k c)
 
-module _ (bytes index links own called : List ℕ) (i k : ℕ) (w : Walk bytes index links i k) where
+module _ (bytes row links own called : List ℕ) (i k : ℕ) (w : Walk bytes row links own called i k) where
   abbrev scope : Scope
   scope = scopeAt (scopesOf bytes) i
 
   abbrev cs : List Clause
   cs = scope .clauses
 
-  chained : Chained cs
-  chained = sound-chained bytes index (w .ready .sound) i
-
   pub begin : (c : ℕ) → c ≡ getD links k 0 → Walking bytes own called i k (SoFar Nothing) c
   unfolding chainOutcome
   begin c e =
-      let few = chained .few in
-      let f = e ∙ w .ready .linked .first k (w .head) in
+      let few = w .chained .few in
+      let f = e ∙ w .linked .first k (w .head) in
       record {
         has = λ l. found (inChain k) cs few c l 0 f .1;
         left = ap (exceptions (envOf own called) (SoFar Nothing)) (from-start scope k ∙ from-first scope k few 0 c f);
@@ -79,20 +77,20 @@ module _ (bytes index links own called : List ℕ) (i k : ℕ) (w : Walk bytes i
 
       -- the exceptions of a clause begin after the chain that it stands in
       pub deeper : k < 289 + c
-      deeper = omega (arith, here, chained-head cs chained c l)
+      deeper = omega (arith, here, chained-head cs (w .chained) c l)
 
-      pub next-walk : Walk bytes index links i (289 + c)
-      next-walk = let few = chained .few in record { ready = w .ready; head = omega arith }
+      pub next-walk : Walk bytes row links own called i (289 + c)
+      next-walk = let few = w .chained .few in record { rowed = w .rowed; roomy = w .roomy; chained = w .chained; linked = w .linked; head = omega arith }
 
-      following : (d : ℕ) → d ≡ getD links (417 + c) 0 → d ≡ firstFrom (inChain k) (suc c) (drop (suc c) cs)
-      following d e = rw here at (e ∙ w .ready .linked .next c (omega arith) l)
+      pub following : (d : ℕ) → d ≡ getD links (417 + c) 0 → d ≡ firstFrom (inChain k) (suc c) (drop (suc c) cs)
+      following d e = rw here at (e ∙ w .linked .next c (omega arith) l)
 
       pub rises : (d : ℕ) → d ≡ getD links (417 + c) 0 → length cs - d < length cs - c
       rises d e =
           ⊎-elim
           (λ (q : ltb d (length cs) ≡ true).
           let m = ltb-true d (length cs) q in
-          let r = found (inChain k) cs (chained .few) d m (suc c) (following d e) .0 in
+          let r = found (inChain k) cs (w .chained .few) d m (suc c) (following d e) .0 in
           omega arith)
           (λ (q : ltb d (length cs) ≡ false). let m = ltb-false d (length cs) q in omega arith)
           (decide (ltb d (length cs)))
@@ -102,7 +100,7 @@ module _ (bytes index links own called : List ℕ) (i k : ℕ) (w : Walk bytes i
         gathered : chainOutcome bytes own called i k ≡ exceptions (envOf own called) h (chainFrom scope k (suc c))
         unfolding exceptions
         gathered =
-            let e : o ≡ eval (envOf own called) (clauseTerm scope c) = eo ∙ ap (settledClause bytes own called i c) ex ∙ sym (term-chain bytes own called i chained c l) in
+            let e : o ≡ eval (envOf own called) (clauseTerm scope c) = eo ∙ ap (settledClause bytes own called i c) ex ∙ sym (term-chain bytes own called i (w .chained) c l) in
             v .left
             ∙ ap (exceptions (envOf own called) g) (from-here scope k c l (v .has l))
             ∙ ap (λ (a : Gathered). exceptions (envOf own called) a (chainFrom scope k (suc c))) (sym (eh ∙ ap (gather g) e))
@@ -117,7 +115,7 @@ module _ (bytes index links own called : List ℕ) (i k : ℕ) (w : Walk bytes i
 
         pub again : (d : ℕ) → d ≡ getD links (417 + c) 0 → Walking bytes own called i k h d
         again d e =
-            let few = chained .few in
+            let few = w .chained .few in
             let f = following d e in
             record {
               has = λ m. found (inChain k) cs few d m (suc c) f .1;

@@ -1,5 +1,5 @@
 -- What chains of clauses, clauses and default trees evaluate to, over the cells of the variables.
-use Prim.Native.Nat.{ℕ, _<_}
+use Prim.Native.Nat.{ℕ}
 use mathlib.Core.Bool.{Bool}
 use mathlib.Core.List.{List}
 use Rattle.calculus.specs.Outcomes.{choose}
@@ -17,8 +17,8 @@ use Rattle.book.specs.Syntax.{Scope}
 use Rattle.book.specs.Decode.{scopesOf}
 use Rattle.book.specs.References.{scopeAt}
 use Rattle.book.specs.Positions.{clauseAt}
-use Rattle.book.specs.Trees.{select, clauseTerms, hasTarget, tree, calledTarget}
-use Rattle.terms.specs.Outcomes.{envOf, conditionOutcome, consequenceOutcome}
+use Rattle.book.specs.Trees.{conditionTerm, consequenceTerm, select, clauseTerms, hasTarget, tree, calledTarget}
+use Rattle.terms.specs.Outcomes.{envOf}
 use Rattle.links.specs.Links.{inChain, Sound, Linked}
 
 -- the clauses of the chain that begins in cell k of scope i, as exceptions in their order
@@ -32,8 +32,8 @@ chainOutcome bytes own called i k = exceptions (envOf own called) (SoFar Nothing
 unfoldable pub restOutcome : List ℕ → List ℕ → List ℕ → ℕ → ℕ → Outcome
 restOutcome bytes own called i c =
     choose
-    (conditionOutcome bytes own called i (clauseAt (scopesOf bytes) i c .condition))
-    (consequenceOutcome bytes own called i (clauseAt (scopesOf bytes) i c .consequence))
+    (eval (envOf own called) (conditionTerm (scopeAt (scopesOf bytes) i) (clauseAt (scopesOf bytes) i c .condition)))
+    (eval (envOf own called) (consequenceTerm (scopeAt (scopesOf bytes) i) (clauseAt (scopesOf bytes) i c .consequence)))
     (Ends Empty)
 
 -- clause c, its exceptions having come to g
@@ -52,8 +52,3 @@ clauseFor bytes i k v = any (hasTarget (calledTarget k v)) (scopeAt (scopesOf by
 pub record Ready (bytes index links : List ℕ) (i : ℕ) : Type 0 where
   pub sound : Sound bytes index
   pub linked : Linked bytes i links
-
--- and a chain begins in the cell
-pub record Walk (bytes index links : List ℕ) (i cell : ℕ) : Type 0 where
-  pub ready : Ready bytes index links i
-  pub head : cell < 417

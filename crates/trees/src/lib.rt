@@ -1,96 +1,72 @@
-// The default trees of a scope, by the links of its clauses.
-use book::Clause;
+// The default trees of a scope over the cells of variables, by the links of its clauses. An outcome is a cell.
 use book::Target;
-use calculus::Cause;
-use calculus::Gathered;
-use calculus::Joined;
-use calculus::Outcome;
-use calculus::Value;
-use defaults::gather;
-use defaults::settle;
-use index::clause_at;
-use index::clause_count;
+use cells::CONFLICT;
+use cells::EMPTY;
+use cells::MANY;
+use cells::NO;
+use cells::NOTHING;
+use index::NODES;
+use index::ROW;
 use links::EXCEPTIONS;
 use links::RULES;
 use links::SIBLINGS;
 use links::slot_of;
-use operators::truth_of;
 use slices::byte_at;
-use terms::eval_condition;
-use terms::eval_consequence;
+use terms::eval_rest;
+use terms::gather;
 ghost use mathlib.Core.Path.{_≡_};
-ghost use Rattle.index.specs.Index.{Laid};
-ghost use Rattle.trees.specs.Chains.{chainOutcome, restOutcome, settledClause, treeOutcome, clauseFor, Ready, Walk};
+ghost use Rattle.cells.specs.Codec.{Codes, Gathers};
+ghost use Rattle.terms.specs.Clauses.{ReadableClause};
+ghost use Rattle.trees.specs.Chains.{chainOutcome, treeOutcome, clauseFor, Ready};
+ghost use Rattle.trees.specs.Rows.{Walk, Settles, Evaluable};
 
-// The consequence of clause c where its condition is yes.
-fn eval_rest(book: &[u8], index: &[u16], own: &[u64], called: &[u64], i: usize, c: usize) -> Outcome
-    requires { ⌜ Laid (now book) (now index) ⌝ }
-    ensures { λ r. ⌜ r ≡ restOutcome (now (book .entry)) (now (own .entry)) (now (called .entry)) i c ⌝ }
-{
-    let clause = clause_at(book, index, i, c);
-    let consequence = clause.consequence;
-    let t = eval_condition(book, index, own, called, i, clause.condition as usize);
-    match t {
-        Outcome::Gives(v) => if truth_of(v) {
-            eval_consequence(book, index, own, called, i, consequence)
-        } else {
-            Outcome::Ends(Cause::Empty)
-        },
-        Outcome::Ends(_) => t,
-    }
-}
+// The part of a scope's row in the index that evaluating reads: 250 positions of nodes, then 128 of clauses.
+const RECORDS: usize = 378;
 
-// Clause c, whose exceptions came to g.
-fn settle_clause(
-    book: &[u8],
-    index: &[u16],
-    own: &[u64],
-    called: &[u64],
-    i: usize,
-    c: usize,
-    g: Gathered,
-) -> Outcome
-    requires { ⌜ Laid (now book) (now index) ⌝ }
-    ensures { λ r. ⌜ r ≡ settledClause (now (book .entry)) (now (own .entry)) (now (called .entry)) i c g ⌝ }
+const CLAUSES: usize = 250;
+
+// The clause at a position, whose exceptions came to x.
+fn settle_clause(book: &[u8], row: &[u16], own: &[u64], called: &[u64], at: usize, x: u64) -> u64
+    requires { ⌜ ReadableClause (now book) (now row) (now own) (now called) at ⌝ }
+    ensures { λ r. ⌜ Settles (now (book .entry)) (now (row .entry)) (now (own .entry)) (now (called .entry)) at x r ⌝ }
 {
-    match g {
-        Gathered::SoFar(j) => match j {
-            Joined::Nothing => eval_rest(book, index, own, called, i, c),
-            Joined::One(v) => Outcome::Gives(v),
-            Joined::Many => Outcome::Ends(Cause::Conflict),
-        },
-        Gathered::Ended(e) => Outcome::Ends(e),
+    if x == MANY {
+        return CONFLICT;
     }
+    if x != NOTHING {
+        return x;
+    }
+    eval_rest(book, row, own, called, at)
 }
 
 // The clauses of the chain that begins in a cell of the links, in their order, up to the first that is conflict or out of range.
+// The number i of the scope is for the contract only.
 fn eval_chain(
     book: &[u8],
-    index: &[u16],
+    row: &[u16],
     links: &[u8],
     own: &[u64],
     called: &[u64],
     i: usize,
     cell: usize,
-) -> Gathered
-    requires { ⌜ Walk (now book) (now index) (now links) i cell ⌝ }
-    ensures { λ r. ⌜ r ≡ chainOutcome (now (book .entry)) (now (own .entry)) (now (called .entry)) i cell ⌝ }
+) -> u64
+    requires { ⌜ Walk (now book) (now row) (now links) (now own) (now called) i cell ⌝ }
+    ensures { λ r. ⌜ Gathers r (chainOutcome (now (book .entry)) (now (own .entry)) (now (called .entry)) i cell) ⌝ }
 {
-    let count = clause_count(book, index, i);
-    let mut g = Gathered::SoFar(Joined::Nothing);
-    let mut c = byte_at(links, cell) as usize;
-    while c < count {
-        let mut x = Gathered::SoFar(Joined::Nothing);
-        if (byte_at(links, EXCEPTIONS + c) as usize) < count {
-            x = eval_chain(book, index, links, own, called, i, EXCEPTIONS + c);
+    let mut g: u64 = NOTHING;
+    let mut c = links[cell] as usize;
+    while c < 128 {
+        let mut x: u64 = NOTHING;
+        if links[EXCEPTIONS + c] != 255 {
+            x = eval_chain(book, row, links, own, called, i, EXCEPTIONS + c);
         }
-        let o = settle_clause(book, index, own, called, i, c, x);
+        let at = row[CLAUSES + c] as usize;
+        let o = settle_clause(book, row, own, called, at, x);
         g = gather(g, o);
-        match g {
-            Gathered::SoFar(_) => {}
-            Gathered::Ended(_) => return g,
+        if EMPTY <= g {
+            return g;
         }
-        c = byte_at(links, SIBLINGS + c) as usize;
+        c = links[SIBLINGS + c] as usize;
     }
     g
 }
@@ -105,16 +81,31 @@ pub fn eval_tree(
     i: usize,
     sub: u8,
     variable: u8,
-) -> Outcome
-    requires { ⌜ Ready (now book) (now index) (now links) i ⌝ }
-    ensures { λ r. ⌜ r ≡ treeOutcome (now (book .entry)) (now (own .entry)) (now (called .entry)) i sub variable ⌝ }
+) -> u64
+    requires { ⌜ Evaluable (now book) (now index) (now links) (now own) (now called) i ⌝ }
+    ensures { λ r. ⌜ Codes r (treeOutcome (now (book .entry)) (now (own .entry)) (now (called .entry)) i sub variable) ⌝ }
 {
     let slot = slot_of(Target { sub, variable });
-    let g = eval_chain(book, index, links, own, called, i, slot);
-    if byte_at(links, RULES + slot) == 255 {
-        settle(g, Outcome::Ends(Cause::Empty))
+    let start = i * ROW + NODES;
+    let g = eval_chain(
+        book,
+        &index[start..start + RECORDS],
+        links,
+        own,
+        called,
+        i,
+        slot,
+    );
+    if g == MANY {
+        return CONFLICT;
+    }
+    if g != NOTHING {
+        return g;
+    }
+    if links[RULES + slot] == 255 {
+        EMPTY
     } else {
-        settle(g, Outcome::Gives(Value::Truth(false)))
+        NO
     }
 }
 

@@ -2,6 +2,7 @@
 -- Assumes nothing.
 use mathlib.Core.Path.{refl}
 use Rattle.acceptance.proofs.Limits.{accepted-within}
+use Rattle.scopes.proofs.Cells.{kept-none}
 use Rattle.scopes.proofs.Known.{nothing-known}
 use Rattle.evaluator.proofs.Service.{entry, typed, values-so, ends-so}
 use borrow.Author.Needs.{needs}
@@ -18,7 +19,7 @@ slice-aggregate-enter-2 : tie.Need-slice-aggregate-enter-2
 slice-aggregate-enter-2 c = search needs
 
 enter-requires : tie.Need-enter-requires
-enter-requires c κs = entry (c .before .before .before .before .before .before .before .before .before .before .before .before .before .pre .0) (c .before .before .before .before .before .fill-all-links .ensures) refl (nothing-known _)
+enter-requires c κs = entry (c .before .before .before .before .before .before .before .before .before .before .before .before .before .pre .0) (c .before .before .before .before .before .fill-all-links .ensures) refl (kept-none 32) (nothing-known _)
 
 enum-known-count : tie.Need-enum-known-count
 enum-known-count c = search needs

@@ -3,12 +3,14 @@
 -- Assumes nothing.
 use mathlib.Core.Path.{sym, _∙_}
 use native.Mathlib.Omega.{arith}
+use lib.ListN.{drop}
 use denote.Ref.{now}
 use borrow.Author.Needs.{needs}
 use Rattle.scopes.specs.Known.{Known}
 use Rattle.scopes.proofs.Running.{Running}
 use Rattle.slices.proofs.Parts.{part-room}
-use Rattle.scopes.proofs.Entering.{rank, scope-few, row-ready, earlier, callee, noting, begins, ends, step-few, put-room, kept-room, turn-variable, end-variable}
+use Rattle.scopes.proofs.Cells.{kept-taken, kept-dropped}
+use Rattle.scopes.proofs.Entering.{rank, scope-few, evaluable, earlier, callee, noting, begins, ends, step-few, put-room, kept-room, turn-variable, end-variable}
 use Rattle.scopes.proofs.Entering.{number-below, number-few, called-room, end-hand, few-ended, few-values, end-call, turn-call}
 use Prim.Native.Nat.{ℕ, _<_, _+_, _-_, _*_}
 use borrow.Fn.Kinds.{In}
@@ -77,7 +79,7 @@ enter-add-steps : (t : ℕ) → enter-lts.Need-add-steps (R t) (enter-at t) ente
 enter-add-steps t c = omega (arith, c .before .variable-count .ensures, c .sub-scope-count .ensures, (c .before .before .before .before .before .before .before .before .before .before .before .before .before .before .before .before .pre .1) .world .sound .variables (c .before .before .before .before .before .before .before .before .before .before .before .before .before .before .before .before .args .i), (c .before .before .before .before .before .before .before .before .before .before .before .before .before .before .before .before .pre .1) .world .sound .subScopes (c .before .before .before .before .before .before .before .before .before .before .before .before .before .before .before .before .args .i))
 
 enter-loop-holds : (t : ℕ) → enter-lts.Need-loop-holds (R t) (enter-at t) enter.Post enter-Inv-loop enter-μ-loop
-enter-loop-holds t c = (begins (c .before .before .before .before .before .before .before .before .before .before .before .before .before .before .before .before .pre .1) _ _ (c .before .before .before .before .before .before .recall-scope .ensures .size), c .before .before .before .before .before .before .before .before .before .before .before .before .before .before .before .before .pre .1 .known)
+enter-loop-holds t c = (begins (c .before .before .before .before .before .before .before .before .before .before .before .before .before .before .before .before .pre .1) _ _ (c .before .before .before .before .before .before .recall-scope .ensures .size) (rw (c .before .before .before .before .before .before .recall-scope .ensures .same (omega (arith, c .before .before .before .if1 .left))) (c .before .before .before .before .before .before .before .before .before .before .before .before .before .before .before .before .pre .1 .kept)), c .before .before .before .before .before .before .before .before .before .before .before .before .before .before .before .before .pre .1 .known)
 
 enter-mul-byte-at : (t : ℕ) → enter-lts.Need-mul-byte-at (R t) (enter-at t) enter.Post enter-Inv-loop enter-μ-loop
 enter-mul-byte-at t c = omega (arith, scope-few (c .before .before .before .before .before .before .before .before .before .before .before .before .before .before .before .before .before .before .pre .1))
@@ -98,7 +100,7 @@ enter-slice-aggregate-set-variable : (t : ℕ) → enter-lts.Need-slice-aggregat
 enter-slice-aggregate-set-variable t c = search needs
 
 enter-set-variable-requires : (t : ℕ) → enter-lts.Need-set-variable-requires (R t) (enter-at t) enter.Post enter-Inv-loop enter-μ-loop
-enter-set-variable-requires t c κs = record { ready = rw (c .before .before .before .before .before .before .before .before .part-of .ensures) (row-ready (c .before .before .before .before .before .before .before .before .before .before .before .before .before .before .before .before .before .before .before .before .before .before .pre .1)); room = put-room (c .before .before .before .before .before .before .before .before .before .before .before .before .before .before .before .before .before .before .before .before .before .before .pre .1) (c .before .before .before .before .before .loop .inv .0) (c .before .before .before .before .before .before .before .variable-count .ensures) (c .before .before .before .before .before .before .sub-scope-count .ensures) (c .before .before .before .before .loop-test .taken) (c .before .before .before .byte-at .ensures) (c .before .before .if2 .taken) }
+enter-set-variable-requires t c κs = record { evaluable = rw (c .before .before .before .before .before .before .before .before .part-of .ensures) (evaluable (c .before .before .before .before .before .before .before .before .before .before .before .before .before .before .before .before .before .before .before .before .before .before .pre .1) (c .before .before .before .before .before .loop .inv .0)); room = put-room (c .before .before .before .before .before .before .before .before .before .before .before .before .before .before .before .before .before .before .before .before .before .before .pre .1) (c .before .before .before .before .before .loop .inv .0) (c .before .before .before .before .before .before .before .variable-count .ensures) (c .before .before .before .before .before .before .sub-scope-count .ensures) (c .before .before .before .before .loop-test .taken) (c .before .before .before .byte-at .ensures) (c .before .before .if2 .taken) }
 
 enter-enum-told : (t : ℕ) → enter-lts.Need-enum-told (R t) (enter-at t) enter.Post enter-Inv-loop enter-μ-loop
 enter-enum-told t c = search needs
@@ -134,7 +136,7 @@ enter-slice-aggregate-hand-over-2 : (t : ℕ) → enter-lts.Need-slice-aggregate
 enter-slice-aggregate-hand-over-2 t c = search needs
 
 enter-hand-over-requires : (t : ℕ) → enter-lts.Need-hand-over-requires (R t) (enter-at t) enter.Post enter-Inv-loop enter-μ-loop
-enter-hand-over-requires t c κs = record { ready = rw (c .before .before .before .before .before .before .before .before .before .part-of .ensures) (row-ready (c .before .before .before .before .before .before .before .before .before .before .before .before .before .before .before .before .before .before .before .before .before .before .before .pre .1)); number = number-few (c .before .before .before .before .before .before .before .before .before .before .before .before .before .before .before .before .before .before .before .before .before .before .before .pre .1) (c .before .before .before .before .before .before .loop .inv .0) (c .before .before .before .before .before .before .before .before .variable-count .ensures) (c .before .before .before .before .before .before .before .sub-scope-count .ensures) (c .before .before .before .before .before .loop-test .taken) (c .before .before .before .before .byte-at .ensures) (c .before .before .before .if2 .left); room = c .before .before .before .before .before .before .loop .inv .0 .handedRoom }
+enter-hand-over-requires t c κs = record { evaluable = rw (c .before .before .before .before .before .before .before .before .before .part-of .ensures) (evaluable (c .before .before .before .before .before .before .before .before .before .before .before .before .before .before .before .before .before .before .before .before .before .before .before .pre .1) (c .before .before .before .before .before .before .loop .inv .0)); number = number-few (c .before .before .before .before .before .before .before .before .before .before .before .before .before .before .before .before .before .before .before .before .before .before .before .pre .1) (c .before .before .before .before .before .before .loop .inv .0) (c .before .before .before .before .before .before .before .before .variable-count .ensures) (c .before .before .before .before .before .before .before .sub-scope-count .ensures) (c .before .before .before .before .before .loop-test .taken) (c .before .before .before .before .byte-at .ensures) (c .before .before .before .if2 .left); room = c .before .before .before .before .before .before .loop .inv .0 .handedRoom }
 
 enter-enum-told-2 : (t : ℕ) → enter-lts.Need-enum-told-2 (R t) (enter-at t) enter.Post enter-Inv-loop enter-μ-loop
 enter-enum-told-2 t c = search needs
@@ -176,7 +178,7 @@ enter-slice-aggregate-enter : (t : ℕ) → enter-lts.Need-slice-aggregate-enter
 enter-slice-aggregate-enter t c = search needs
 
 enter-enter-requires : (t : ℕ) → enter-lts.Need-enter-requires (R t) (enter-at t) enter.Post enter-Inv-loop enter-μ-loop
-enter-enter-requires t c κs = (omega (arith, earlier (c .before .before .before .before .before .before .before .before .before .before .before .before .before .before .before .before .before .before .before .before .before .before .before .before .before .before .before .before .before .before .before .pre .1) _ _ (number-below (c .before .before .before .before .before .before .before .before .before .before .before .before .before .before .before .before .before .before .before .before .before .before .before .before .before .before .before .before .before .before .before .pre .1) (c .before .before .before .before .before .before .before .before .before .before .before .before .before .before .loop .inv .0) (c .before .before .before .before .before .before .before .before .before .before .before .before .before .before .before .before .variable-count .ensures) (c .before .before .before .before .before .before .before .before .before .before .before .before .before .before .before .sub-scope-count .ensures) (c .before .before .before .before .before .before .before .before .before .before .before .before .before .loop-test .taken) (c .before .before .before .before .before .before .before .before .before .before .before .before .byte-at .ensures) (c .before .before .before .before .before .before .before .before .before .before .before .if2 .left)) (c .before .before .before .sub-scope-at .ensures), c .before .before .before .before .before .before .before .before .before .before .before .before .before .before .before .before .before .before .before .before .before .before .before .before .before .before .before .before .before .before .before .pre .0), callee (c .before .before .before .before .before .before .before .before .before .before .before .before .before .before .before .before .before .before .before .before .before .before .before .before .before .before .before .before .before .before .before .pre .1) _ _ _ _ (number-below (c .before .before .before .before .before .before .before .before .before .before .before .before .before .before .before .before .before .before .before .before .before .before .before .before .before .before .before .before .before .before .before .pre .1) (c .before .before .before .before .before .before .before .before .before .before .before .before .before .before .loop .inv .0) (c .before .before .before .before .before .before .before .before .before .before .before .before .before .before .before .before .variable-count .ensures) (c .before .before .before .before .before .before .before .before .before .before .before .before .before .before .before .sub-scope-count .ensures) (c .before .before .before .before .before .before .before .before .before .before .before .before .before .loop-test .taken) (c .before .before .before .before .before .before .before .before .before .before .before .before .byte-at .ensures) (c .before .before .before .before .before .before .before .before .before .before .before .if2 .left)) (c .before .before .before .sub-scope-at .ensures) (part-room _ _ ((c .before .before .before .before .before .before .before .before .before .before .before .before .byte-at .result - c .before .before .before .before .before .before .before .before .before .before .before .before .before .before .before .before .variable-count .result) * 32 + 32 - (c .before .before .before .before .before .before .before .before .before .before .before .before .byte-at .result - c .before .before .before .before .before .before .before .before .before .before .before .before .before .before .before .before .variable-count .result) * 32) (called-room (c .before .before .before .before .before .before .before .before .before .before .before .before .before .before .before .before .before .before .before .before .before .before .before .before .before .before .before .before .before .before .before .pre .1) (c .before .before .before .before .before .before .before .before .before .before .before .before .before .before .loop .inv .0) (c .before .before .before .before .before .before .before .before .before .before .before .before .before .before .before .before .variable-count .ensures) (c .before .before .before .before .before .before .before .before .before .before .before .before .before .before .before .sub-scope-count .ensures) (c .before .before .before .before .before .before .before .before .before .before .before .before .before .loop-test .taken) (c .before .before .before .before .before .before .before .before .before .before .before .before .byte-at .ensures) (c .before .before .before .before .before .before .before .before .before .before .before .if2 .left)) (omega arith)) (c .before .before .before .before .before .before .before .before .before .before .before .before .before .before .loop .inv .1))
+enter-enter-requires t c κs = (omega (arith, earlier (c .before .before .before .before .before .before .before .before .before .before .before .before .before .before .before .before .before .before .before .before .before .before .before .before .before .before .before .before .before .before .before .pre .1) _ _ (number-below (c .before .before .before .before .before .before .before .before .before .before .before .before .before .before .before .before .before .before .before .before .before .before .before .before .before .before .before .before .before .before .before .pre .1) (c .before .before .before .before .before .before .before .before .before .before .before .before .before .before .loop .inv .0) (c .before .before .before .before .before .before .before .before .before .before .before .before .before .before .before .before .variable-count .ensures) (c .before .before .before .before .before .before .before .before .before .before .before .before .before .before .before .sub-scope-count .ensures) (c .before .before .before .before .before .before .before .before .before .before .before .before .before .loop-test .taken) (c .before .before .before .before .before .before .before .before .before .before .before .before .byte-at .ensures) (c .before .before .before .before .before .before .before .before .before .before .before .if2 .left)) (c .before .before .before .sub-scope-at .ensures), c .before .before .before .before .before .before .before .before .before .before .before .before .before .before .before .before .before .before .before .before .before .before .before .before .before .before .before .before .before .before .before .pre .0), callee (c .before .before .before .before .before .before .before .before .before .before .before .before .before .before .before .before .before .before .before .before .before .before .before .before .before .before .before .before .before .before .before .pre .1) _ _ _ _ (number-below (c .before .before .before .before .before .before .before .before .before .before .before .before .before .before .before .before .before .before .before .before .before .before .before .before .before .before .before .before .before .before .before .pre .1) (c .before .before .before .before .before .before .before .before .before .before .before .before .before .before .loop .inv .0) (c .before .before .before .before .before .before .before .before .before .before .before .before .before .before .before .before .variable-count .ensures) (c .before .before .before .before .before .before .before .before .before .before .before .before .before .before .before .sub-scope-count .ensures) (c .before .before .before .before .before .before .before .before .before .before .before .before .before .loop-test .taken) (c .before .before .before .before .before .before .before .before .before .before .before .before .byte-at .ensures) (c .before .before .before .before .before .before .before .before .before .before .before .if2 .left)) (c .before .before .before .sub-scope-at .ensures) (part-room _ _ ((c .before .before .before .before .before .before .before .before .before .before .before .before .byte-at .result - c .before .before .before .before .before .before .before .before .before .before .before .before .before .before .before .before .variable-count .result) * 32 + 32 - (c .before .before .before .before .before .before .before .before .before .before .before .before .byte-at .result - c .before .before .before .before .before .before .before .before .before .before .before .before .before .before .before .before .variable-count .result) * 32) (called-room (c .before .before .before .before .before .before .before .before .before .before .before .before .before .before .before .before .before .before .before .before .before .before .before .before .before .before .before .before .before .before .before .pre .1) (c .before .before .before .before .before .before .before .before .before .before .before .before .before .before .loop .inv .0) (c .before .before .before .before .before .before .before .before .before .before .before .before .before .before .before .before .variable-count .ensures) (c .before .before .before .before .before .before .before .before .before .before .before .before .before .before .before .sub-scope-count .ensures) (c .before .before .before .before .before .before .before .before .before .before .before .before .before .loop-test .taken) (c .before .before .before .before .before .before .before .before .before .before .before .before .byte-at .ensures) (c .before .before .before .before .before .before .before .before .before .before .before .if2 .left)) (omega arith)) (kept-taken ((c .before .before .before .before .before .before .before .before .before .before .before .before .byte-at .result - c .before .before .before .before .before .before .before .before .before .before .before .before .before .before .before .before .variable-count .result) * 32 + 32 - (c .before .before .before .before .before .before .before .before .before .before .before .before .byte-at .result - c .before .before .before .before .before .before .before .before .before .before .before .before .before .before .before .before .variable-count .result) * 32) (drop ((c .before .before .before .before .before .before .before .before .before .before .before .before .byte-at .result - c .before .before .before .before .before .before .before .before .before .before .before .before .before .before .before .before .variable-count .result) * 32) (c .before .before .before .before .before .before .before .before .before .before .before .before .before .before .loop .called)) (kept-dropped ((c .before .before .before .before .before .before .before .before .before .before .before .before .byte-at .result - c .before .before .before .before .before .before .before .before .before .before .before .before .before .before .before .before .variable-count .result) * 32) (c .before .before .before .before .before .before .before .before .before .before .before .before .before .before .loop .called) (c .before .before .before .before .before .before .before .before .before .before .before .before .before .before .loop .inv .0 .calledKept))) (c .before .before .before .before .before .before .before .before .before .before .before .before .before .before .loop .inv .1))
 
 enter-enum-known-m : (t : ℕ) → enter-lts.Need-enum-known-m (R t) (enter-at t) enter.Post enter-Inv-loop enter-μ-loop
 enter-enum-known-m t c = search needs
@@ -193,8 +195,8 @@ enter-loop-again-2 t c = (turn-call (c .before .before .before .before .before .
 enter-enum-known-c-3 : (t : ℕ) → enter-lts.Need-enum-known-c-3 (R t) (enter-at t) enter.Post enter-Inv-loop enter-μ-loop
 enter-enum-known-c-3 t c = search needs
 
-enter-add-t61 : (t : ℕ) → enter-lts.Need-add-t61 (R t) (enter-at t) enter.Post enter-Inv-loop enter-μ-loop
-enter-add-t61 t c = omega (arith, few-ended (c .before .before .before .before .before .before .before .before .before .before .before .before .before .before .before .before .before .before .before .before .before .before .before .before .before .before .before .before .before .before .before .before .before .before .before .before .before .before .pre .1) (c .before .before .before .before .before .before .before .before .before .before .before .before .before .before .before .before .before .before .before .before .before .loop .inv .0) (c .before .before .before .before .before .before .before .before .before .before .before .before .before .before .before .before .before .before .before .before .before .before .before .variable-count .ensures) (c .before .before .before .before .before .before .before .before .before .before .before .before .before .before .before .before .before .before .before .before .before .before .sub-scope-count .ensures) (c .before .before .before .before .before .before .before .before .before .before .before .before .before .before .before .before .before .before .before .before .loop-test .taken) (c .before .before .before .before .before .before .before .before .before .before .before .before .before .before .before .before .before .before .before .byte-at .ensures) (c .before .before .before .before .before .before .before .before .before .before .before .before .before .before .before .before .before .before .if2 .left) (c .before .before .before .before .before .before .before .before .before .before .before .before .before .before .hand-over .ensures) (c .before .before .before .before .before .before .before .before .before .before .before .enum-told2 .given .1) (c .before .before .before .before .before .before .before .before .before .before .sub-scope-at .ensures) (c .before .before .before .before .before .before .enter .ensures .0) (c .before .c3 .given .1))
+enter-add-t62 : (t : ℕ) → enter-lts.Need-add-t62 (R t) (enter-at t) enter.Post enter-Inv-loop enter-μ-loop
+enter-add-t62 t c = omega (arith, few-ended (c .before .before .before .before .before .before .before .before .before .before .before .before .before .before .before .before .before .before .before .before .before .before .before .before .before .before .before .before .before .before .before .before .before .before .before .before .before .before .pre .1) (c .before .before .before .before .before .before .before .before .before .before .before .before .before .before .before .before .before .before .before .before .before .loop .inv .0) (c .before .before .before .before .before .before .before .before .before .before .before .before .before .before .before .before .before .before .before .before .before .before .before .variable-count .ensures) (c .before .before .before .before .before .before .before .before .before .before .before .before .before .before .before .before .before .before .before .before .before .before .sub-scope-count .ensures) (c .before .before .before .before .before .before .before .before .before .before .before .before .before .before .before .before .before .before .before .before .loop-test .taken) (c .before .before .before .before .before .before .before .before .before .before .before .before .before .before .before .before .before .before .before .byte-at .ensures) (c .before .before .before .before .before .before .before .before .before .before .before .before .before .before .before .before .before .before .if2 .left) (c .before .before .before .before .before .before .before .before .before .before .before .before .before .before .hand-over .ensures) (c .before .before .before .before .before .before .before .before .before .before .before .enum-told2 .given .1) (c .before .before .before .before .before .before .before .before .before .before .sub-scope-at .ensures) (c .before .before .before .before .before .before .enter .ensures .0) (c .before .c3 .given .1))
 
 enter-same-length-7 : (t : ℕ) → enter-lts.Need-same-length-7 (R t) (enter-at t) enter.Post enter-Inv-loop enter-μ-loop
 enter-same-length-7 t c = c .before .before .before .before .before .before .before .before .before .before .before .before .before .before .before .before .before .before .before .before .before .loop .inv .0 .ownRoom ∙ sym (c .before .before .before .before .before .before .before .before .before .before .before .before .before .before .before .before .before .before .before .before .before .before .before .before .before .before .before .before .before .before .before .before .before .before .before .before .before .before .pre .1 .room)
@@ -267,7 +269,7 @@ pub +enter-spec : {M : Type 1} → statement M
     (enter-loop-less-2 t)
     (enter-loop-again-2 t)
     (enter-enum-known-c-3 t)
-    (enter-add-t61 t)
+    (enter-add-t62 t)
     (enter-same-length-7 t)
     (enter-same-length-8 t)
     (enter-returns-4 t)

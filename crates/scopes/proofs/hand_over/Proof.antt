@@ -27,10 +27,10 @@ cast-hand-one : tie.Need-cast-hand-one Inv-loop μ-loop
 cast-hand-one c = search needs
 
 cast-hand-one-2 : tie.Need-cast-hand-one-2 Inv-loop μ-loop
-cast-hand-one-2 c = omega (arith, c .loop-test .taken, c .before .before .variable-count .ensures, c .before .before .before .before .before .before .before .before .before .before .pre .ready .sound .variables (c .before .before .before .sub-scope-at .result))
+cast-hand-one-2 c = omega (arith, c .loop-test .taken, c .before .before .variable-count .ensures, c .before .before .before .before .before .before .before .before .before .before .pre .evaluable .ready .sound .variables (c .before .before .before .sub-scope-at .result))
 
 hand-one-requires : tie.Need-hand-one-requires Inv-loop μ-loop
-hand-one-requires c κs = record { ready = c .before .before .before .before .before .before .before .before .before .before .before .pre .ready; room = omega (arith, c .before .before .loop .inv .size, c .before .loop-test .taken, c .before .before .before .variable-count .ensures, c .before .before .before .before .before .before .before .before .before .before .before .pre .ready .sound .variables (c .before .before .before .before .sub-scope-at .result)) }
+hand-one-requires c κs = record { evaluable = c .before .before .before .before .before .before .before .before .before .before .before .pre .evaluable; room = omega (arith, c .before .before .loop .inv .size, c .before .loop-test .taken, c .before .before .before .variable-count .ensures, c .before .before .before .before .before .before .before .before .before .before .before .pre .evaluable .ready .sound .variables (c .before .before .before .before .sub-scope-at .result)) }
 
 enum-told : tie.Need-enum-told Inv-loop μ-loop
 enum-told c = search needs

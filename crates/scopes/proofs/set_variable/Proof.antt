@@ -6,7 +6,7 @@ use Rattle.scopes.proofs.set_variable.Statement.{statement}
 use Rattle.scopes.proofs.set_variable.Tie as tie
 
 step-value-requires : tie.Need-step-value-requires
-step-value-requires c κs = search needs
+step-value-requires c κs = c .before .before .before .before .before .before .before .pre .evaluable
 
 enum-known-o : tie.Need-enum-known-o
 enum-known-o c = search needs

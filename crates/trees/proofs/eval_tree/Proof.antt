@@ -1,8 +1,9 @@
 -- `trees::eval_tree` meets its contract.
 -- Assumes nothing.
-use mathlib.Core.Path.{_∙_}
 use native.Mathlib.Omega.{arith}
-use Rattle.trees.proofs.Targets.{slot-few, tree-unruled, tree-ruled}
+use native.Mathlib.Nat.{add-sub-cancel-left}
+use Rattle.trees.proofs.Targets.{slot-few}
+use Rattle.trees.proofs.Trees.{tree-walk, tree-many, tree-one, tree-empty, tree-no}
 use borrow.Author.Needs.{needs}
 use Rattle.trees.proofs.eval_tree.Statement.{statement}
 use Rattle.trees.proofs.eval_tree.Tie as tie
@@ -10,42 +11,64 @@ use Rattle.trees.proofs.eval_tree.Tie as tie
 slot-of-requires : tie.Need-slot-of-requires
 slot-of-requires c κs = search needs
 
+mul-start : tie.Need-mul-start
+mul-start c = search needs
+
+add-start : tie.Need-add-start
+add-start c = search needs
+
+add-eval-chain : tie.Need-add-eval-chain
+add-eval-chain c = search needs
+
+mul-eval-chain : tie.Need-mul-eval-chain
+mul-eval-chain c = search needs
+
+sub-eval-chain : tie.Need-sub-eval-chain
+sub-eval-chain c = search needs
+
+part-eval-chain-start : tie.Need-part-eval-chain-start
+part-eval-chain-start c = search needs
+
+part-eval-chain-end : tie.Need-part-eval-chain-end
+part-eval-chain-end c = search needs
+
 eval-chain-requires : tie.Need-eval-chain-requires
-eval-chain-requires c κs =
-    let few = slot-few _ _ _ _ (c .before .before .before .before .before .before .pre) _ _ _ (c .slot-of .ensures) in
-    record { ready = c .before .before .before .before .before .before .pre; head = omega arith }
-
-add-byte-at : tie.Need-add-byte-at
-add-byte-at c = let few = slot-few _ _ _ _ (c .before .before .before .before .before .before .before .pre) _ _ _ (c .before .slot-of .ensures) in omega arith
-
-byte-at-requires : tie.Need-byte-at-requires
-byte-at-requires c κs = search needs
-
-settle-requires : tie.Need-settle-requires
-settle-requires c κs = search needs
-
-settle-requires-2 : tie.Need-settle-requires-2
-settle-requires-2 c κs = search needs
+eval-chain-requires c κs = rw (add-sub-cancel-left) (tree-walk _ _ _ _ _ _ (c .before .before .before .before .before .before .before .pre) _ _ _ (c .before .slot-of .ensures))
 
 returns : tie.Need-returns
-returns c =
-    c .settle .ensures
-    ∙ tree-unruled _ _ _ _ (c .before .before .before .before .before .before .before .before .before .before .pre) _ _ _ (c .before .before .before .before .slot-of .ensures) _ _ _ (c .before .before .before .eval-chain .ensures) _ (c .before .before .byte-at .ensures) (c .before .if1 .taken)
+returns c = tree-many _ _ _ _ _ _ (c .before .before .before .before .before .before .before .before .before .pre) _ _ _ (c .before .before .before .slot-of .ensures) _ (c .before .eval-chain .ensures) (c .if1 .taken)
 
 returns-2 : tie.Need-returns-2
-returns-2 c =
-    c .settle2 .ensures
-    ∙ tree-ruled _ _ _ _ (c .before .before .before .before .before .before .before .before .before .before .pre) _ _ _ (c .before .before .before .before .slot-of .ensures) _ _ _ (c .before .before .before .eval-chain .ensures) _ (c .before .before .byte-at .ensures) (c .before .if1 .left)
+returns-2 c = tree-one _ _ _ _ _ _ (c .before .before .before .before .before .before .before .before .before .before .pre) _ _ _ (c .before .before .before .before .slot-of .ensures) _ (c .before .before .eval-chain .ensures) (c .before .if1 .left) (c .if2 .taken)
+
+add-if3 : tie.Need-add-if3
+add-if3 c = omega (arith, slot-few _ _ _ _ (c .before .before .before .before .before .before .before .before .before .before .pre .ready) _ _ _ (c .before .before .before .before .slot-of .ensures))
+
+shared-slice-read-if3 : tie.Need-shared-slice-read-if3
+shared-slice-read-if3 c = omega (arith, slot-few _ _ _ _ (c .before .before .before .before .before .before .before .before .before .before .before .pre .ready) _ _ _ (c .before .before .before .before .before .slot-of .ensures), c .before .before .before .before .before .before .before .before .before .before .before .pre .ready .linked .size)
+
+returns-3 : tie.Need-returns-3
+returns-3 c = tree-empty _ _ _ _ _ _ (c .before .before .before .before .before .before .before .before .before .before .before .before .pre) _ _ _ (c .before .before .before .before .before .before .slot-of .ensures) _ (c .before .before .before .before .eval-chain .ensures) (c .before .before .if2 .left) (c .if3 .taken)
+
+returns-4 : tie.Need-returns-4
+returns-4 c = tree-no _ _ _ _ _ _ (c .before .before .before .before .before .before .before .before .before .before .before .before .pre) _ _ _ (c .before .before .before .before .before .before .slot-of .ensures) _ (c .before .before .before .before .eval-chain .ensures) (c .before .before .if2 .left) (c .if3 .left)
 
 pub eval-tree-spec : {M : Type 1} → statement M
 eval-tree-spec =
     tie.close
     (tie.spec
     slot-of-requires
+    mul-start
+    add-start
+    add-eval-chain
+    mul-eval-chain
+    sub-eval-chain
+    part-eval-chain-start
+    part-eval-chain-end
     eval-chain-requires
-    add-byte-at
-    byte-at-requires
-    settle-requires
-    settle-requires-2
     returns
-    returns-2)
+    returns-2
+    add-if3
+    shared-slice-read-if3
+    returns-3
+    returns-4)
