@@ -5,7 +5,6 @@ pub mod Acceptance
 pub mod First
 pub mod Limits
 pub mod WellFormed
-pub mod Namings
 pub mod Orders
 pub mod Reading
 pub mod Dependencies

@@ -1,5 +1,6 @@
 pub mod Searches
 pub mod Naming
+pub mod Namings
 pub mod Terms
 pub mod Same
 pub mod Sums

@@ -7,6 +7,7 @@
 --     any-from                    a search that does not look at the number
 --     any-default                 where the search does not hold, what `getD` gives lacks it if the default does
 --     any-append                  a search through two lists
+--     any-same                    two searches that find the same of each element
 --     Sought                      the invariant of a loop that has passed n elements: start, turn and the two ways out, found and ended
 -- Assumes nothing.
 use Prim.Native.Nat.{ℕ, zero, suc, _<_, _≤_, _+_}
@@ -108,6 +109,12 @@ module _ {A : Type 0} (p : A → Bool) where
   unfolding any
   any-append [] ys = refl
   any-append (x ∷ xs) ys = ⊎-elim (λ e. rw e) (λ e. rw e (any-append xs ys)) (decide (p x))
+
+pub any-same : {A : Type 0} (p q : A → Bool) (xs : List A) (d : A) → ((j : ℕ) → j < length xs → p (getD xs j d) ≡ q (getD xs j d))
+    → any p xs ≡ any q xs
+unfolding any
+any-same p q [] d h = refl
+any-same p q (x ∷ xs) d h = rw (h 0 (omega arith), any-same p q xs d (λ j l. h (suc j) (omega arith)))
 
 pub each : {A : Type 0} (p : A → Bool) (xs : List A) → any (λ x. not (p x)) xs ≡ false → (n : ℕ) → n < length xs → (d : A) → p (getD xs n d) ≡ true
 each p xs e n h d = not-false (p (getD xs n d)) (any-false (λ x. not (p x)) xs e n h d)

@@ -1,4 +1,5 @@
 -- The numbers that stand in a list.
+--     among-append   what is in two lists
 --     among-snoc     what is in a list with one more number
 --     among-at       each number of a list is in it
 --     among-place    what is in a list stands at some place
@@ -6,7 +7,7 @@
 --     among-none     nothing is in the empty list
 -- Assumes nothing.
 use Prim.Native.Nat.{ℕ, zero, suc, _<_}
-use mathlib.Core.Path.{_≡_, refl, sym}
+use mathlib.Core.Path.{_≡_, refl, sym, _∙_}
 use mathlib.Core.Bool.{true, _||_, false≢true, or-true, or-false}
 use mathlib.Core.List.{List, [], _∷_, _++_}
 use mathlib.Core.Logic.{_⊎_, inl, inr, ⊎-elim}
@@ -17,10 +18,14 @@ use borrow.Author.Tests.{eq-eqb, eqb-true}
 use Rattle.order.specs.Order.{among}
 use Rattle.order.proofs.Booleans.{decide, or-cases}
 
+pub among-append : (xs ys : List ℕ) (v : ℕ) → among (xs ++ ys) v ≡ (among xs v || among ys v)
+unfolding among
+among-append [] ys v = refl
+among-append (x ∷ xs) ys v = ⊎-elim (λ e. rw e) (λ e. rw e (among-append xs ys v)) (decide (eqb v x))
+
 pub among-snoc : (xs : List ℕ) (v w : ℕ) → among (xs ++ (v ∷ [])) w ≡ (among xs w || eqb w v)
 unfolding among
-among-snoc [] v w = or-false (eqb w v)
-among-snoc (x ∷ xs) v w = ⊎-elim (λ e. rw e refl) (λ e. rw e (among-snoc xs v w)) (decide (eqb w x))
+among-snoc xs v w = among-append xs (v ∷ []) w ∙ rw (or-false (eqb w v))
 
 pub among-none : {A : Type 0} (v : ℕ) → among [] v ≡ true → A
 unfolding among

@@ -3,6 +3,8 @@
 --     both        of a conjunction that holds, both parts hold
 --     or-cases    of a disjunction that holds, one part holds
 --     neither     of a disjunction that fails, both parts fail
+--     both-ways   two that lead to each other are equal
+--     untrue      what is not true is false
 --     eqb-swap    a test of equality, turned round
 -- Assumes nothing.
 use mathlib.Core.Path.{_≡_, refl, sym}
@@ -27,6 +29,15 @@ or-cases false b e = inr e
 pub neither : (a b : Bool) → (a || b) ≡ false → (a ≡ false) × (b ≡ false)
 neither true b e = absurd (false≢true (sym e))
 neither false b e = (refl, e)
+
+pub both-ways : (a b : Bool) → (a ≡ true → b ≡ true) → (b ≡ true → a ≡ true) → a ≡ b
+both-ways true b f g = sym (f refl)
+both-ways false true f g = g refl
+both-ways false false f g = refl
+
+pub untrue : (a : Bool) → (a ≡ true → ⊥) → a ≡ false
+untrue true f = absurd (f refl)
+untrue false f = refl
 
 pub eqb-swap : (a b : ℕ) → eqb a b ≡ eqb b a
 eqb-swap a b =

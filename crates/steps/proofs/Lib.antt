@@ -2,5 +2,7 @@ pub mod Marking
 pub mod Orders
 pub mod Calls
 pub mod Reading
-pub mod Clauses
+pub mod Owners
+pub mod Roots
+pub mod Descent
 pub mod Rows

@@ -1,15 +1,13 @@
 -- Marking edges in the bytes of a matrix, one after the other.
 --     no-row, no-column, one-more      marking one edge
---     then                             marking some edges, and then others
 --     Marking                          with the edges that are left, `to` has all that `from` has and the whole
 --     start, turn, done                where nothing is marked yet, once some more is marked, where nothing is left
---     each-none, each-more             marking the edges of a list's elements, one element after the other
 --     list-turn, list-done             turn and done, where what is left are the edges of a list's elements
 -- Assumes nothing.
 use Prim.Native.Nat.{ℕ, _<_, _≤_, _+_, _*_}
 use mathlib.Core.Path.{_≡_, refl, sym, ap, _∙_}
 use mathlib.Core.Bool.{Bool, true, false, _&&_, _||_, and-false, or-false, or-assoc}
-use mathlib.Core.List.{List, [], _∷_}
+use mathlib.Core.List.{List}
 use mathlib.Core.Logic.{⊎-elim}
 use native.Mathlib.Omega.{arith}
 use native.Mathlib.Numerals.{add-one}
@@ -63,20 +61,6 @@ one-more deps v w size l m =
 
 -- Many edges
 
--- the edges of f, and then those of g
-pub then : (from mid to : List ℕ) (f g h : ℕ → ℕ → Bool) → Marked from mid f → Marked mid to g
-    → ((x y : ℕ) → x < 40 → y < 40 → h x y ≡ (f x y || g x y)) → Marked from to h
-then from mid to f g h a b split =
-    record {
-      long = b .long ∙ a .long;
-      edges =
-          λ x y l m.
-          b .edges x y l m
-          ∙ ap (λ (t : Bool). t || g x y) (a .edges x y l m)
-          ∙ or-assoc (edgeOf from x y) (f x y) (g x y)
-          ∙ ap (λ (t : Bool). edgeOf from x y || t) (sym (split x y l m));
-    }
-
 pub record Marking (from to : List ℕ) (left whole : ℕ → ℕ → Bool) : Type 0 where
   pub long : length to ≡ length from
   pub edges : (x y : ℕ) → x < 40 → y < 40 → (edgeOf to x y || left x y) ≡ (edgeOf from x y || whole x y)
@@ -109,15 +93,6 @@ module _ (from : List ℕ) (left whole : ℕ → ℕ → Bool) where
 -- the edges of a list's elements
 unfoldable pub anyEdge : {A : Type 0} → (A → ℕ → ℕ → Bool) → List A → ℕ → ℕ → Bool
 anyEdge f xs x y = any (λ a. f a x y) xs
-
-module _ {A : Type 0} (f : A → ℕ → ℕ → Bool) where
-  pub each-none : (from : List ℕ) → Marked from from (anyEdge f [])
-  unfolding anyEdge any
-  each-none from = record { long = refl; edges = λ x y l m. sym (or-false (edgeOf from x y)) }
-
-  pub each-more : (a : A) (rest : List A) (from mid to : List ℕ) → Marked from mid (f a) → Marked mid to (anyEdge f rest) → Marked from to (anyEdge f (a ∷ rest))
-  unfolding anyEdge any
-  each-more a rest from mid to g h = then from mid to (f a) (anyEdge f rest) (anyEdge f (a ∷ rest)) g h (λ x y l m. refl)
 
 module _ {A : Type 0} (f : A → ℕ → ℕ → Bool) (xs : List A) (from to : List ℕ) (whole : ℕ → ℕ → Bool) (k : ℕ)
     (g : Marking from to (anyEdge f (drop k xs)) whole) where

@@ -1,3 +1,4 @@
 pub mod Limits
 pub mod Edges
+pub mod Owners
 pub mod Answers

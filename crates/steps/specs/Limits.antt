@@ -6,6 +6,7 @@ use mathlib.Core.List.{List}
 use lib.ListN.{length, take}
 use Rattle.book.specs.Decode.{scopesOf}
 use Rattle.book.specs.References.{dangles}
+use Rattle.book.specs.Sharing.{shares}
 use Rattle.book.specs.Limits.{Within}
 use Rattle.book.specs.Scopes.{blocks}
 use Rattle.index.specs.Index.{Laid}
@@ -14,6 +15,12 @@ use Rattle.index.specs.Index.{Laid}
 pub record Tabled (bytes index : List ℕ) : Type 0 where
   pub laid : Laid bytes index
   pub within : Within (scopesOf bytes)
+
+-- in which no number dangles, and no node is named twice
+pub record WellNamed (bytes index : List ℕ) : Type 0 where
+  pub tabled : Tabled bytes index
+  pub sound : dangles (scopesOf bytes) ≡ false
+  pub single : shares (scopesOf bytes) ≡ false
 
 -- the book has that many scopes, 32 at most
 pub record Scoped (bytes : List ℕ) (scopes : ℕ) : Type 0 where

@@ -12,17 +12,20 @@ use index::variable_count;
 use order::Ordered;
 use order::fill_order;
 ghost use mathlib.Core.Path.{_≡_};
-ghost use Prim.Native.Nat.{_+_, _≤_};
-ghost use lib.ListN.{length};
+ghost use mathlib.Core.List.{[], _∷_};
+ghost use Prim.Native.Nat.{_≤_};
+ghost use lib.ListN.{length, replicate};
 ghost use Rattle.order.specs.Order.{order};
 ghost use Rattle.order.specs.Matrix.{edgeOf};
 ghost use Rattle.book.specs.Decode.{scopesOf};
 ghost use Rattle.book.specs.Scopes.{calls, blocks};
 ghost use Rattle.book.specs.References.{scopeAt};
+ghost use Rattle.book.specs.Sharing.{operands, clauseNodes};
 ghost use Rattle.book.specs.Steps.{stepCount, dependsOn, stepOrder};
 ghost use Rattle.index.specs.Index.{Laid};
-ghost use Rattle.steps.specs.Limits.{Scoped, Tabled};
-ghost use Rattle.steps.specs.Edges.{oneEdge, callEdges, readEdges, stepWith, clauseEdges, Marked, CanMark};
+ghost use Rattle.steps.specs.Limits.{Scoped, Tabled, WellNamed};
+ghost use Rattle.steps.specs.Edges.{oneEdge, callEdges, ownStep, stepWith, Marked};
+ghost use Rattle.steps.specs.Owners.{Owned, Roots};
 ghost use Rattle.steps.specs.Answers.{Written, StepsFilled};
 
 // The most vertices of a graph, and the bytes of a matrix's row.
@@ -90,55 +93,6 @@ pub fn block_order(book: &[u8], index: &[u16], scopes: usize, out: &mut [u8]) ->
     write_order(&deps, scopes, out)
 }
 
-// The step of the call of sub-scope k of scope i.
-fn call_step(book: &[u8], index: &[u16], i: usize, k: u8) -> usize
-    requires { ⌜ Tabled (now book) (now index) ⌝ }
-    ensures { λ r. ⌜ r ≡ length (scopeAt (scopesOf (now (book .entry))) i .variables) + k ⌝ }
-{
-    variable_count(book, index, i) + k as usize
-}
-
-// Marks, in a row, what node n reads, with the nodes under it. Only nodes below the limit count.
-fn mark_reads(
-    book: &[u8],
-    index: &[u16],
-    i: usize,
-    row: usize,
-    limit: usize,
-    n: u8,
-    deps: &mut [u8],
-)
-    requires { ⌜ CanMark (now book) (now index) i limit (now deps) ⌝ }
-    ensures { λ _. ⌜ Marked (now (deps .entry)) (now (deps .exit)) (readEdges (scopesOf (now (book .entry))) i row limit n) ⌝ }
-{
-    let at = n as usize;
-    if limit <= at {
-        return;
-    }
-    match node_at(book, index, i, at) {
-        Node::Constant(_) | Node::Number(_) | Node::Empty(_) | Node::Conflict(_) => {}
-        Node::Own(x) => mark(deps, row, x as usize),
-        Node::Called(k, _) => mark(deps, row, call_step(book, index, i, k)),
-        Node::Unary(_, a) => mark_reads(book, index, i, row, at, a, deps),
-        Node::Binary(_, a, b) => {
-            mark_reads(book, index, i, row, at, a, deps);
-            mark_reads(book, index, i, row, at, b, deps)
-        }
-        Node::Choice(c, a, b) => {
-            mark_reads(book, index, i, row, at, c, deps);
-            mark_reads(book, index, i, row, at, a, deps);
-            mark_reads(book, index, i, row, at, b, deps)
-        }
-        Node::Default(x, y, z, j, c) => {
-            mark_reads(book, index, i, row, at, x, deps);
-            mark_reads(book, index, i, row, at, y, deps);
-            mark_reads(book, index, i, row, at, z, deps);
-            mark_reads(book, index, i, row, at, j, deps);
-            mark_reads(book, index, i, row, at, c, deps)
-        }
-    }
-}
-
 // The step whose tree, or one of whose override trees, a clause belongs to, in a scope with some number of variables.
 fn step_with(variables: usize, clause: Clause) -> usize
     requires { ⌜ variables ≤ 32 ⌝ }
@@ -152,34 +106,99 @@ fn step_with(variables: usize, clause: Clause) -> usize
     }
 }
 
-// Marks, in the row of its step, what clause c reads.
-fn mark_clause(book: &[u8], index: &[u16], i: usize, c: usize, deps: &mut [u8])
-    requires { ⌜ Tabled (now book) (now index) × (length (now deps) ≡ 1600) ⌝ }
-    ensures { λ _. ⌜ Marked (now (deps .entry)) (now (deps .exit)) (clauseEdges (scopesOf (now (book .entry))) i c) ⌝ }
+// Notes that node n belongs to the tree of a row's step. 255, which is no node, may be written too.
+fn own_by(owners: &mut [u8], n: u8, row: u8)
+    requires { ⌜ length (now owners) ≡ 256 ⌝ }
+    ensures { λ _. ⌜ Owned (n ∷ []) row (now (owners .entry)) (now (owners .exit)) ⌝ }
 {
-    let clause = clause_at(book, index, i, c);
-    let variables = variable_count(book, index, i);
-    let row = step_with(variables, clause);
-    let limit = node_count(book, index, i);
-    mark_reads(book, index, i, row, limit, clause.condition, deps);
+    owners[n as usize] = row;
+}
+
+// Notes that the nodes that a clause names belong to the tree of a row's step.
+fn own_clause(owners: &mut [u8], clause: Clause, row: u8)
+    requires { ⌜ length (now owners) ≡ 256 ⌝ }
+    ensures { λ _. ⌜ Owned (clauseNodes clause) row (now (owners .entry)) (now (owners .exit)) ⌝ }
+{
+    let condition = clause.condition;
+    own_by(owners, condition, row);
     let consequence = clause.consequence;
     match consequence {
-        Consequence::Of(n) => mark_reads(book, index, i, row, limit, n, deps),
+        Consequence::Of(n) => own_by(owners, n, row),
         Consequence::Fixed(_) => {}
+    }
+}
+
+// Notes the steps of the nodes that the clauses of scope i name.
+fn own_clauses(book: &[u8], index: &[u16], i: usize, owners: &mut [u8])
+    requires { ⌜ WellNamed (now book) (now index) × (now owners ≡ replicate 256 255) ⌝ }
+    ensures { λ _. ⌜ Roots (scopesOf (now (book .entry))) i (now (owners .exit)) ⌝ }
+{
+    let count = clause_count(book, index, i);
+    let variables = variable_count(book, index, i);
+    let mut c: usize = 0;
+    while c < count {
+        let clause = clause_at(book, index, i, c);
+        let row = step_with(variables, clause) as u8;
+        own_clause(owners, clause, row);
+        c += 1;
+    }
+}
+
+// Marks, in a row, what a node itself reads, in a scope with some number of variables, and hands the row on to its operands.
+fn mark_node(variables: usize, node: Node, row: u8, owners: &mut [u8], deps: &mut [u8])
+    requires { ⌜ (variables ≤ 32) × (length (now owners) ≡ 256) × (length (now deps) ≡ 1600) ⌝ }
+    ensures { λ _.
+        ⌜ Marked (now (deps .entry)) (now (deps .exit)) (oneEdge row (ownStep variables node)) × Owned (operands node) row (now (owners .entry)) (now (owners .exit)) ⌝ }
+{
+    match node {
+        Node::Constant(_) | Node::Number(_) | Node::Empty(_) | Node::Conflict(_) => {}
+        Node::Own(x) => mark(deps, row as usize, x as usize),
+        Node::Called(k, _) => mark(deps, row as usize, variables + k as usize),
+        Node::Unary(_, a) => own_by(owners, a, row),
+        Node::Binary(_, a, b) => {
+            own_by(owners, a, row);
+            own_by(owners, b, row)
+        }
+        Node::Choice(c, a, b) => {
+            own_by(owners, c, row);
+            own_by(owners, a, row);
+            own_by(owners, b, row)
+        }
+        Node::Default(x, y, z, j, c) => {
+            own_by(owners, x, row);
+            own_by(owners, y, row);
+            own_by(owners, z, row);
+            own_by(owners, j, row);
+            own_by(owners, c, row)
+        }
+    }
+}
+
+// Marks what every step of scope i depends on, from the last node to the first: by then each node has the step of what names it.
+fn mark_nodes(book: &[u8], index: &[u16], i: usize, owners: &mut [u8], deps: &mut [u8])
+    requires { ⌜ WellNamed (now book) (now index) × Roots (scopesOf (now book)) i (now owners) × (length (now deps) ≡ 1600) ⌝ }
+    ensures { λ _. ⌜ Marked (now (deps .entry)) (now (deps .exit)) (dependsOn (scopeAt (scopesOf (now (book .entry))) i)) ⌝ }
+{
+    let variables = variable_count(book, index, i);
+    let mut n = node_count(book, index, i);
+    while 0 < n {
+        n -= 1;
+        let row = owners[n];
+        if row != 255 {
+            let node = node_at(book, index, i, n);
+            mark_node(variables, node, row, owners, deps);
+        }
     }
 }
 
 // Marks what every step of scope i depends on.
 fn fill_reads(book: &[u8], index: &[u16], i: usize, deps: &mut [u8])
-    requires { ⌜ Tabled (now book) (now index) × (length (now deps) ≡ 1600) ⌝ }
+    requires { ⌜ WellNamed (now book) (now index) × (length (now deps) ≡ 1600) ⌝ }
     ensures { λ _. ⌜ Marked (now (deps .entry)) (now (deps .exit)) (dependsOn (scopeAt (scopesOf (now (book .entry))) i)) ⌝ }
 {
-    let count = clause_count(book, index, i);
-    let mut c: usize = 0;
-    while c < count {
-        mark_clause(book, index, i, c, deps);
-        c += 1;
-    }
+    let mut owners = [255u8; 256];
+    own_clauses(book, index, i, &mut owners);
+    mark_nodes(book, index, i, &mut owners, deps);
 }
 
 // How many steps scope i has: one for each variable and for each sub-scope.
@@ -193,7 +212,7 @@ fn step_count(book: &[u8], index: &[u16], i: usize) -> usize
 // The order of scope i's steps, written from the first byte of `out`; no later byte changes. Answers its length: fewer than all steps
 // exactly where there is a dependency cycle.
 fn step_order(book: &[u8], index: &[u16], i: usize, out: &mut [u8]) -> usize
-    requires { ⌜ Tabled (now book) (now index) × (40 ≤ length (now out)) ⌝ }
+    requires { ⌜ WellNamed (now book) (now index) × (40 ≤ length (now out)) ⌝ }
     ensures { λ r. ⌜ Written (stepOrder (scopeAt (scopesOf (now (book .entry))) i)) (now (out .entry)) r (now (out .exit)) ⌝ }
 {
     let mut deps = [0u8; 1600];
@@ -204,7 +223,7 @@ fn step_order(book: &[u8], index: &[u16], i: usize, out: &mut [u8]) -> usize
 
 // The order of every scope's steps, in a row of 40 bytes for each scope. Answers whether some scope has a dependency cycle.
 pub fn fill_steps(book: &[u8], index: &[u16], scopes: usize, orders: &mut [u8]) -> bool
-    requires { ⌜ Tabled (now book) (now index) × Scoped (now book) scopes × (1280 ≤ length (now orders)) ⌝ }
+    requires { ⌜ WellNamed (now book) (now index) × Scoped (now book) scopes × (1280 ≤ length (now orders)) ⌝ }
     ensures { λ r. ⌜ StepsFilled (scopesOf (now (book .entry))) r (now (orders .exit)) ⌝ }
 {
     let mut i: usize = 0;

@@ -31,7 +31,7 @@ use Rattle.book.specs.declared.Clause.{Clause}
 use Rattle.book.proofs.Terms.{term-here}
 use Rattle.book.proofs.Sums.{sum-same}
 use Rattle.acceptance.specs.Accepted.{WithinLimits, WellFormed}
-use Rattle.acceptance.proofs.Namings.{operands-lower, clause-nodes}
+use Rattle.book.proofs.Namings.{operands-lower, clause-nodes}
 use Rattle.translation.proofs.Parts.{parts, allParts}
 use Rattle.translation.proofs.Sums.{Below, append-below, gathered-below, sum-append, sum-below, range-gathered}
 

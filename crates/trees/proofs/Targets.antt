@@ -11,7 +11,7 @@ use native.Mathlib.Omega.{arith}
 use lib.ListN.{length, getD}
 use lib.Dec.{eqb}
 use borrow.Author.Tests.{eqb-true, eq-eqb, ne-eqb}
-use Rattle.order.proofs.Booleans.{both, or-cases}
+use Rattle.order.proofs.Booleans.{both, or-cases, both-ways}
 use Rattle.calculus.specs.Defaults.{gather, settle}
 use Rattle.calculus.specs.Terms.{Terms, none, also}
 use Rattle.calculus.specs.Evaluation.{Env, eval, exceptions}
@@ -29,6 +29,7 @@ use Rattle.book.specs.References.{scopeAt, noClause}
 use Rattle.book.specs.Trees.{hasTarget, isBase, bases, hasRule, withoutRules, tree, calledTarget}
 use Rattle.book.specs.declared.Target.{Target}
 use Rattle.book.specs.declared.Clause.{Clause}
+use Rattle.book.proofs.Searches.{any-same}
 use Rattle.terms.specs.Outcomes.{envOf}
 use Rattle.links.specs.Links.{slotOf, inChain, ruleOf, firstFrom}
 use Rattle.trees.specs.Chains.{chainOutcome, treeOutcome, clauseFor, Ready}
@@ -37,12 +38,6 @@ use Rattle.links.proofs.Named.{Chained, sound-chained}
 use Rattle.trees.proofs.Chains.{any-first, bases-chain}
 
 -- Searches
-
-any-same : (p q : Clause → Bool) (cs : List Clause) → ((j : ℕ) → j < length cs → p (getD cs j noClause) ≡ q (getD cs j noClause))
-    → any p cs ≡ any q cs
-unfolding any
-any-same p q [] h = refl
-any-same p q (c ∷ cs) h = rw (h 0 (omega arith), any-same p q cs (λ j l. h (suc j) (omega arith)))
 
 any-at : (p : Clause → Bool) (cs : List Clause) (n : ℕ) → n < length cs → p (getD cs n noClause) ≡ true → any p cs ≡ true
 unfolding any
@@ -60,11 +55,6 @@ any-leads p q ds (c ∷ cs) h e =
     (λ (a : p c ≡ true). h 0 (omega arith) a)
     (λ (a : any p cs ≡ true). any-leads p q ds cs (λ j l. h (suc j) (omega arith)) a)
     (or-cases (p c) (any p cs) e)
-
-both-ways : (a b : Bool) → (a ≡ true → b ≡ true) → (b ≡ true → a ≡ true) → a ≡ b
-both-ways true b f g = sym (f refl)
-both-ways false true f g = g refl
-both-ways false false f g = refl
 
 -- Trees
 
@@ -94,7 +84,7 @@ module _ (s : Scope) (t : Target) (g : Chained (s .clauses)) where
   pub rule-first : hasRule s t ≡ not (eqb (firstFrom (ruleOf (slotOf t)) 0 (s .clauses)) 255)
   unfolding hasRule
   rule-first =
-      any-same _ (ruleOf (slotOf t)) (s .clauses)
+      any-same _ (ruleOf (slotOf t)) (s .clauses) noClause
       (λ j l.
       let c = getD (s .clauses) j noClause in
       ap (λ (b : Bool). b && isRule (c .consequence)) (sym (slot-same (c .target) t (g .target j l)))
@@ -103,7 +93,7 @@ module _ (s : Scope) (t : Target) (g : Chained (s .clauses)) where
 
   base-first : any (isBase t) (s .clauses) ≡ not (eqb (firstFrom (inChain (slotOf t)) 0 (s .clauses)) 255)
   base-first =
-      any-same (isBase t) (inChain (slotOf t)) (s .clauses) (λ j l. sym (in-bases (getD (s .clauses) j noClause) t (g .target j l)))
+      any-same (isBase t) (inChain (slotOf t)) (s .clauses) noClause (λ j l. sym (in-bases (getD (s .clauses) j noClause) t (g .target j l)))
       ∙ any-first (inChain (slotOf t)) (s .clauses) (g .few)
 
   -- a clause leads to a base of its target: itself, or that of its parent
