@@ -355,7 +355,30 @@ fn run_large(
     run_given(code, spans, heads, places, p, given, &mut st, &mut tr, own)
 }
 
-// Runs block p, with a small stack and few tries at first.
+// Runs block p with a stack and tries that may be too short: then once more, with larger ones.
+fn run_within(
+    code: &[u8],
+    spans: &[usize],
+    heads: &[u8],
+    places: &[u8],
+    p: usize,
+    given: &[u64],
+    st: &mut [u64],
+    tr: &mut [usize],
+    own: &mut [u64],
+) -> Ran
+    requires { ⌜ Entry (now code) (now spans) (now heads) (now places) p (now own) × (length (now given) ≡ 32) ⌝ }
+    ensures { λ r. ⌜ CameTo (now (code .entry)) p (now (given .entry)) r (now (own .exit)) ⌝ }
+{
+    match run_given(code, spans, heads, places, p, given, st, tr, own) {
+        Ran::Values(n) => Ran::Values(n),
+        Ran::Ended(c, n) => Ran::Ended(c, n),
+        Ran::Stuck => Ran::Stuck,
+        Ran::NoRoom => run_large(code, spans, heads, places, p, given, own, 1),
+    }
+}
+
+// Runs block p, with a small stack and few tries at first, smaller still for short code.
 pub fn run_cells(
     code: &[u8],
     spans: &[usize],
@@ -368,12 +391,12 @@ pub fn run_cells(
     requires { ⌜ Entry (now code) (now spans) (now heads) (now places) p (now own) × (length (now given) ≡ 32) ⌝ }
     ensures { λ r. ⌜ CameTo (now (code .entry)) p (now (given .entry)) r (now (own .exit)) ⌝ }
 {
+    if code.len() < 512 {
+        let mut st = [0u64; 64];
+        let mut tr = [0usize; 64];
+        return run_within(code, spans, heads, places, p, given, &mut st, &mut tr, own);
+    }
     let mut st = [0u64; 512];
     let mut tr = [0usize; 512];
-    match run_given(code, spans, heads, places, p, given, &mut st, &mut tr, own) {
-        Ran::Values(n) => Ran::Values(n),
-        Ran::Ended(c, n) => Ran::Ended(c, n),
-        Ran::Stuck => Ran::Stuck,
-        Ran::NoRoom => run_large(code, spans, heads, places, p, given, own, 1),
-    }
+    run_within(code, spans, heads, places, p, given, &mut st, &mut tr, own)
 }
