@@ -1,11 +1,11 @@
 -- What judging answers, and what the tables lent hold afterwards.
 use Prim.Native.Nat.{ℕ, _*_, _<_, _≤_}
-use mathlib.Core.Bool.{false, cond}
+use mathlib.Core.Bool.{cond}
 use mathlib.Core.Path.{_≡_}
 use mathlib.Core.List.{List}
 use lib.ListN.{length, getD, take, drop, replicate}
 use Rattle.book.specs.Syntax.{Scope}
-use Rattle.book.specs.References.{scopeAt, dangles}
+use Rattle.book.specs.References.{scopeAt}
 use Rattle.book.specs.Decode.{scopesOf}
 use Rattle.book.specs.Records.{records}
 use Rattle.book.specs.Judge.{scan}
@@ -14,7 +14,7 @@ use Rattle.scan.specs.Filling.{Filled}
 use Rattle.book.specs.Scopes as scopes
 use Rattle.book.specs.Steps.{stepCount, stepOrder, dependencyCycle}
 use Rattle.index.specs.Index.{Laid}
-use Rattle.steps.specs.Limits.{Tabled, Scoped}
+use Rattle.steps.specs.Limits.{Scoped, WellNamed}
 use Rattle.book.specs.declared.Fault.the-variants.{ScopeCycle, WeightExceeded, DependencyCycle}
 use Rattle.book.specs.declared.Judged.{Judged}
 use Rattle.book.specs.declared.Judged.the-variants.{Accepted, Refused}
@@ -41,11 +41,10 @@ pub record SoundRecords (bytes index : List ℕ) (n : ℕ) : Type 0 where
   pub sound : scan (records bytes) ≡ Sound
   pub filled : Filled bytes index n
 
--- what the last three rest on: filled tables of a book within the limits in which no number dangles
+-- what the last three rest on: filled tables of a book in which no number dangles and no node is named twice
 pub record Checked (bytes index : List ℕ) (n : ℕ) : Type 0 where
-  pub tabled : Tabled bytes index
+  pub named : WellNamed bytes index
   pub scoped : Scoped bytes n
-  pub sound : dangles (scopesOf bytes) ≡ false
 
 -- room for the orders and the weights
 pub record Room (blocks weights orders : List ℕ) : Type 0 where

@@ -1,4 +1,4 @@
--- What the passes over a book's tables rest on.
+-- What the passes over a book's index rest on.
 use Prim.Native.Nat.{ℕ, _≤_}
 use mathlib.Core.Path.{_≡_}
 use mathlib.Core.Bool.{false}
@@ -7,18 +7,12 @@ use lib.ListN.{length, take}
 use Rattle.book.specs.Decode.{scopesOf}
 use Rattle.book.specs.References.{dangles}
 use Rattle.book.specs.Sharing.{shares}
-use Rattle.book.specs.Limits.{Within}
 use Rattle.book.specs.Scopes.{blocks}
 use Rattle.index.specs.Index.{Laid}
 
--- the tables are those of the book, and its scopes are within the limits
-pub record Tabled (bytes index : List ℕ) : Type 0 where
-  pub laid : Laid bytes index
-  pub within : Within (scopesOf bytes)
-
--- in which no number dangles, and no node is named twice
+-- the index of a book in which no number dangles, and no node is named twice
 pub record WellNamed (bytes index : List ℕ) : Type 0 where
-  pub tabled : Tabled bytes index
+  pub laid : Laid bytes index
   pub sound : dangles (scopesOf bytes) ≡ false
   pub single : shares (scopesOf bytes) ≡ false
 

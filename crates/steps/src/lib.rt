@@ -23,7 +23,7 @@ ghost use Rattle.book.specs.References.{scopeAt};
 ghost use Rattle.book.specs.Sharing.{operands, clauseNodes};
 ghost use Rattle.book.specs.Steps.{stepCount, dependsOn, stepOrder};
 ghost use Rattle.index.specs.Index.{Laid};
-ghost use Rattle.steps.specs.Limits.{Scoped, Tabled, WellNamed};
+ghost use Rattle.steps.specs.Limits.{Scoped, WellNamed};
 ghost use Rattle.steps.specs.Edges.{oneEdge, callEdges, ownStep, stepWith, Marked};
 ghost use Rattle.steps.specs.Owners.{Owned, Roots};
 ghost use Rattle.steps.specs.Answers.{Written, StepsFilled};
@@ -203,7 +203,7 @@ fn fill_reads(book: &[u8], index: &[u16], i: usize, deps: &mut [u8])
 
 // How many steps scope i has: one for each variable and for each sub-scope.
 fn step_count(book: &[u8], index: &[u16], i: usize) -> usize
-    requires { ⌜ Tabled (now book) (now index) ⌝ }
+    requires { ⌜ Laid (now book) (now index) ⌝ }
     ensures { λ r. ⌜ r ≡ stepCount (scopeAt (scopesOf (now (book .entry))) i) ⌝ }
 {
     variable_count(book, index, i) + sub_scope_count(book, index, i)

@@ -6,7 +6,8 @@ ghost use Prim.Native.Nat.{_≤_};
 ghost use lib.ListN.{length};
 ghost use Rattle.book.specs.Decode.{scopesOf};
 ghost use Rattle.book.specs.References.{scopeAt};
-ghost use Rattle.steps.specs.Limits.{Scoped, Tabled, WholeOrder};
+ghost use Rattle.index.specs.Index.{Laid};
+ghost use Rattle.steps.specs.Limits.{Scoped, WholeOrder};
 ghost use Rattle.weights.specs.Weighing.{Weight, weightBy, Weighed};
 
 // The weight at j, 0 past the end.
@@ -22,7 +23,7 @@ fn weight_at(weights: &[u16], j: usize) -> usize
 
 // The weight of scope i, by those of the sub-scopes that it calls.
 fn weigh(book: &[u8], index: &[u16], i: usize, weights: &[u16]) -> usize
-    requires { ⌜ Tabled (now book) (now index) ⌝ }
+    requires { ⌜ Laid (now book) (now index) ⌝ }
     ensures { λ r. ⌜ r ≡ weightBy (now (weights .entry)) (scopeAt (scopesOf (now (book .entry))) i) ⌝ }
 {
     let count = sub_scope_count(book, index, i);
@@ -44,7 +45,7 @@ pub fn fill_weights(
     scopes: usize,
     weights: &mut [u16],
 ) -> bool
-    requires { ⌜ Tabled (now book) (now index) × Scoped (now book) scopes × WholeOrder (now book) (now blocks) scopes × (32 ≤ length (now weights)) ⌝ }
+    requires { ⌜ Laid (now book) (now index) × Scoped (now book) scopes × WholeOrder (now book) (now blocks) scopes × (32 ≤ length (now weights)) ⌝ }
     ensures { λ r. ⌜ Weighed (scopesOf (now (book .entry))) r (now (weights .exit)) ⌝ }
 {
     let mut k: usize = 0;

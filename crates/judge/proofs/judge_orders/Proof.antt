@@ -9,7 +9,7 @@ use Rattle.judge.proofs.judge_orders.Statement.{statement}
 use Rattle.judge.proofs.judge_orders.Tie as tie
 
 block-order-requires : tie.Need-block-order-requires
-block-order-requires c κs = (c .before .before .before .before .before .before .pre .0 .tabled .laid, c .before .before .before .before .before .before .pre .0 .scoped, c .before .before .before .before .before .before .pre .1 .blockRoom)
+block-order-requires c κs = (c .before .before .before .before .before .before .pre .0 .named .laid, c .before .before .before .before .before .before .pre .0 .scoped, c .before .before .before .before .before .before .pre .1 .blockRoom)
 
 same-length : tie.Need-same-length
 same-length c = search needs
@@ -19,9 +19,9 @@ returns c = refused (cycle-first (scopesOf (now (c .before .before .before .befo
 
 fill-weights-requires : tie.Need-fill-weights-requires
 fill-weights-requires c κs = (
-  c .before .before .before .before .before .before .before .before .before .before .before .before .pre .0 .tabled,
+  c .before .before .before .before .before .before .before .before .before .before .before .before .pre .0 .named .laid,
   c .before .before .before .before .before .before .before .before .before .before .before .before .pre .0 .scoped,
-  record { sound = c .before .before .before .before .before .before .before .before .before .before .before .before .pre .0 .sound; is = whole-order (c .before .before .before .before .before .block-order .ensures) (c .before .before .if1 .left); all = sym (c .before .before .before .before .before .block-order .ensures .count) ∙ c .before .before .if1 .left },
+  record { sound = c .before .before .before .before .before .before .before .before .before .before .before .before .pre .0 .named .sound; is = whole-order (c .before .before .before .before .before .block-order .ensures) (c .before .before .if1 .left); all = sym (c .before .before .before .before .before .block-order .ensures .count) ∙ c .before .before .if1 .left },
   c .before .before .before .before .before .before .before .before .before .before .before .before .pre .1 .weightRoom,
 )
 
@@ -37,7 +37,7 @@ returns-2 c =
     refused (weight-next (scopesOf (now (c .before .before .before .before .before .before .before .before .before .before .before .before .before .before .before .before .args .book))) whole (sym (c .before .before .before .fill-weights .ensures .over) ∙ c .if2 .taken))
 
 fill-steps-requires : tie.Need-fill-steps-requires
-fill-steps-requires c κs = (c .before .before .before .before .before .before .before .before .before .before .before .before .before .before .before .before .before .pre .0 .tabled, c .before .before .before .before .before .before .before .before .before .before .before .before .before .before .before .before .before .pre .0 .scoped, c .before .before .before .before .before .before .before .before .before .before .before .before .before .before .before .before .before .pre .1 .orderRoom)
+fill-steps-requires c κs = (c .before .before .before .before .before .before .before .before .before .before .before .before .before .before .before .before .before .pre .0 .named, c .before .before .before .before .before .before .before .before .before .before .before .before .before .before .before .before .before .pre .0 .scoped, c .before .before .before .before .before .before .before .before .before .before .before .before .before .before .before .before .before .pre .1 .orderRoom)
 
 same-length-4 : tie.Need-same-length-4
 same-length-4 c = search needs
@@ -69,7 +69,7 @@ returns-4 c =
       answer = none-left (scopesOf (now (c .before .before .before .before .before .before .before .before .before .before .before .before .before .before .before .before .before .before .before .before .before .args .book))) whole (sym (c .before .before .before .before .before .before .before .before .fill-weights .ensures .over) ∙ c .before .before .before .before .before .if2 .left) (sym (c .before .before .before .fill-steps .ensures .cycle) ∙ c .if3 .left) (c .before .before .before .before .before .before .before .before .before .before .before .before .before .before .before .before .before .before .before .before .before .pre .0 .scoped .count);
       tables = λ n q.
           record {
-            laid = c .before .before .before .before .before .before .before .before .before .before .before .before .before .before .before .before .before .before .before .before .before .pre .0 .tabled .laid;
+            laid = c .before .before .before .before .before .before .before .before .before .before .before .before .before .before .before .before .before .before .before .before .before .pre .0 .named .laid;
             blockOrder = whole-order (c .before .before .before .before .before .before .before .before .before .before .before .before .before .before .block-order .ensures) (c .before .before .before .before .before .before .before .before .before .before .before .if1 .left ∙ c .before .before .before .before .before .before .before .before .before .before .before .before .before .before .before .before .before .before .before .before .before .pre .0 .scoped .count);
             weightOf = c .before .before .before .before .before .before .before .before .fill-weights .ensures .each (c .before .before .before .before .before .if2 .left);
             stepOrders = c .before .before .before .fill-steps .ensures .rows (c .if3 .left);

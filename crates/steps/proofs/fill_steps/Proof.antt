@@ -56,7 +56,7 @@ loop-less c = omega arith
 loop-again : tie.Need-loop-again Inv-loop μ-loop
 loop-again c =
     let m = c .before .before .before .before in
-    fill _ _ _ _ (m .before .before .before .loop .inv) (m .before .before .before .before .before .before .before .pre .0 .tabled .within)
+    fill _ _ _ _ (m .before .before .before .loop .inv) (m .before .before .before .before .before .before .before .pre .0 .laid .within)
     (omega arith) (omega arith) (omega arith) _ _ _ (m .step-order .ensures) (m .step-order .kept .1 .1 .1 .0)
     (c .before .step-count .ensures) (c .if1 .left)
 

@@ -27,19 +27,19 @@ sub-n : tie.Need-sub-n Inv-loop μ-loop
 sub-n c = omega arith
 
 slice-read-row : tie.Need-slice-read-row Inv-loop μ-loop
-slice-read-row c = omega (arith, c .before .before .before .before .before .before .before .before .before .pre .0 .tabled .within .nodes (c .before .before .before .before .before .before .before .before .before .args .i))
+slice-read-row c = omega (arith, c .before .before .before .before .before .before .before .before .before .pre .0 .laid .within .nodes (c .before .before .before .before .before .before .before .before .before .args .i))
 
 node-at-requires : tie.Need-node-at-requires Inv-loop μ-loop
 node-at-requires c κs = search needs
 
 mark-node-requires : tie.Need-mark-node-requires Inv-loop μ-loop
-mark-node-requires c κs = (rw (c .before .before .before .before .before .before .before .before .variable-count .ensures) (c .before .before .before .before .before .before .before .before .before .before .before .before .before .pre .0 .tabled .within .variables (c .before .before .before .before .before .before .before .before .before .before .before .before .before .args .i)), c .before .before .before .before .before .before .loop .inv .long, c .before .before .before .before .before .before .loop .inv .marks .long ∙ c .before .before .before .before .before .before .before .before .before .before .before .before .before .pre .2)
+mark-node-requires c κs = (rw (c .before .before .before .before .before .before .before .before .variable-count .ensures) (c .before .before .before .before .before .before .before .before .before .before .before .before .before .pre .0 .laid .within .variables (c .before .before .before .before .before .before .before .before .before .before .before .before .before .args .i)), c .before .before .before .before .before .before .loop .inv .long, c .before .before .before .before .before .before .loop .inv .marks .long ∙ c .before .before .before .before .before .before .before .before .before .before .before .before .before .pre .2)
 
 loop-less : tie.Need-loop-less Inv-loop μ-loop
 loop-less c = omega arith
 
 loop-again : tie.Need-loop-again Inv-loop μ-loop
-loop-again c = descent-owned _ _ _ _ _ _ (descent-down (c .before .before .before .before .before .before .before .before .before .before .before .loop .inv) (c .before .before .before .before .before .before .before .before .before .before .loop-test .taken)) (c .before .before .before .before .before .before .before .before .before .before .before .before .before .before .before .before .before .before .pre .0 .tabled .within .nodes (c .before .before .before .before .before .before .before .before .before .before .before .before .before .before .before .before .before .before .args .i)) (c .before .before .before .before .before .before .before .before .before .before .before .before .before .before .before .before .before .before .pre .0 .sound) (c .before .before .before .before .before .before .before .before .before .before .before .before .before .before .before .before .before .before .pre .0 .single) _ refl _ (rw (c .before .before .before .before .before .before .before .node-at .ensures) at (c .before .before .before .before .mark-node .ensures .1)) _ (rw (c .before .before .before .before .before .before .before .node-at .ensures, c .before .before .before .before .before .before .before .before .before .before .before .before .before .variable-count .ensures) at (c .before .before .before .before .mark-node .ensures .0))
+loop-again c = descent-owned _ _ _ _ _ _ (descent-down (c .before .before .before .before .before .before .before .before .before .before .before .loop .inv) (c .before .before .before .before .before .before .before .before .before .before .loop-test .taken)) (c .before .before .before .before .before .before .before .before .before .before .before .before .before .before .before .before .before .before .pre .0 .laid .within .nodes (c .before .before .before .before .before .before .before .before .before .before .before .before .before .before .before .before .before .before .args .i)) (c .before .before .before .before .before .before .before .before .before .before .before .before .before .before .before .before .before .before .pre .0 .sound) (c .before .before .before .before .before .before .before .before .before .before .before .before .before .before .before .before .before .before .pre .0 .single) _ refl _ (rw (c .before .before .before .before .before .before .before .node-at .ensures) at (c .before .before .before .before .mark-node .ensures .1)) _ (rw (c .before .before .before .before .before .before .before .node-at .ensures, c .before .before .before .before .before .before .before .before .before .before .before .before .before .variable-count .ensures) at (c .before .before .before .before .mark-node .ensures .0))
 
 loop-less-2 : tie.Need-loop-less-2 Inv-loop μ-loop
 loop-less-2 c = omega arith

@@ -20,7 +20,7 @@ slice-aggregate-write-order c = search needs
 
 write-order-requires : tie.Need-write-order-requires
 write-order-requires c κs =
-    let few = few-steps _ (c .before .before .before .before .before .before .before .before .before .args .i) (c .before .before .before .before .before .before .before .before .before .pre .0 .tabled .within) in
+    let few = few-steps _ (c .before .before .before .before .before .before .before .before .before .args .i) (c .before .before .before .before .before .before .before .before .before .pre .0 .laid .within) in
     let m = c .before .before .before .before in
     (omega (arith, c .before .before .step-count .ensures), omega (arith, m .fill-reads .ensures .long), omega (arith, c .before .before .step-count .ensures, m .before .before .before .before .before .pre .1))
 
@@ -29,7 +29,7 @@ same-length c = search needs
 
 returns : tie.Need-returns
 returns c =
-    let few = few-steps _ (c .before .before .before .before .before .before .before .before .before .before .before .before .args .i) (c .before .before .before .before .before .before .before .before .before .before .before .before .pre .0 .tabled .within) in
+    let few = few-steps _ (c .before .before .before .before .before .before .before .before .before .before .before .before .args .i) (c .before .before .before .before .before .before .before .before .before .before .before .before .pre .0 .laid .within) in
     let m = c .before .before .before .before .before in
     steps-written _ _ _ _ _ _ (m .before .before .fill-reads .ensures) (m .step-count .ensures) (omega (arith, m .step-count .ensures))
     (c .before .before .write-order .ensures)
