@@ -1,13 +1,12 @@
 // Judging a book: the first fault in the order written, or the number of its scopes; and the tables of an accepted book.
 use book::Fault;
 use book::Judged;
+use checks::find_faults;
 use mixing::has_mixed;
-use references::find_naming;
 use scan::Reading;
 use scan::read_records;
 use steps::block_order;
 use steps::fill_steps;
-use typing::has_mismatch;
 use weights::fill_weights;
 ghost use mathlib.Core.Path.{_≡_};
 ghost use lib.ListN.{replicate};
@@ -54,14 +53,14 @@ fn judge_whole(
     ensures { λ r.
         ⌜ Judging (now (book .entry)) (now (index .entry)) (now (blocks .exit)) (now (weights .exit)) (now (orders .exit)) (wholeBook (scopesOf (now (book .entry)))) r ⌝ }
 {
-    let naming = find_naming(book, index, scopes);
-    if naming.dangles {
+    let found = find_faults(book, index, scopes);
+    if found.dangles {
         return Judged::Refused(Fault::DanglingReference);
     }
-    if naming.shares {
+    if found.shares {
         return Judged::Refused(Fault::SharedNode);
     }
-    if has_mismatch(book, index, scopes) {
+    if found.mismatches {
         return Judged::Refused(Fault::TypeMismatch);
     }
     if has_mixed(book, index, scopes) {

@@ -1,3 +1,1 @@
 pub mod Dangling
-pub mod Marks
-pub mod Named

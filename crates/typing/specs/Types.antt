@@ -1,13 +1,12 @@
 -- The types of a scope's nodes as a table of bytes, and what is asked of nodes and clauses by that table.
 use Prim.Native.Nat.{ℕ}
-use mathlib.Core.Bool.{Bool, not, cond}
+use mathlib.Core.Bool.{Bool, cond}
 use mathlib.Core.List.{List}
 use lib.ListN.{getD}
 use lib.Dec.{eqb}
-use Rattle.book.specs.Lists.{any}
 use Rattle.book.specs.Syntax.{Scope}
 use Rattle.book.specs.References.{scopeAt}
-use Rattle.book.specs.Typing.{typeAt, calledTypeAt, targetType, nodeType, exceptionFits, nodeFits, consequenceType, clauseFits, mismatchIn}
+use Rattle.book.specs.Typing.{typeAt, calledTypeAt, targetType, nodeType, exceptionFits, nodeFits, consequenceType, clauseFits}
 use Rattle.book.specs.declared.ValueType.{ValueType}
 use Rattle.book.specs.declared.ValueType.the-variants.{YesNo, Numeric}
 use Rattle.book.specs.declared.Node.{Node}
@@ -40,6 +39,10 @@ typeOfTarget book i t = targetType book (scopeAt book i) t
 unfoldable pub typeOver : List Scope → ℕ → List ℕ → Node → ValueType
 typeOver book i types x = nodeType book (scopeAt book i) (typeIn types) x
 
+-- the byte of such a node in the table
+unfoldable pub typeByte : List Scope → ℕ → List ℕ → Node → ℕ
+typeByte book i types x = byteOf (typeOver book i types x)
+
 -- "255: none", or a node of this type
 unfoldable pub namedFits : List ℕ → ValueType → ℕ → Bool
 namedFits types t n = exceptionFits (typeIn types) t n
@@ -55,11 +58,3 @@ nodeSuits types x = nodeFits (typeIn types) x
 -- a clause of scope i has a yes/no condition and a consequence of its target's type
 unfoldable pub clauseSuits : List Scope → ℕ → List ℕ → Clause → Bool
 clauseSuits book i types c = clauseFits book (scopeAt book i) (typeIn types) c
-
--- some clause of scope i does not fit
-unfoldable pub clauseMisfits : List Scope → ℕ → List ℕ → Bool
-clauseMisfits book i types = any (λ c. not (clauseSuits book i types c)) (scopeAt book i .clauses)
-
--- some node or clause of scope i does not fit
-unfoldable pub mismatchAt : List Scope → ℕ → Bool
-mismatchAt book i = mismatchIn book (scopeAt book i)

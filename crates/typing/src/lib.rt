@@ -1,4 +1,4 @@
-// Fault 8: a type that does not fit.
+// Fault 8, a type that does not fit: of one node and of one clause, by a table of the types of lower nodes.
 use book::Clause;
 use book::Consequence;
 use book::Node;
@@ -6,10 +6,6 @@ use book::Target;
 use book::ValueType;
 use calculus::Binary;
 use calculus::Unary;
-use index::clause_at;
-use index::clause_count;
-use index::node_at;
-use index::node_count;
 use index::sub_scope_at;
 use index::variable_at;
 use slices::byte_at;
@@ -17,14 +13,11 @@ use types::operand_type;
 use types::same_type;
 use types::unary_type;
 ghost use mathlib.Core.Path.{_≡_};
-ghost use mathlib.Core.Bool.{false};
-ghost use lib.ListN.{length};
 ghost use Rattle.book.specs.Decode.{scopesOf};
-ghost use Rattle.book.specs.Typing.{binaryType, mismatches};
-ghost use Rattle.book.specs.References.{dangles};
+ghost use Rattle.book.specs.Typing.{binaryType};
 ghost use Rattle.index.specs.Index.{Laid};
-ghost use Rattle.typing.specs.Types.{byteOf, typeIn, ownType, calledType, typeOfTarget, typeOver, namedFits};
-ghost use Rattle.typing.specs.Types.{typeOfConsequence, nodeSuits, clauseSuits, clauseMisfits, mismatchAt};
+ghost use Rattle.typing.specs.Types.{byteOf, typeIn, ownType, calledType, typeOfTarget, typeOver, typeByte, namedFits};
+ghost use Rattle.typing.specs.Types.{typeOfConsequence, nodeSuits, clauseSuits};
 
 // A type as a byte.
 fn byte_of(t: ValueType) -> u8
@@ -110,6 +103,14 @@ fn type_over(book: &[u8], index: &[u16], i: usize, types: &[u8], node: Node) -> 
     }
 }
 
+// The type of a node of scope i as a byte of the table, which has those of lower nodes.
+pub fn type_byte(book: &[u8], index: &[u16], i: usize, types: &[u8], node: Node) -> u8
+    requires { ⌜ Laid (now book) (now index) ⌝ }
+    ensures { λ r. ⌜ r ≡ typeByte (scopesOf (now (book .entry))) i (now (types .entry)) node ⌝ }
+{
+    byte_of(type_over(book, index, i, types, node))
+}
+
 // Whether a number is 255, none, or a node of this type.
 fn named_fits(types: &[u8], t: ValueType, n: u8) -> bool
     ensures { λ r. ⌜ r ≡ namedFits (now (types .entry)) t n ⌝ }
@@ -121,7 +122,7 @@ fn named_fits(types: &[u8], t: ValueType, n: u8) -> bool
 }
 
 // Whether a node's operands have the types that it takes.
-fn node_suits(types: &[u8], node: Node) -> bool
+pub fn node_suits(types: &[u8], node: Node) -> bool
     ensures { λ r. ⌜ r ≡ nodeSuits (now (types .entry)) node ⌝ }
 {
     match node {
@@ -161,7 +162,7 @@ fn consequence_type(types: &[u8], consequence: Consequence) -> ValueType
 }
 
 // Whether a clause of scope i has a yes/no condition and a consequence of its target's type.
-fn clause_suits(book: &[u8], index: &[u16], i: usize, types: &[u8], clause: Clause) -> bool
+pub fn clause_suits(book: &[u8], index: &[u16], i: usize, types: &[u8], clause: Clause) -> bool
     requires { ⌜ Laid (now book) (now index) ⌝ }
     ensures { λ r. ⌜ r ≡ clauseSuits (scopesOf (now (book .entry))) i (now (types .entry)) clause ⌝ }
 {
@@ -171,59 +172,4 @@ fn clause_suits(book: &[u8], index: &[u16], i: usize, types: &[u8], clause: Clau
     let given = consequence_type(types, consequence);
     let wanted = target_type(book, index, i, target);
     named_fits(types, ValueType::YesNo, condition) & same_type(given, wanted)
-}
-
-// Whether some clause of scope i does not fit.
-fn clause_misfits(book: &[u8], index: &[u16], i: usize, types: &[u8]) -> bool
-    requires { ⌜ Laid (now book) (now index) ⌝ }
-    ensures { λ r. ⌜ r ≡ clauseMisfits (scopesOf (now (book .entry))) i (now (types .entry)) ⌝ }
-{
-    let count = clause_count(book, index, i);
-    let mut n: usize = 0;
-    while n < count {
-        let clause = clause_at(book, index, i, n);
-        if !clause_suits(book, index, i, types, clause) {
-            return true;
-        }
-        n += 1;
-    }
-    false
-}
-
-// Whether some node or clause of scope i does not fit. The types of its nodes are found in number order, and kept as bytes: a node
-// names only lower ones, so the table so far tells whether it fits.
-fn mismatch_at(book: &[u8], index: &[u16], i: usize) -> bool
-    requires { ⌜ Laid (now book) (now index) ⌝ ∗ ⌜ dangles (scopesOf (now book)) ≡ false ⌝ }
-    ensures { λ r. ⌜ r ≡ mismatchAt (scopesOf (now (book .entry))) i ⌝ }
-{
-    let mut types = [0u8; 256];
-    let count = node_count(book, index, i);
-    let mut n: usize = 0;
-    while n < count {
-        let node = node_at(book, index, i, n);
-        if !node_suits(&types, node) {
-            return true;
-        }
-        let t = type_over(book, index, i, &types, node);
-        types[n] = byte_of(t);
-        n += 1;
-    }
-    clause_misfits(book, index, i, &types)
-}
-
-// Fault 8: whether a type does not fit somewhere in a book of so many scopes.
-pub fn has_mismatch(book: &[u8], index: &[u16], scopes: usize) -> bool
-    requires { ⌜ Laid (now book) (now index) ⌝
-        ∗ ⌜ scopes ≡ length (scopesOf (now book)) ⌝
-        ∗ ⌜ dangles (scopesOf (now book)) ≡ false ⌝ }
-    ensures { λ r. ⌜ r ≡ mismatches (scopesOf (now (book .entry))) ⌝ }
-{
-    let mut i: usize = 0;
-    while i < scopes {
-        if mismatch_at(book, index, i) {
-            return true;
-        }
-        i += 1;
-    }
-    false
 }

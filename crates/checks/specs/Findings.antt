@@ -1,0 +1,87 @@
+-- What one pass finds of the faults 6, 7 and 8: 7 and 8 only where 6 is not.
+use Prim.Native.Nat.{ℕ}
+use mathlib.Core.Path.{_≡_}
+use mathlib.Core.Bool.{Bool, true, false, not, _||_}
+use mathlib.Core.List.{List}
+use Rattle.book.specs.Lists.{any, anyFrom}
+use Rattle.book.specs.Syntax.{Scope}
+use Rattle.book.specs.References.{scopeAt, nodeNames, clauseNames, danglesIn, dangles}
+use Rattle.book.specs.Sharing.{operands, clauseNodes, gathered, namings, repeats, shares}
+use Rattle.book.specs.Typing.{typeOfNode, nodeFits, clauseFits, mismatchIn, mismatches}
+use Rattle.book.specs.declared.Node.{Node}
+use Rattle.book.specs.declared.Clause.{Clause}
+use Rattle.sharing.specs.Marks.{Marking}
+use Rattle.typing.specs.Types.{typeIn}
+use Rattle.checks.specs.declared.Findings.{Findings}
+
+-- what is found once something dangles
+abbrev pub onlyDangling : Findings
+onlyDangling = record { dangles = true; shares = false; mismatches = false }
+
+-- node n of scope i, and clause n of it, names what it may not
+abbrev pub wrongNode : List Scope → ℕ → ℕ → Node → Bool
+wrongNode book i n x = not (nodeNames book (scopeAt book i) n x)
+
+abbrev pub wrongClause : List Scope → ℕ → ℕ → Clause → Bool
+wrongClause book i n c = not (clauseNames book (scopeAt book i) n c)
+
+-- some node of scope i, and some clause of it
+unfoldable pub nodeDangles : List Scope → ℕ → Bool
+nodeDangles book i = anyFrom (wrongNode book i) 0 (scopeAt book i .nodes)
+
+unfoldable pub clauseDangles : List Scope → ℕ → Bool
+clauseDangles book i = anyFrom (wrongClause book i) 0 (scopeAt book i .clauses)
+
+-- what the nodes of scope i name, and what its clauses name
+unfoldable pub nodeNamings : List Scope → ℕ → List ℕ
+nodeNamings book i = gathered operands (scopeAt book i .nodes)
+
+unfoldable pub clauseNamings : List Scope → ℕ → List ℕ
+clauseNamings book i = gathered clauseNodes (scopeAt book i .clauses)
+
+-- a node of a scope is named more than once
+unfoldable pub sharesIn : Scope → Bool
+sharesIn s = repeats (namings s)
+
+-- a node of scope i, and a clause of it, does not fit
+unfoldable pub misfitNode : List Scope → ℕ → Node → Bool
+misfitNode book i x = not (nodeFits (typeOfNode book (scopeAt book i)) x)
+
+unfoldable pub misfitClause : List Scope → ℕ → Clause → Bool
+misfitClause book i c = not (clauseFits book (scopeAt book i) (typeOfNode book (scopeAt book i)) c)
+
+-- some node of scope i, and some clause of it
+unfoldable pub nodeMisfits : List Scope → ℕ → Bool
+nodeMisfits book i = any (misfitNode book i) (scopeAt book i .nodes)
+
+unfoldable pub clauseMisfits : List Scope → ℕ → Bool
+clauseMisfits book i = any (misfitClause book i) (scopeAt book i .clauses)
+
+-- a table that has the type of each node of scope i
+pub record Typed (book : List Scope) (i : ℕ) (types : List ℕ) : Type 0 where
+  pub known : typeIn types ≡ typeOfNode book (scopeAt book i)
+
+-- of the nodes of scope i: where none dangles, what they name is marked, and their types are in the table
+pub record OfNodes (book : List Scope) (i : ℕ) (marks : List ℕ) (r : Findings) (after types : List ℕ) : Type 0 where
+  pub dangling : r .dangles ≡ nodeDangles book i
+  pub shared : r .dangles ≡ false → Marking (nodeNamings book i) marks false (r .shares) after
+  pub mismatched : r .dangles ≡ false → r .mismatches ≡ nodeMisfits book i
+  pub typed : r .dangles ≡ false → Typed book i types
+
+-- of the clauses of scope i, after what was found of its nodes
+pub record OfClauses (book : List Scope) (i : ℕ) (marks : List ℕ) (found r : Findings) (after : List ℕ) : Type 0 where
+  pub dangling : r .dangles ≡ clauseDangles book i
+  pub shared : r .dangles ≡ false → Marking (clauseNamings book i) marks (found .shares) (r .shares) after
+  pub mismatched : r .dangles ≡ false → r .mismatches ≡ (found .mismatches || clauseMisfits book i)
+
+-- of scope i
+pub record OfScope (book : List Scope) (i : ℕ) (r : Findings) : Type 0 where
+  pub dangling : r .dangles ≡ danglesIn book (scopeAt book i)
+  pub shared : r .dangles ≡ false → r .shares ≡ sharesIn (scopeAt book i)
+  pub mismatched : r .dangles ≡ false → r .mismatches ≡ mismatchIn book (scopeAt book i)
+
+-- of the book
+pub record OfBook (book : List Scope) (r : Findings) : Type 0 where
+  pub dangling : r .dangles ≡ dangles book
+  pub shared : r .dangles ≡ false → r .shares ≡ shares book
+  pub mismatched : r .dangles ≡ false → r .mismatches ≡ mismatches book
