@@ -12,7 +12,7 @@ use mathlib.Core.List.{List}
 use mathlib.Core.Logic.{⊎-elim, _↔_}
 use native.Mathlib.Omega.{arith}
 use lib.ListN.{length}
-use Rattle.order.proofs.Booleans.{decide, neither}
+use Rattle.laws.proofs.Booleans.{decide, neither}
 use Rattle.book.specs.Lists.{any}
 use Rattle.book.specs.Records.{records, unknownKind, truncated, outOfOrder, limitExceeded, invalidByte, tooLong}
 use Rattle.book.specs.Decode.{scopesOf}
@@ -23,12 +23,12 @@ use Rattle.book.specs.Mixing.{mixes}
 use Rattle.book.specs.Scopes.{scopeCycle, overweight}
 use Rattle.book.specs.Steps.{dependencyCycle}
 use Rattle.book.specs.Judge.{InBook, scan, wholeBook, afterRecords, judge}
-use Rattle.book.specs.declared.Fault.{Fault}
-use Rattle.book.specs.declared.Fault.the-variants.{Truncated, UnknownKind, OutOfOrder, LimitExceeded, InvalidByte, DanglingReference, SharedNode, TypeMismatch, MixedClauses, ScopeCycle, WeightExceeded, DependencyCycle}
+use Rattle.answers.specs.declared.Fault.{Fault}
+use Rattle.answers.specs.declared.Fault.the-variants.{Truncated, UnknownKind, OutOfOrder, LimitExceeded, InvalidByte, DanglingReference, SharedNode, TypeMismatch, MixedClauses, ScopeCycle, WeightExceeded, DependencyCycle}
 use Rattle.book.specs.declared.Scanned.{Scanned}
 use Rattle.book.specs.declared.Scanned.the-variants.{Sound, Faulty}
-use Rattle.book.specs.declared.Judged.{Judged}
-use Rattle.book.specs.declared.Judged.the-variants.{Accepted, Refused}
+use Rattle.answers.specs.declared.Judged.{Judged}
+use Rattle.answers.specs.declared.Judged.the-variants.{Accepted, Refused}
 use Rattle.acceptance.specs.Verdicts.{Faultless}
 use Rattle.acceptance.proofs.Cycles.{no-scope-cycle, no-dependency-cycle}
 use Rattle.acceptance.proofs.Scanning.{scan-sound, sound-free}

@@ -14,7 +14,7 @@ use lib.Dec.{eqb, ltb}
 use borrow.Author.Tests.{eqb-true, ltb-true}
 use Rattle.calculus.specs.Terms.{Term, Terms, also, none}
 use Rattle.order.specs.Order.{among}
-use Rattle.order.proofs.Booleans.{decide, both, or-cases}
+use Rattle.laws.proofs.Booleans.{decide, both, or-cases}
 use Rattle.book.specs.Syntax.{Scope, noNode}
 use Rattle.book.specs.References.{noClause, nodeNames, namesCalled}
 use Rattle.book.specs.Trees.{exception, nodeTerm, termBelow, termOf, conditionTerm, consequenceTerm}

@@ -15,7 +15,7 @@ use native.Mathlib.Omega.{arith}
 use native.Mathlib.Nat.{eq-or-lt-of-le}
 use lib.Dec.{leb}
 use borrow.Author.Tests.{leb-true, leb-false}
-use Rattle.order.proofs.Booleans.{decide}
+use Rattle.laws.proofs.Booleans.{decide}
 use Rattle.book.specs.Records.{records, tooLong, limitExceeded}
 use Rattle.book.specs.Lists.{any}
 use Rattle.book.specs.Decode.{scopesOf}
@@ -26,12 +26,12 @@ use Rattle.book.specs.Mixing.{mixes}
 use Rattle.book.specs.Scopes.{scopeCycle, overweight}
 use Rattle.book.specs.Steps.{dependencyCycle}
 use Rattle.book.specs.Judge.{faultNumber, InBook, scan, wholeBook, afterRecords, judge}
-use Rattle.book.specs.declared.Fault.{Fault}
-use Rattle.book.specs.declared.Fault.the-variants.{LimitExceeded, DanglingReference, SharedNode, TypeMismatch, MixedClauses, ScopeCycle, WeightExceeded, DependencyCycle}
+use Rattle.answers.specs.declared.Fault.{Fault}
+use Rattle.answers.specs.declared.Fault.the-variants.{LimitExceeded, DanglingReference, SharedNode, TypeMismatch, MixedClauses, ScopeCycle, WeightExceeded, DependencyCycle}
 use Rattle.book.specs.declared.Scanned.{Scanned}
 use Rattle.book.specs.declared.Scanned.the-variants.{Sound, Faulty}
-use Rattle.book.specs.declared.Judged.{Judged}
-use Rattle.book.specs.declared.Judged.the-variants.{Accepted, Refused}
+use Rattle.answers.specs.declared.Judged.{Judged}
+use Rattle.answers.specs.declared.Judged.the-variants.{Accepted, Refused}
 use Rattle.acceptance.specs.Verdicts.{FirstFaulty, FreeBelow, Refusal}
 use Rattle.acceptance.proofs.Cycles.{scope-cycle, no-scope-cycle, dependency-cycle, no-dependency-cycle}
 use Rattle.acceptance.proofs.Numbers.{number-injective, free-more}

@@ -15,7 +15,7 @@ use Rattle.book.specs.Decode.{scopesOf}
 use Rattle.book.specs.References.{scopeAt}
 use Rattle.book.specs.Limits.{Within}
 use Rattle.book.specs.Judge.{judge}
-use Rattle.book.specs.declared.Judged.the-variants.{Accepted}
+use Rattle.answers.specs.declared.Judged.the-variants.{Accepted}
 use Rattle.book.proofs.Limits.{within}
 use Rattle.acceptance.specs.Verdicts.{Faultless}
 use Rattle.acceptance.specs.Accepted.{WithinLimits}

@@ -17,7 +17,7 @@ use lib.Seq.{getD-take, length-take-le}
 use lib.Dec.{ltb}
 use borrow.Author.Tests.{eqb-true, ltb-true, ltb-false, not-false}
 use Rattle.order.specs.Order.{order, among}
-use Rattle.order.proofs.Booleans.{decide}
+use Rattle.laws.proofs.Booleans.{decide}
 use Rattle.order.proofs.Order.{order-all, order-no-repeats, order-after-dependencies}
 use Rattle.book.specs.Syntax.{Scope, emptyScope}
 use Rattle.book.specs.Decode.{scopesOf}
@@ -25,7 +25,7 @@ use Rattle.book.specs.References.{scopeAt}
 use Rattle.book.specs.Scopes.{calls, blocks, scopeCycle}
 use Rattle.book.specs.Steps.{dependsOn, stepCount, stepOrder, dependencyCycleIn, dependencyCycle}
 use Rattle.book.specs.Judge.{judge}
-use Rattle.book.specs.declared.Judged.the-variants.{Accepted}
+use Rattle.answers.specs.declared.Judged.the-variants.{Accepted}
 use Rattle.acceptance.specs.Accepted.{WellFormed, CompleteOrder, AcceptedBook}
 use Rattle.order.proofs.Among.{among-at}
 use Rattle.book.proofs.Searches.{any-false}

@@ -14,9 +14,9 @@ use native.Mathlib.Omega.{arith}
 use lib.ListN.{length, getD}
 use lib.Dec.{eqb, ltb}
 use borrow.Author.Tests.{eqb-true, eqb-false, eq-eqb, ne-eqb, ltb-true}
-use Rattle.calculus.specs.declared.Cause.the-variants.{Empty}
+use Rattle.answers.specs.declared.Cause.the-variants.{Empty}
 use Rattle.calculus.specs.Terms.{Term, Terms, error, none, also}
-use Rattle.order.proofs.Booleans.{decide, both, or-cases}
+use Rattle.laws.proofs.Booleans.{decide, both, or-cases}
 use Rattle.book.specs.Syntax.{Scope, sameTarget}
 use Rattle.book.specs.References.{noClause, namesParent, namesTarget, clauseNames}
 use Rattle.book.specs.Trees.{select, clauseTerms, hasTarget, isBase, bases, hasRule, withoutRules, tree, ownTarget, calledTarget}

@@ -13,12 +13,12 @@ use mathlib.Core.Bool.{Bool, true, false, cond, _||_, false≢true, or-true}
 use mathlib.Core.List.{List, [], _∷_, _++_}
 use mathlib.Core.Logic.{_⊎_, inl, inr, ⊎-elim, _↔_}
 use native.Mathlib.Omega.{arith}
-use Rattle.order.proofs.Booleans.{decide, neither}
+use Rattle.laws.proofs.Booleans.{decide, neither}
 use Rattle.book.specs.Lists.{any}
 use Rattle.book.specs.Records.{Met, records, unknownKind, truncated, outOfOrder, limitExceeded, invalidByte, tooLong}
 use Rattle.book.specs.Judge.{faultNumber, InBook, scan}
-use Rattle.book.specs.declared.Fault.{Fault}
-use Rattle.book.specs.declared.Fault.the-variants.{Truncated, UnknownKind, OutOfOrder, LimitExceeded, InvalidByte, DanglingReference, SharedNode, TypeMismatch, MixedClauses, ScopeCycle, WeightExceeded, DependencyCycle}
+use Rattle.answers.specs.declared.Fault.{Fault}
+use Rattle.answers.specs.declared.Fault.the-variants.{Truncated, UnknownKind, OutOfOrder, LimitExceeded, InvalidByte, DanglingReference, SharedNode, TypeMismatch, MixedClauses, ScopeCycle, WeightExceeded, DependencyCycle}
 use Rattle.book.specs.declared.Scanned.{Scanned}
 use Rattle.book.specs.declared.Scanned.the-variants.{Sound, Faulty}
 use Rattle.acceptance.specs.Verdicts.{NoneFaulty, FirstOf, FirstFaulty, FreeBelow}

@@ -13,7 +13,7 @@ use native.Mathlib.Omega.{arith}
 use lib.ListN.{length, getD}
 use lib.Dec.{ltb}
 use borrow.Author.Tests.{ltb-false}
-use Rattle.order.proofs.Booleans.{neither}
+use Rattle.laws.proofs.Booleans.{neither}
 use Rattle.book.specs.Lists.{any}
 use Rattle.book.specs.Syntax.{Scope, emptyScope}
 use Rattle.book.specs.Decode.{scopesOf}

@@ -13,8 +13,8 @@ use Rattle.book.specs.Mixing.{mixes}
 use Rattle.book.specs.Scopes.{scopeCycle, overweight}
 use Rattle.book.specs.Steps.{dependencyCycle}
 use Rattle.book.specs.Judge.{faultNumber, InBook}
-use Rattle.book.specs.declared.Fault.{Fault}
-use Rattle.book.specs.declared.Fault.the-variants.{Truncated, UnknownKind, OutOfOrder, LimitExceeded, InvalidByte}
+use Rattle.answers.specs.declared.Fault.{Fault}
+use Rattle.answers.specs.declared.Fault.the-variants.{Truncated, UnknownKind, OutOfOrder, LimitExceeded, InvalidByte}
 
 -- no record has one of the faults 1 to 5
 pub record NoneFaulty (ms : List Met) : Type 0 where

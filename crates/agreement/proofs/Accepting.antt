@@ -16,7 +16,7 @@ use lib.Seq.{take-suc, take-all}
 use lib.Dec.{eqb}
 use borrow.Author.Tests.{eqb-true, eq-eqb, lt-ltb, le-leb}
 use Rattle.order.specs.Order.{among}
-use Rattle.order.proofs.Booleans.{decide, eqb-swap}
+use Rattle.laws.proofs.Booleans.{decide, eqb-swap}
 use Rattle.order.proofs.Among.{among-at}
 use Rattle.book.specs.Lists.{any}
 use Rattle.book.specs.Syntax.{Scope}
@@ -27,7 +27,7 @@ use Rattle.book.specs.Typing.{targetType}
 use Rattle.book.specs.Scopes.{blocks, weight}
 use Rattle.book.specs.Steps.{stepOrder}
 use Rattle.book.specs.Judge.{judge}
-use Rattle.book.specs.declared.Judged.the-variants.{Accepted}
+use Rattle.answers.specs.declared.Judged.the-variants.{Accepted}
 use Rattle.book.specs.declared.Target.{Target}
 use Rattle.book.proofs.Searches.{any-none}
 use Rattle.book.proofs.Sums.{sum-same}

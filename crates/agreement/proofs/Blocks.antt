@@ -14,7 +14,7 @@ use lib.Dec.{eqb, ltb}
 use borrow.Author.Tests.{eqb-true, ltb-true, ltb-false}
 use Rattle.calculus.specs.declared.Given.{Given}
 use Rattle.order.specs.Order.{among}
-use Rattle.order.proofs.Booleans.{decide, eqb-swap}
+use Rattle.laws.proofs.Booleans.{decide, eqb-swap}
 use Rattle.order.proofs.Among.{among-at, among-place}
 use Rattle.book.specs.Syntax.{Scope}
 use Rattle.book.specs.Decode.{scopesOf}
@@ -23,7 +23,7 @@ use Rattle.book.specs.Scopes.{blocks}
 use Rattle.book.specs.Steps.{stepOrder}
 use Rattle.book.specs.Judge.{judge}
 use Rattle.book.specs.declared.Variable.{Variable}
-use Rattle.book.specs.declared.Judged.the-variants.{Accepted}
+use Rattle.answers.specs.declared.Judged.the-variants.{Accepted}
 use Rattle.acceptance.proofs.Acceptance.{accepted-faultless}
 use Rattle.acceptance.proofs.Orders.{accepted-book}
 use Rattle.evaluation.specs.Run as evaluation

@@ -17,9 +17,9 @@ use Rattle.book.specs.Scopes.{calls, blocks, sum}
 use Rattle.book.specs.Steps.{stepCount, reads, readsAny, stepOf, clauseReads, dependsOn, stepOrder}
 use Rattle.lists.specs.Inputs.{badRecord, inputsFrom, inputs}
 use Rattle.lists.specs.Results.{resultLength, resultsFrom, results}
-use Rattle.calculus.specs.declared.Cause.the-variants.{Empty}
+use Rattle.answers.specs.declared.Cause.the-variants.{Empty}
 use Rattle.evaluation.specs.Evaluate.{Reply}
-use Rattle.evaluation.specs.declared.Answer.the-variants.{Values, Ended}
+use Rattle.answers.specs.declared.Answer.the-variants.{Values, Ended}
 use Rattle.translation.specs.Code.{size, sizes, code, codes}
 use Rattle.translation.specs.Blocks.{variableCode, overridesCode, callCode, stepCode, stepsCode, variablesCode, subScopesCode, blockCode, blocksCode, codeOf}
 use Rattle.machine.specs.Instructions.{instructionOf}

@@ -16,10 +16,10 @@ use Rattle.slices.specs.Bytes.{bytesOf}
 use Rattle.calculus.specs.Terms as terms
 use Rattle.calculus.specs.Terms.{Term, Terms, literal, own, called, error, choice, default, none, also}
 use Rattle.calculus.specs.declared.Value.the-variants.{Truth, Number}
-use Rattle.calculus.specs.declared.Cause.the-variants.{Empty, Conflict, OutOfRange}
+use Rattle.answers.specs.declared.Cause.the-variants.{Empty, Conflict, OutOfRange}
 use Rattle.calculus.specs.declared.Unary.the-variants.{Not, Negate}
 use Rattle.calculus.specs.declared.Binary.the-variants.{And, Add, Subtract, Equal, Less}
-use Rattle.order.proofs.Booleans.{decide}
+use Rattle.laws.proofs.Booleans.{decide}
 use Rattle.book.specs.Syntax.{Scope}
 use Rattle.book.specs.References.{scopeAt}
 use Rattle.book.specs.Typing.{targetType}

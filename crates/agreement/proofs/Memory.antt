@@ -23,7 +23,7 @@ use Rattle.calculus.specs.declared.Given.{Given}
 use Rattle.calculus.specs.declared.Given.the-variants.{Absent, Present}
 use Rattle.cells.specs.Cells.{held}
 use Rattle.order.specs.Order.{among}
-use Rattle.order.proofs.Booleans.{decide, or-cases, neither}
+use Rattle.laws.proofs.Booleans.{decide, or-cases, neither}
 use Rattle.order.proofs.Among.{among-snoc}
 use Rattle.book.specs.Syntax.{Scope}
 use Rattle.book.specs.References.{scopeAt}

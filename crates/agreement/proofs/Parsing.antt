@@ -12,7 +12,7 @@ use Rattle.record.specs.Kinds.{shapeIn, shapesOf, kinds}
 use Rattle.calculus.specs.Terms.{Term, Terms, literal, own, called, error, unary, binary, choice, default, none, also}
 use Rattle.calculus.specs.declared.Value.{Value}
 use Rattle.calculus.specs.declared.Value.the-variants.{Truth, Number}
-use Rattle.calculus.specs.declared.Cause.the-variants.{Empty}
+use Rattle.answers.specs.declared.Cause.the-variants.{Empty}
 use Rattle.book.specs.Syntax.{Scope, variableOf}
 use Rattle.book.specs.References.{scopeAt}
 use Rattle.book.specs.Trees.{tree, hasClause, ownTarget, calledTarget}

@@ -19,13 +19,13 @@ use lib.Dec.{eqb}
 use lib.IntN.{ℤ}
 use Rattle.slices.specs.Bytes.{bytesOf, numberBytes}
 use Rattle.record.specs.Kinds.{shapeIn, shapesOf, kinds}
-use Rattle.calculus.specs.declared.Cause.{Cause}
-use Rattle.calculus.specs.declared.Cause.the-variants.{Empty, Conflict, OutOfRange}
+use Rattle.answers.specs.declared.Cause.{Cause}
+use Rattle.answers.specs.declared.Cause.the-variants.{Empty, Conflict, OutOfRange}
 use Rattle.calculus.specs.declared.Unary.{Unary}
 use Rattle.calculus.specs.declared.Unary.the-variants.{Not, Negate}
 use Rattle.calculus.specs.declared.Binary.{Binary}
 use Rattle.calculus.specs.declared.Binary.the-variants.{And, Add, Subtract, Equal, Less}
-use Rattle.order.proofs.Booleans.{decide}
+use Rattle.laws.proofs.Booleans.{decide}
 use Rattle.book.specs.Records.{invalid}
 use Rattle.translation.specs.Code.{unaryKind, binaryKind, raiseKind}
 use Rattle.machine.specs.Instructions.{instructionOf}

@@ -20,7 +20,7 @@ use Rattle.calculus.specs.declared.Joined.the-variants.{One}
 use Rattle.calculus.specs.declared.Given.{Given}
 use Rattle.calculus.specs.declared.Given.the-variants.{Absent, Present}
 use Rattle.order.specs.Order.{among}
-use Rattle.order.proofs.Booleans.{decide}
+use Rattle.laws.proofs.Booleans.{decide}
 use Rattle.book.specs.Syntax.{Scope}
 use Rattle.book.specs.Decode.{scopesOf}
 use Rattle.book.specs.References.{scopeAt}
@@ -30,7 +30,7 @@ use Rattle.book.specs.Steps.{stepCount, stepOrder}
 use Rattle.book.specs.Judge.{judge}
 use Rattle.book.specs.declared.Variable.{Variable}
 use Rattle.book.specs.declared.Target.{Target}
-use Rattle.book.specs.declared.Judged.the-variants.{Accepted}
+use Rattle.answers.specs.declared.Judged.the-variants.{Accepted}
 use Rattle.acceptance.proofs.Orders.{accepted-book}
 use Rattle.evaluation.specs.Run.{Entered, values, ended, State, envOf, runSteps, runScope}
 use Rattle.evaluation.specs.Types.{HasType, Fitting, OutcomeFits}

@@ -7,8 +7,8 @@ use lib.ListN.{length}
 use Rattle.book.specs.Decode.{scopesOf}
 use Rattle.book.specs.Scopes.{weight}
 use Rattle.evaluation.specs.Evaluate.{countIn, evaluate, memoryAfter}
-use Rattle.evaluation.specs.declared.Refusal.the-variants.{BadCode, Stuck}
-use Rattle.evaluation.specs.declared.Answer.the-variants.{Refused}
+use Rattle.answers.specs.declared.Refusal.the-variants.{BadCode, Stuck}
+use Rattle.answers.specs.declared.Answer.the-variants.{Refused}
 use Rattle.translation.specs.Blocks.{codeOf}
 use Rattle.machine.specs.Acceptance.{accepted}
 use Rattle.machine.specs.Service.{run}

@@ -13,7 +13,7 @@ use native.Mathlib.Omega.{arith}
 use lib.ListN.{length, getD}
 use lib.Dec.{eqb, leb}
 use borrow.Author.Tests.{eqb-true, eq-eqb, leb-true, leb-false}
-use Rattle.order.proofs.Booleans.{both, decide, or-cases}
+use Rattle.laws.proofs.Booleans.{both, decide, or-cases}
 use Rattle.book.specs.Lists.{any}
 use Rattle.machine.specs.Blocks.{Block, emptyBlock, hasBlock}
 use Rattle.machine.specs.Acceptance.{wellFormed, allWellFormed}

@@ -12,7 +12,7 @@ use native.Mathlib.Numerals.{add-one}
 use lib.ListN.{length, getD}
 use lib.Dec.{eqb}
 use borrow.Author.Tests.{ne-eqb, eqb-true, eqb-false, not-true, not-false}
-use Rattle.order.proofs.Booleans.{decide}
+use Rattle.laws.proofs.Booleans.{decide}
 use Rattle.calculus.specs.declared.Value.{Value}
 use Rattle.calculus.specs.declared.Given.the-variants.{Present}
 use Rattle.cells.specs.Cells.{givenOf, held}

@@ -17,10 +17,10 @@ use lib.ListN.{length-take, List·getD-append}
 use lib.Seq.{getD-set-same, getD-set-other, getD-take, getD-drop, getD-append-add}
 use lib.Dec.{eqb, ltb}
 use borrow.Author.Tests.{eq-eqb, ne-eqb, ltb-true, ltb-false}
-use Rattle.order.proofs.Booleans.{decide}
+use Rattle.laws.proofs.Booleans.{decide}
 use mathlib.Core.Logic.{_⊎_, inl, inr, ⊎-elim}
 use Rattle.record.specs.Kinds.{kinds, shapesOf, shapeIn}
-use Rattle.calculus.specs.declared.Cause.{Cause}
+use Rattle.answers.specs.declared.Cause.{Cause}
 use Rattle.calculus.specs.declared.Value.{Value}
 use Rattle.calculus.specs.declared.Joined.{Joined}
 use Rattle.calculus.specs.declared.Given.{Given}

@@ -9,7 +9,7 @@ use native.Mathlib.Omega.{arith}
 use lib.ListN.{length, getD}
 use lib.Dec.{eqb, ltb}
 use borrow.Author.Tests.{ltb-false, not-true}
-use Rattle.order.proofs.Booleans.{both, neither, decide}
+use Rattle.laws.proofs.Booleans.{both, neither, decide}
 use Rattle.book.specs.Records.{follows}
 use Rattle.machine.specs.Blocks.{Block, emptyBlock, Parsed, bodyLength, stageOf, inFront, parse}
 use Rattle.machine.specs.Acceptance.{Count, start, counted, faulty, sound, accepted}

@@ -10,7 +10,7 @@ use mathlib.Core.List.{List, [], _∷_}
 use native.Mathlib.Omega.{arith}
 use lib.ListN.{length, getD, drop, length-drop}
 use lib.Seq.{drop-cons}
-use Rattle.order.proofs.Booleans.{both}
+use Rattle.laws.proofs.Booleans.{both}
 use Rattle.calculus.specs.declared.Joined.{Joined}
 use Rattle.machine.specs.Instructions.{instructionOf}
 use Rattle.machine.specs.Blocks.{Block, bodyLength}

@@ -8,7 +8,7 @@ use native.Mathlib.Omega.{arith}
 use lib.ListN.{length, getD}
 use lib.Dec.{eqb, ltb}
 use borrow.Author.Tests.{eq-eqb, ltb-true, leb-true, not-true}
-use Rattle.order.proofs.Booleans.{both}
+use Rattle.laws.proofs.Booleans.{both}
 use Rattle.calculus.specs.declared.Given.{Given}
 use Rattle.book.specs.Lists.{any}
 use Rattle.book.specs.Scopes.{sum}

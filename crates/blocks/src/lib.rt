@@ -1,5 +1,5 @@
 // The machine that runs accepted code: each entry of a block works on parts of a lent stack and of lent tries.
-use calculus::Cause;
+use answers::Cause;
 use heads::block_of;
 use heads::sub_scopes_in;
 use heads::variables_in;

@@ -8,7 +8,7 @@ use mathlib.Core.List.{List}
 use lib.ListN.{length, getD}
 use lib.Dec.{ltb}
 use borrow.Author.Tests.{ltb-true}
-use Rattle.order.proofs.Booleans.{neither}
+use Rattle.laws.proofs.Booleans.{neither}
 use Rattle.book.specs.Lists.{any, anyFrom}
 use Rattle.book.specs.Syntax.{Scope, emptyScope}
 use Rattle.book.specs.References.{scopeAt, nodeNames, clauseNames, danglesIn, dangles}

@@ -14,7 +14,7 @@ use lib.ListN.{length, getD}
 use lib.Dec.{eqb, ltb}
 use borrow.Author.Tests.{ltb-true}
 use Rattle.order.specs.Order.{among}
-use Rattle.order.proofs.Booleans.{both, neither}
+use Rattle.laws.proofs.Booleans.{both, neither}
 use Rattle.book.specs.Syntax.{Scope, emptyScope}
 use Rattle.book.specs.References.{scopeAt, namesException, nodeNames, namesTarget, namesParent, namesCondition, namesConsequence, clauseNames}
 use Rattle.book.specs.Sharing.{unless255, operands, consequenceNode, clauseNodes, gathered, namings, repeats, shares}

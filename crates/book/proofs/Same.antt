@@ -6,7 +6,7 @@ use mathlib.Core.Path.{_≡_, refl}
 use mathlib.Core.Bool.{true, false≢true}
 use lib.Dec.{eqb}
 use borrow.Author.Tests.{eqb-true}
-use Rattle.order.proofs.Booleans.{both}
+use Rattle.laws.proofs.Booleans.{both}
 use Rattle.book.specs.Syntax.{sameType, sameTarget}
 use Rattle.book.specs.declared.ValueType.{ValueType}
 use Rattle.book.specs.declared.ValueType.the-variants.{YesNo, Numeric}

@@ -20,7 +20,7 @@ use native.Mathlib.Numerals.{add-one}
 use lib.ListN.{length, getD, drop}
 use lib.Seq.{drop-cons}
 use borrow.Author.Tests.{not-false}
-use Rattle.order.proofs.Booleans.{decide, or-cases, neither}
+use Rattle.laws.proofs.Booleans.{decide, or-cases, neither}
 use Rattle.book.specs.Lists.{any, anyFrom}
 
 -- Searches that look at the number

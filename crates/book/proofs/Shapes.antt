@@ -13,7 +13,7 @@ use native.Mathlib.Omega.{arith}
 use lib.ListN.{getD}
 use lib.Dec.{T, eqb, leb, leb→le}
 use borrow.Author.Tests.{ne-eqb, leb-true}
-use Rattle.order.proofs.Booleans.{both}
+use Rattle.laws.proofs.Booleans.{both}
 use Rattle.record.proofs.Decision.{and-l, and-r}
 use Rattle.record.specs.Kinds.{kinds, shapesOf, pickShape, shapeIn}
 use Rattle.record.specs.declared.Medium.{Medium}

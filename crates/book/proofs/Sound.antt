@@ -10,10 +10,10 @@ use mathlib.Core.List.{List, _∷_}
 use native.Mathlib.Omega.{arith}
 use lib.Dec.{ltb}
 use borrow.Author.Tests.{le-ltb, ltb-false}
-use Rattle.order.proofs.Booleans.{neither}
+use Rattle.laws.proofs.Booleans.{neither}
 use Rattle.book.specs.declared.Tally.{Tally}
-use Rattle.book.specs.declared.Fault.{Fault}
-use Rattle.book.specs.declared.Fault.the-variants.{Truncated, UnknownKind, OutOfOrder, LimitExceeded, InvalidByte}
+use Rattle.answers.specs.declared.Fault.{Fault}
+use Rattle.answers.specs.declared.Fault.the-variants.{Truncated, UnknownKind, OutOfOrder, LimitExceeded, InvalidByte}
 use Rattle.book.specs.declared.Scanned.{Scanned}
 use Rattle.book.specs.declared.Scanned.the-variants.{Sound, Faulty}
 use Rattle.book.specs.Records.{Met, start, exceeds, unknownKind, truncated, outOfOrder, limitExceeded, invalidByte}

@@ -19,7 +19,7 @@ use Rattle.order.proofs.Order.{order-no-repeats, order-after-dependencies, orde
 use Rattle.book.specs.Syntax.{Scope, emptyScope}
 use Rattle.book.specs.References.{scopeAt, danglesIn, dangles}
 use Rattle.book.specs.Scopes.{calls, blocks, sum, weightIn, weight, overweight}
-use Rattle.order.proofs.Booleans.{decide}
+use Rattle.laws.proofs.Booleans.{decide}
 use Rattle.book.proofs.Searches.{any-false, anyFrom-at, anyFrom-none}
 use Rattle.book.proofs.Naming.{named-sub-scopes}
 use Rattle.book.proofs.Sums.{sum-same}

@@ -14,12 +14,12 @@ use Rattle.book.specs.Typing.{mismatches}
 use Rattle.book.specs.Mixing.{mixes}
 use Rattle.book.specs.Scopes.{scopeCycle, HasScopeCycle, overweight}
 use Rattle.book.specs.Steps.{dependencyCycle, HasDependencyCycle}
-use Rattle.book.specs.declared.Fault.{Fault}
-use Rattle.book.specs.declared.Fault.the-variants.{Truncated, UnknownKind, OutOfOrder, LimitExceeded, InvalidByte, DanglingReference, SharedNode, TypeMismatch, MixedClauses, ScopeCycle, WeightExceeded, DependencyCycle}
+use Rattle.answers.specs.declared.Fault.{Fault}
+use Rattle.answers.specs.declared.Fault.the-variants.{Truncated, UnknownKind, OutOfOrder, LimitExceeded, InvalidByte, DanglingReference, SharedNode, TypeMismatch, MixedClauses, ScopeCycle, WeightExceeded, DependencyCycle}
 use Rattle.book.specs.declared.Scanned.{Scanned}
 use Rattle.book.specs.declared.Scanned.the-variants.{Sound, Faulty}
-use Rattle.book.specs.declared.Judged.{Judged}
-use Rattle.book.specs.declared.Judged.the-variants.{Accepted, Refused}
+use Rattle.answers.specs.declared.Judged.{Judged}
+use Rattle.answers.specs.declared.Judged.the-variants.{Accepted, Refused}
 
 -- the paper's number of a fault
 abbrev pub faultNumber : Fault → ℕ

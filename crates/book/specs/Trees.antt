@@ -7,7 +7,7 @@ use lib.Dec.{eqb}
 use Rattle.calculus.specs.Terms.{Term, Terms, literal, own, called, error, unary, binary, choice, default, none, also}
 use Rattle.calculus.specs.declared.Value.the-variants.{Truth}
 use Rattle.calculus.specs.declared.Value.the-variants as value
-use Rattle.calculus.specs.declared.Cause.the-variants.{Empty, Conflict}
+use Rattle.answers.specs.declared.Cause.the-variants.{Empty, Conflict}
 use Rattle.book.specs.Lists.{any}
 use Rattle.book.specs.Syntax.{Scope, noNode, sameTarget, isRule}
 use Rattle.book.specs.declared.Node.{Node}

@@ -1,4 +1,5 @@
-// The syntax of a book, decoded from its records, and why a book is refused. Its definitions stand in specs/, laws about them in proofs/.
+// The syntax of a book, decoded from its records. Its definitions stand in specs/, laws about them in proofs/.
+use answers::Fault;
 use calculus::Binary;
 use calculus::Unary;
 
@@ -57,30 +58,8 @@ pub struct Tally {
     pub clauses: usize,
 }
 
-// Why a book is refused.
-pub enum Fault {
-    Truncated,
-    UnknownKind,
-    OutOfOrder,
-    LimitExceeded,
-    InvalidByte,
-    DanglingReference,
-    SharedNode,
-    TypeMismatch,
-    MixedClauses,
-    ScopeCycle,
-    WeightExceeded,
-    DependencyCycle,
-}
-
 // What the records of a book show one by one: none is faulty, or the first faulty one's first fault.
 pub enum Scanned {
     Sound,
     Faulty(Fault),
-}
-
-// What judging a book answers: the number of its scopes, or the first fault.
-pub enum Judged {
-    Accepted(usize),
-    Refused(Fault),
 }

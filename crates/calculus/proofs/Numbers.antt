@@ -17,7 +17,7 @@ use denote.Laws.{Is}
 use Rattle.calculus.specs.Values.{numberOf, lowest, highest, ranged, equalNumbers}
 use Rattle.calculus.specs.declared.Value.{Value}
 use Rattle.calculus.specs.declared.Value.the-variants.{Truth, Number}
-use Rattle.calculus.specs.declared.Cause.the-variants.{OutOfRange}
+use Rattle.answers.specs.declared.Cause.the-variants.{OutOfRange}
 use Rattle.calculus.specs.declared.Outcome.the-variants.{Gives, Ends}
 use Rattle.calculus.proofs.Value.{the-type}
 

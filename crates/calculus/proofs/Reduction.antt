@@ -21,8 +21,8 @@ use Rattle.calculus.specs.Reduction.{one-exception, two-exceptions, in-o
 use Rattle.calculus.specs.Reduction.{in-justification, in-consequence, in-exception, operand-error, left-error, right-error}
 use Rattle.calculus.specs.Reduction.{condition-error, justification-error, exception-error, stays, steps}
 use Rattle.calculus.specs.declared.Value.{Value}
-use Rattle.calculus.specs.declared.Cause.{Cause}
-use Rattle.calculus.specs.declared.Cause.the-variants.{Empty, Conflict, OutOfRange}
+use Rattle.answers.specs.declared.Cause.{Cause}
+use Rattle.answers.specs.declared.Cause.the-variants.{Empty, Conflict, OutOfRange}
 use Rattle.calculus.specs.declared.Outcome.{Outcome}
 use Rattle.calculus.specs.declared.Outcome.the-variants.{Gives, Ends}
 use Rattle.calculus.specs.declared.Joined.the-variants.{Nothing, One}

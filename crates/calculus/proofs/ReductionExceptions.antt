@@ -10,7 +10,7 @@ use Rattle.calculus.specs.Terms.{Terms, literal, error, none, also}
 use Rattle.calculus.specs.Evaluation.{Env, exceptions}
 use Rattle.calculus.specs.Reduction.{settledTerm, behind, empties}
 use Rattle.calculus.specs.declared.Value.{Value}
-use Rattle.calculus.specs.declared.Cause.the-variants.{Empty}
+use Rattle.answers.specs.declared.Cause.the-variants.{Empty}
 use Rattle.calculus.specs.declared.Joined.{Joined}
 use Rattle.calculus.specs.declared.Joined.the-variants.{Nothing, One, Many}
 use Rattle.calculus.specs.declared.Gathered.the-variants.{SoFar}

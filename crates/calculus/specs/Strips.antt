@@ -8,7 +8,7 @@ use Rattle.calculus.specs.Values.{lowest}
 use Rattle.calculus.specs.Terms.{Term, Terms, literal, error, unary, binary, default, none, also}
 use Rattle.calculus.specs.Evaluation.{Env, eval, exceptions, step}
 use Rattle.calculus.specs.declared.Value.the-variants.{Truth, Number}
-use Rattle.calculus.specs.declared.Cause.the-variants.{Empty, Conflict, OutOfRange}
+use Rattle.answers.specs.declared.Cause.the-variants.{Empty, Conflict, OutOfRange}
 use Rattle.calculus.specs.declared.Outcome.{Outcome}
 use Rattle.calculus.specs.declared.Outcome.the-variants.{Gives, Ends}
 use Rattle.calculus.specs.declared.Unary.the-variants.{Negate}

@@ -1,7 +1,7 @@
 -- The terms of the calculus.
 use Prim.Native.Nat.{ℕ}
 use Rattle.calculus.specs.declared.Value.{Value}
-use Rattle.calculus.specs.declared.Cause.{Cause}
+use Rattle.answers.specs.declared.Cause.{Cause}
 use Rattle.calculus.specs.declared.Unary.{Unary}
 use Rattle.calculus.specs.declared.Binary.{Binary}
 

@@ -1,16 +1,10 @@
 // The values and outcomes of the calculus.
+use answers::Cause;
 
 // A yes/no, or a number of 32 bits.
 pub enum Value {
     Truth(bool),
     Number(i32),
-}
-
-// Why a run ends without a value.
-pub enum Cause {
-    Empty,
-    Conflict,
-    OutOfRange,
 }
 
 // What a term gives: a value, or an end.

@@ -3,7 +3,7 @@ use Prim.Native.Nat.{ℕ}
 use mathlib.Core.Path.{_≡_, _∙_, ap}
 use mathlib.Core.List.{List}
 use Rattle.evaluation.specs.Evaluate.{Reply, Replies}
-use Rattle.evaluation.specs.declared.Answer.{Answer}
+use Rattle.answers.specs.declared.Answer.{Answer}
 use Rattle.numbers.specs.Packed.{packedAnswer}
 use Rattle.capi.specs.Replies.{PackedReply}
 

@@ -18,8 +18,8 @@ use Rattle.calculus.specs.Values.{truthOf, numberOf, equal}
 use Rattle.calculus.proofs.Numbers.{equal-bits}
 use Rattle.calculus.specs.declared.Value.{Value}
 use Rattle.calculus.specs.declared.Value.the-variants.{Truth, Number}
-use Rattle.calculus.specs.declared.Cause.{Cause}
-use Rattle.calculus.specs.declared.Cause.the-variants.{Empty, Conflict, OutOfRange}
+use Rattle.answers.specs.declared.Cause.{Cause}
+use Rattle.answers.specs.declared.Cause.the-variants.{Empty, Conflict, OutOfRange}
 use Rattle.calculus.specs.declared.Outcome.{Outcome}
 use Rattle.calculus.specs.declared.Outcome.the-variants.{Gives, Ends}
 use Rattle.cells.specs.Codec.{noCell, yesCell, zeroCell, manyCell, emptyCell, valueCell, causeCell, cellOf, payload, valueOf, causeOf, outcomeOf, Codes}

@@ -1,5 +1,5 @@
 // A variable, a joined value and an outcome as one number, a cell; slices of cells hold the variables of a scope.
-use calculus::Cause;
+use answers::Cause;
 use calculus::Given;
 use calculus::Value;
 use integers::bits_of;

@@ -23,8 +23,8 @@ use Rattle.book.specs.declared.ValueType.the-variants.{YesNo, Numeric}
 use Rattle.book.specs.declared.Node.{Node}
 use Rattle.book.specs.declared.Node.the-variants as node
 use Rattle.book.specs.declared.Clause.{Clause}
-use Rattle.order.proofs.Booleans.{decide, both, or-cases}
-use Rattle.order.proofs.Matrix.{zeros}
+use Rattle.laws.proofs.Booleans.{decide, both, or-cases}
+use Rattle.laws.proofs.Zeros.{zeros}
 use Rattle.typing.specs.Types.{byteOf, typeIn, typeOver, typeByte, nodeSuits, clauseSuits}
 use Rattle.checks.specs.Findings.{Typed, misfitNode, misfitClause}
 

@@ -9,15 +9,15 @@ use lib.Seq.{length-take-le, take-all}
 use borrow.Author.Tests.{le-leb, lt-leb}
 use Rattle.book.specs.Decode.{scopesOf}
 use Rattle.book.specs.Judge.{judge}
-use Rattle.book.specs.declared.Fault.{Fault}
-use Rattle.book.specs.declared.Judged.{Judged}
-use Rattle.evaluation.specs.declared.Refusal.the-variants.{Book, BufferTooSmall}
+use Rattle.answers.specs.declared.Fault.{Fault}
+use Rattle.answers.specs.declared.Judged.{Judged}
+use Rattle.answers.specs.declared.Refusal.the-variants.{Book, BufferTooSmall}
 use Rattle.translation.specs.Blocks.{codeOf}
 use Rattle.compiler.specs.Compile.{Compilation, refuse, fitting, onJudged, compile, Compiles}
-use Rattle.evaluation.specs.declared.Compiled.the-variants.{Written, Refused}
+use Rattle.answers.specs.declared.Compiled.the-variants.{Written, Refused}
 use Rattle.emitter.specs.Emission.{back, Emits}
 use Rattle.emitter.specs.Pieces.{bookPiece, bookSize}
-use Rattle.book.specs.declared.Judged.the-variants as judged
+use Rattle.answers.specs.declared.Judged.the-variants as judged
 use Rattle.emitter.proofs.Book.{book-length, book-code}
 
 pub refused : {bytes memory : List ℕ} {f : Fault} → judge bytes ≡ judged.Refused f → Compiles bytes memory (Refused (Book f)) memory

@@ -7,13 +7,13 @@ use lib.ListN.{length, drop}
 use lib.Dec.{leb}
 use Rattle.book.specs.Decode.{scopesOf}
 use Rattle.book.specs.Judge.{judge}
-use Rattle.book.specs.declared.Judged.{Judged}
-use Rattle.book.specs.declared.Judged.the-variants as judged
-use Rattle.evaluation.specs.declared.Refusal.{Refusal}
-use Rattle.evaluation.specs.declared.Refusal.the-variants.{Book, BufferTooSmall}
+use Rattle.answers.specs.declared.Judged.{Judged}
+use Rattle.answers.specs.declared.Judged.the-variants as judged
+use Rattle.answers.specs.declared.Refusal.{Refusal}
+use Rattle.answers.specs.declared.Refusal.the-variants.{Book, BufferTooSmall}
 use Rattle.translation.specs.Blocks.{codeOf}
-use Rattle.evaluation.specs.declared.Compiled.{Compiled}
-use Rattle.evaluation.specs.declared.Compiled.the-variants.{Written, Refused}
+use Rattle.answers.specs.declared.Compiled.{Compiled}
+use Rattle.answers.specs.declared.Compiled.the-variants.{Written, Refused}
 
 -- an answer, and the bytes that it writes
 pub record Compilation : Type 0 where

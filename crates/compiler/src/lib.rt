@@ -1,8 +1,8 @@
 // Compiling a book: the service.
-use book::Judged;
+use answers::Compiled;
+use answers::Judged;
+use answers::Refusal;
 use emitter::emit_blocks;
-use evaluation::Compiled;
-use evaluation::Refusal;
 use judge::judge_into;
 ghost use mathlib.Core.Path.{_≡_};
 ghost use lib.ListN.{length};

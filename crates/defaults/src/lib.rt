@@ -1,5 +1,5 @@
 // The parts of a default, of an "if" and of a step, over outcomes. Each result equals a definition of the calculus.
-use calculus::Cause;
+use answers::Cause;
 use calculus::Gathered;
 use calculus::Given;
 use calculus::Joined;

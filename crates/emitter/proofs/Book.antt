@@ -39,7 +39,7 @@ use Rattle.emitter.specs.Pieces.{headsPiece, headsSize, blockPiece, bloc
 use Rattle.emitter.specs.Pieces.{bookPiece, bookSize, Block, Tabled}
 use Rattle.emitter.proofs.Emission.{alike, Downward, stop}
 use Rattle.emitter.proofs.Pieces.{call-size, variable-size, steps-size, heads-size, variables-counted, sub-scopes-counted, block-size}
-use Rattle.book.specs.declared.Judged.the-variants as judged
+use Rattle.answers.specs.declared.Judged.the-variants as judged
 
 -- Sums and lists of pieces
 

@@ -9,10 +9,10 @@ use native.Mathlib.Omega.{arith}
 use lib.ListN.{length, getD, drop}
 use lib.Dec.{eqb, ltb}
 use borrow.Author.Tests.{ltb-true, ltb-false, eq-eqb, ne-eqb, eqb-true}
-use Rattle.order.proofs.Booleans.{decide}
+use Rattle.laws.proofs.Booleans.{decide}
 use Rattle.calculus.specs.Terms.{Term, Terms, literal, error, default, none, also}
 use Rattle.calculus.specs.declared.Value.the-variants.{Truth}
-use Rattle.calculus.specs.declared.Cause.the-variants.{Empty}
+use Rattle.answers.specs.declared.Cause.the-variants.{Empty}
 use Rattle.book.specs.Syntax.{Scope}
 use Rattle.book.specs.Decode.{scopesOf}
 use Rattle.book.specs.References.{scopeAt, noClause}

@@ -14,8 +14,8 @@ use mir.Syntax.{w32}
 use mir.Val.{ofZ}
 use Rattle.slices.specs.Bytes.{bytesOf, numberBytes}
 use Rattle.calculus.specs.declared.Value.the-variants.{Truth, Number}
-use Rattle.calculus.specs.declared.Cause.{Cause}
-use Rattle.calculus.specs.declared.Cause.the-variants.{Empty}
+use Rattle.answers.specs.declared.Cause.{Cause}
+use Rattle.answers.specs.declared.Cause.the-variants.{Empty}
 use Rattle.calculus.specs.declared.Unary.{Unary}
 use Rattle.calculus.specs.declared.Binary.{Binary}
 use Rattle.book.specs.Decode.{scopesOf}

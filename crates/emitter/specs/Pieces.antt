@@ -8,7 +8,7 @@ use lib.Dec.{eqb, ltb}
 use Rattle.slices.specs.Bytes.{bytesOf}
 use Rattle.calculus.specs.Terms.{Term, Terms, literal, error, default, none}
 use Rattle.calculus.specs.declared.Value.the-variants.{Truth}
-use Rattle.calculus.specs.declared.Cause.the-variants.{Empty}
+use Rattle.answers.specs.declared.Cause.the-variants.{Empty}
 use Rattle.book.specs.Decode.{scopesOf}
 use Rattle.book.specs.References.{scopeAt}
 use Rattle.book.specs.Judge.{judge}
@@ -18,7 +18,7 @@ use Rattle.book.specs.Scopes.{blocks}
 use Rattle.book.specs.Positions.{variableAt, subScopeAt, clauseAt}
 use Rattle.index.specs.Index.{Laid}
 use Rattle.book.specs.declared.Consequence.{Consequence}
-use Rattle.book.specs.declared.Judged.the-variants.{Accepted}
+use Rattle.answers.specs.declared.Judged.the-variants.{Accepted}
 use Rattle.links.specs.Links.{headOf, inChain, Sound}
 use Rattle.translation.specs.Code.{far, ifAny, size, sizes, code, codes}
 use Rattle.translation.specs.Blocks.{typeByte}

@@ -7,14 +7,14 @@ use lib.Seq.{take-append-seam, drop-append-seam}
 use borrow.Author.Tests.{le-leb}
 use Rattle.book.specs.Decode.{scopesOf}
 use Rattle.book.specs.Judge.{judge}
-use Rattle.book.specs.declared.Judged.the-variants.{Accepted}
+use Rattle.answers.specs.declared.Judged.the-variants.{Accepted}
 use Rattle.evaluation.specs.Evaluate.{Reply, evaluate, memoryAfter}
 use Rattle.evaluator.specs.Service.{Evaluated}
 use Rattle.translation.specs.Blocks.{codeOf}
 use Rattle.machine.specs.Service.{run}
 use Rattle.agreement.proofs.Agreement.{agreement}
 use Rattle.compiler.specs.Compile.{Compilation, fitting, compile, Compiles}
-use Rattle.evaluation.specs.declared.Compiled.the-variants as compiled
+use Rattle.answers.specs.declared.Compiled.the-variants as compiled
 use Rattle.runner.specs.Service.{Runs}
 use Rattle.engine.specs.Claim.{Memories, writtenLength, writtenCode, Agreed, Together}
 use Rattle.engine.specs.declared.Answers.{Answers}

@@ -8,16 +8,16 @@ use lib.ListN.{length, take, drop}
 use Rattle.book.specs.Decode.{scopesOf}
 use Rattle.book.specs.Scopes.{weight}
 use Rattle.book.specs.Judge.{judge}
-use Rattle.book.specs.declared.Judged.the-variants.{Accepted}
+use Rattle.answers.specs.declared.Judged.the-variants.{Accepted}
 use Rattle.evaluation.specs.Evaluate.{countIn}
-use Rattle.evaluation.specs.declared.Refusal.the-variants.{BadCode, Stuck}
-use Rattle.evaluation.specs.declared.Answer.the-variants.{Refused}
+use Rattle.answers.specs.declared.Refusal.the-variants.{BadCode, Stuck}
+use Rattle.answers.specs.declared.Answer.the-variants.{Refused}
 use Rattle.evaluator.specs.Service.{Evaluated}
 use Rattle.translation.specs.Blocks.{codeOf}
 use Rattle.machine.specs.Acceptance.{accepted}
 use Rattle.compiler.specs.Compile.{Compiles}
-use Rattle.evaluation.specs.declared.Compiled.{Compiled}
-use Rattle.evaluation.specs.declared.Compiled.the-variants as compiled
+use Rattle.answers.specs.declared.Compiled.{Compiled}
+use Rattle.answers.specs.declared.Compiled.the-variants as compiled
 use Rattle.runner.specs.Service.{Runs}
 use Rattle.engine.specs.declared.Answers.{Answers}
 

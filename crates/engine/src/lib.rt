@@ -1,12 +1,12 @@
 // The engine: its four services, what they answer, the answers' numbers, and the four services together with the claim about them. It is
 // the one crate that a user names.
-pub use book::Fault;
-pub use book::Judged;
-pub use calculus::Cause;
+pub use answers::Answer;
+pub use answers::Cause;
+pub use answers::Compiled;
+pub use answers::Fault;
+pub use answers::Judged;
+pub use answers::Refusal;
 pub use compiler::compile;
-pub use evaluation::Answer;
-pub use evaluation::Compiled;
-pub use evaluation::Refusal;
 pub use evaluator::evaluate;
 pub use judge::judge;
 pub use numbers::cause_number;

@@ -17,23 +17,23 @@ use native.Mathlib.Omega.{arith}
 use lib.ListN.{length, drop, length-append, length-drop}
 use lib.Dec.{ltb, leb}
 use borrow.Author.Tests.{ltb-true, ltb-false, leb-true, leb-false}
-use Rattle.calculus.specs.declared.Cause.{Cause}
-use Rattle.calculus.specs.declared.Cause.the-variants.{Empty}
-use Rattle.order.proofs.Booleans.{decide}
+use Rattle.answers.specs.declared.Cause.{Cause}
+use Rattle.answers.specs.declared.Cause.the-variants.{Empty}
+use Rattle.laws.proofs.Booleans.{decide}
 use Rattle.book.specs.Decode.{scopesOf}
 use Rattle.book.specs.References.{scopeAt}
 use Rattle.book.specs.Judge.{judge}
-use Rattle.book.specs.declared.Judged.{Judged}
-use Rattle.book.specs.declared.Judged.the-variants as judged
+use Rattle.answers.specs.declared.Judged.{Judged}
+use Rattle.answers.specs.declared.Judged.the-variants as judged
 use Rattle.lists.specs.Inputs.{Inputs, bad, good, inputs}
 use Rattle.lists.specs.Results.{resultLength, results}
 use Rattle.acceptance.proofs.Acceptance.{accepted-count}
 use Rattle.evaluation.specs.Run.{Entered, values, ended, runScope}
 use Rattle.evaluation.specs.Evaluate.{countIn, lengthIn, Reply, replyOf, fitting, onInputs, asked, onJudged, evaluate, memoryAfter}
 use Rattle.evaluation.specs.Answers.{Asked, Entering, Replied, InValues, InEnd}
-use Rattle.evaluation.specs.declared.Refusal.{Refusal}
-use Rattle.evaluation.specs.declared.Answer.{Answer}
-use Rattle.evaluation.specs.declared.Answer.the-variants.{Values, Ended, Refused}
+use Rattle.answers.specs.declared.Refusal.{Refusal}
+use Rattle.answers.specs.declared.Answer.{Answer}
+use Rattle.answers.specs.declared.Answer.the-variants.{Values, Ended, Refused}
 use Rattle.evaluation.proofs.Running.{countOf}
 use Rattle.evaluation.proofs.Counts.{values-count, ended-count, entered-small}
 use Rattle.evaluation.proofs.Types.{inputs-fitting, values-typed, values-length}

@@ -16,10 +16,10 @@ use lib.ListN.{length, getD}
 use lib.Dec.{eqb, ltb}
 use borrow.Author.Tests.{eqb-true, eqb-false, ne-eqb, lt-ltb, le-ltb}
 use Rattle.calculus.specs.declared.Value.{Value}
-use Rattle.calculus.specs.declared.Cause.{Cause}
+use Rattle.answers.specs.declared.Cause.{Cause}
 use Rattle.calculus.specs.declared.Given.{Given}
 use Rattle.order.specs.Order.{among}
-use Rattle.order.proofs.Booleans.{decide}
+use Rattle.laws.proofs.Booleans.{decide}
 use Rattle.order.proofs.Among.{among-place}
 use Rattle.book.specs.Syntax.{Scope}
 use Rattle.book.specs.Decode.{scopesOf}
@@ -27,7 +27,7 @@ use Rattle.book.specs.References.{scopeAt}
 use Rattle.book.specs.Scopes.{sum, weight}
 use Rattle.book.specs.Steps.{dependsOn, stepCount, stepOrder}
 use Rattle.book.specs.Judge.{judge}
-use Rattle.book.specs.declared.Judged.the-variants.{Accepted}
+use Rattle.answers.specs.declared.Judged.the-variants.{Accepted}
 use Rattle.book.proofs.Sums.{range}
 use Rattle.book.proofs.Weights.{weight-sum}
 use Rattle.acceptance.specs.Accepted.{CompleteOrder}

@@ -18,10 +18,10 @@ use lib.ListN.{length, getD, take}
 use lib.Seq.{take-suc, take-all, getD-take, length-take-le}
 use lib.Dec.{eqb}
 use borrow.Author.Tests.{eqb-true, eq-eqb}
-use Rattle.calculus.specs.declared.Cause.the-variants.{Empty}
+use Rattle.answers.specs.declared.Cause.the-variants.{Empty}
 use Rattle.calculus.specs.declared.Given.{Given}
 use Rattle.order.specs.Order.{among}
-use Rattle.order.proofs.Booleans.{decide}
+use Rattle.laws.proofs.Booleans.{decide}
 use Rattle.order.proofs.Among.{among-at, among-place}
 use Rattle.order.proofs.Order.{order-no-repeats}
 use Rattle.book.specs.Syntax.{Scope}
@@ -30,7 +30,7 @@ use Rattle.book.specs.References.{scopeAt}
 use Rattle.book.specs.Scopes.{calls, blocks}
 use Rattle.book.specs.Steps.{dependsOn, stepCount, stepOrder}
 use Rattle.book.specs.Judge.{judge}
-use Rattle.book.specs.declared.Judged.the-variants.{Accepted}
+use Rattle.answers.specs.declared.Judged.the-variants.{Accepted}
 use Rattle.book.proofs.Weights.{new-block, block-snoc}
 use Rattle.acceptance.specs.Accepted.{WellFormed, CompleteOrder}
 use Rattle.acceptance.proofs.Orders.{blocks-after, accepted-book}

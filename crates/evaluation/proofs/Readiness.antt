@@ -28,7 +28,7 @@ use Rattle.calculus.specs.declared.Given.{Given}
 use Rattle.calculus.specs.declared.Given.the-variants.{Absent, Present}
 use Rattle.cells.specs.Cells.{held}
 use Rattle.order.specs.Order.{among}
-use Rattle.order.proofs.Booleans.{decide}
+use Rattle.laws.proofs.Booleans.{decide}
 use Rattle.order.proofs.Among.{among-snoc, among-place}
 use Rattle.book.specs.Syntax.{Scope}
 use Rattle.book.specs.Decode.{scopesOf}
@@ -40,7 +40,7 @@ use Rattle.book.specs.Judge.{judge}
 use Rattle.book.specs.declared.ValueType.{ValueType}
 use Rattle.book.specs.declared.ValueType.the-variants.{YesNo}
 use Rattle.book.specs.declared.Variable.{Variable}
-use Rattle.book.specs.declared.Judged.the-variants.{Accepted}
+use Rattle.answers.specs.declared.Judged.the-variants.{Accepted}
 use Rattle.acceptance.specs.Accepted.{WithinLimits, WellFormed, CompleteOrder}
 use Rattle.acceptance.proofs.Orders.{accepted-book}
 use Rattle.acceptance.proofs.Reading.{variable-depends, call-depends}

@@ -6,9 +6,9 @@ use Prim.Native.Nat.{ℕ}
 use mathlib.Core.Path.{_≡_, refl, sym, ap, _∙_}
 use mathlib.Core.List.{List}
 use Rattle.evaluation.specs.Evaluate.{Reply, refuse, memoryAfter, Replies}
-use Rattle.evaluation.specs.declared.Refusal.{Refusal}
-use Rattle.evaluation.specs.declared.Answer.{Answer}
-use Rattle.evaluation.specs.declared.Answer.the-variants.{Refused}
+use Rattle.answers.specs.declared.Refusal.{Refusal}
+use Rattle.answers.specs.declared.Answer.{Answer}
+use Rattle.answers.specs.declared.Answer.the-variants.{Refused}
 
 pub same-reply : {p q : Reply} {before : List ℕ} {r : Answer} {after : List ℕ} → p ≡ q → Replies q before r after → Replies p before r after
 same-reply {p} {q} {before} e h =

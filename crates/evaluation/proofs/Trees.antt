@@ -13,7 +13,7 @@ use lib.ListN.{length, getD}
 use lib.Dec.{eqb, ltb}
 use borrow.Author.Tests.{eqb-true, eqb-false, ne-eqb, ltb-true}
 use Rattle.calculus.specs.Terms.{Term, Terms, none, also}
-use Rattle.order.proofs.Booleans.{decide, both, or-cases}
+use Rattle.laws.proofs.Booleans.{decide, both, or-cases}
 use Rattle.book.proofs.Searches.{any-true}
 use Rattle.book.specs.Syntax.{Scope, noNode, sameTarget, sameType, isRule}
 use Rattle.book.specs.References.{scopeAt, namesCalled, namesException, nodeNames, namesTarget, noClause, namesParent, namesCondition, namesConsequence, clauseNames}

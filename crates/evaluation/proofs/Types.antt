@@ -18,7 +18,7 @@ use Rattle.book.specs.Judge.{judge}
 use Rattle.book.specs.declared.ValueType.{ValueType}
 use Rattle.book.specs.declared.ValueType.the-variants.{YesNo}
 use Rattle.book.specs.declared.Variable.{Variable}
-use Rattle.book.specs.declared.Judged.the-variants.{Accepted}
+use Rattle.answers.specs.declared.Judged.the-variants.{Accepted}
 use Rattle.lists.specs.Inputs.{good, inputs}
 use Rattle.lists.specs.Results.{resultLength, results}
 use Rattle.lists.specs.Writing.{valueType}

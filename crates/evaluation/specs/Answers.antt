@@ -4,21 +4,21 @@ use mathlib.Core.Path.{_≡_}
 use mathlib.Core.List.{List, [], _++_}
 use lib.ListN.{length, drop}
 use Rattle.calculus.specs.declared.Value.{Value}
-use Rattle.calculus.specs.declared.Cause.{Cause}
+use Rattle.answers.specs.declared.Cause.{Cause}
 use Rattle.calculus.specs.declared.Given.{Given}
 use Rattle.book.specs.Decode.{scopesOf}
 use Rattle.book.specs.References.{scopeAt}
 use Rattle.book.specs.Scopes.{weight}
 use Rattle.book.specs.Judge.{judge}
-use Rattle.book.specs.declared.Fault.{Fault}
-use Rattle.book.specs.declared.Judged.the-variants as judged
+use Rattle.answers.specs.declared.Fault.{Fault}
+use Rattle.answers.specs.declared.Judged.the-variants as judged
 use Rattle.lists.specs.Inputs.{bad, good, inputs}
 use Rattle.lists.specs.Results.{resultLength, results}
 use Rattle.evaluation.specs.Run.{values, ended, runScope}
 use Rattle.evaluation.specs.Types.{Fitting, ValuesFit}
 use Rattle.evaluation.specs.Evaluate.{Reply, refuse}
-use Rattle.evaluation.specs.declared.Refusal.the-variants.{Book, NoSuchScope, BadInput, BufferTooSmall}
-use Rattle.evaluation.specs.declared.Answer.the-variants.{Values, Ended}
+use Rattle.answers.specs.declared.Refusal.the-variants.{Book, NoSuchScope, BadInput, BufferTooSmall}
+use Rattle.answers.specs.declared.Answer.the-variants.{Values, Ended}
 
 -- the scope asked for is one of an accepted book
 pub record Asked (bytes : List ℕ) (i : ℕ) : Type 0 where

@@ -7,7 +7,7 @@ use lib.ListN.{length, getD, set}
 use Rattle.calculus.specs.Terms.{Term}
 use Rattle.calculus.specs.Evaluation.{eval, step}
 use Rattle.calculus.specs.declared.Value.{Value}
-use Rattle.calculus.specs.declared.Cause.{Cause}
+use Rattle.answers.specs.declared.Cause.{Cause}
 use Rattle.calculus.specs.declared.Outcome.{Outcome}
 use Rattle.calculus.specs.declared.Outcome.the-variants.{Gives, Ends}
 use Rattle.calculus.specs.declared.Given.{Given}

@@ -11,7 +11,7 @@ use mathlib.Core.List.{List, [], _∷_, reverse}
 use native.Mathlib.Omega.{arith}
 use lib.ListN.{length, getD, replicate, length-replicate, getD-replicate}
 use borrow.Author.Tests.{lt-ltb, le-ltb, le-leb, lt-leb}
-use Rattle.calculus.specs.declared.Cause.{Cause}
+use Rattle.answers.specs.declared.Cause.{Cause}
 use Rattle.calculus.specs.declared.Given.{Given}
 use Rattle.calculus.specs.declared.Given.the-variants.{Absent, Present}
 use Rattle.cells.specs.Codec.{AllKept}
@@ -24,9 +24,9 @@ use Rattle.book.specs.Judge.{judge}
 use Rattle.book.specs.declared.ValueType.{ValueType}
 use Rattle.book.specs.declared.ValueType.the-variants.{YesNo}
 use Rattle.book.specs.declared.Variable.{Variable}
-use Rattle.book.specs.declared.Fault.{Fault}
-use Rattle.book.specs.declared.Judged.{Judged}
-use Rattle.book.specs.declared.Judged.the-variants as judged
+use Rattle.answers.specs.declared.Fault.{Fault}
+use Rattle.answers.specs.declared.Judged.{Judged}
+use Rattle.answers.specs.declared.Judged.the-variants as judged
 use Rattle.acceptance.proofs.Acceptance.{accepted-faultless, accepted-count}
 use Rattle.acceptance.proofs.Limits.{accepted-within, accepted-scopes}
 use Rattle.lists.specs.Inputs.{bad, inputs, isGiven}
@@ -38,10 +38,10 @@ use Rattle.links.specs.Links.{Sound, Blanks, AllLinked}
 use Rattle.evaluation.specs.Run.{values, ended, enter}
 use Rattle.evaluation.specs.Types.{Fitting, ValuesFit}
 use Rattle.evaluation.specs.Evaluate.{replyOf, evaluate, asked, memoryAfter, refuse, onJudged}
-use Rattle.evaluation.specs.declared.Refusal.the-variants.{Book, NoSuchScope, BadInput, BufferTooSmall}
-use Rattle.evaluation.specs.declared.Answer.{Answer}
+use Rattle.answers.specs.declared.Refusal.the-variants.{Book, NoSuchScope, BadInput, BufferTooSmall}
+use Rattle.answers.specs.declared.Answer.{Answer}
 use Rattle.book.proofs.Same.{same-self}
-use Rattle.evaluation.specs.declared.Answer.the-variants.{Values, Ended, Refused}
+use Rattle.answers.specs.declared.Answer.the-variants.{Values, Ended, Refused}
 use Rattle.evaluation.proofs.Replies.{same-reply, refuses}
 use Rattle.evaluation.proofs.Types.{inputs-fitting, values-typed, values-length}
 use Rattle.scopes.specs.Steps.{givensFrom, enteredAt, ranView, Came}

@@ -8,11 +8,11 @@ use Rattle.book.specs.References.{scopeAt}
 use Rattle.book.specs.Steps.{stepCount, stepOrder}
 use Rattle.book.specs.Judge.{judge}
 use Rattle.index.specs.Index.{Laid}
-use Rattle.book.specs.declared.Judged.the-variants.{Accepted}
+use Rattle.answers.specs.declared.Judged.the-variants.{Accepted}
 use Rattle.lists.specs.Writing.{resultLengthAt}
 use Rattle.evaluation.specs.Types.{Fitting}
 use Rattle.evaluation.specs.Evaluate.{replyOf, evaluate, Replies}
-use Rattle.evaluation.specs.declared.Answer.{Answer}
+use Rattle.answers.specs.declared.Answer.{Answer}
 use Rattle.scopes.specs.Steps.{givensFrom, enteredAt}
 
 -- the tables of an accepted book of n scopes

@@ -1,7 +1,7 @@
 // Evaluating a scope of a book: the service.
-use book::Judged;
-use evaluation::Answer;
-use evaluation::Refusal;
+use answers::Answer;
+use answers::Judged;
+use answers::Refusal;
 use inputs::read_inputs;
 use judge::judge_into;
 use links::fill_all_links;

@@ -11,9 +11,9 @@ use lib.ListN.{length, getD, set, drop, length-set}
 use lib.Seq.{getD-set-same, getD-set-other}
 use lib.Dec.{leb}
 use borrow.Author.Tests.{lt-ltb, le-ltb, le-leb, lt-leb, leb-true, leb-false}
-use Rattle.calculus.specs.declared.Cause.the-variants.{Empty}
+use Rattle.answers.specs.declared.Cause.the-variants.{Empty}
 use Rattle.calculus.specs.declared.Joined.{Joined}
-use Rattle.order.proofs.Booleans.{decide}
+use Rattle.laws.proofs.Booleans.{decide}
 use Rattle.evaluation.specs.Run.{ended}
 use Rattle.machine.specs.Machine.{Memory, go, stop, ran, stuck, raised, tried, closed}
 use Rattle.instructions.specs.declared.Move.the-variants as move

@@ -1,7 +1,7 @@
 // The instructions of accepted code other than the entry of a sub-scope, over parts of a lent stack and of lent tries.
+use answers::Cause;
 use book::ValueType;
 use calculus::Binary;
-use calculus::Cause;
 use calculus::Given;
 use calculus::Outcome;
 use calculus::Unary;

@@ -15,9 +15,9 @@ use Rattle.book.specs.Scopes as scopes
 use Rattle.book.specs.Steps.{stepCount, stepOrder, dependencyCycle}
 use Rattle.index.specs.Index.{Laid}
 use Rattle.steps.specs.Limits.{Scoped, WellNamed}
-use Rattle.book.specs.declared.Fault.the-variants.{ScopeCycle, WeightExceeded, DependencyCycle}
-use Rattle.book.specs.declared.Judged.{Judged}
-use Rattle.book.specs.declared.Judged.the-variants.{Accepted, Refused}
+use Rattle.answers.specs.declared.Fault.the-variants.{ScopeCycle, WeightExceeded, DependencyCycle}
+use Rattle.answers.specs.declared.Judged.{Judged}
+use Rattle.answers.specs.declared.Judged.the-variants.{Accepted, Refused}
 
 -- the tables of an accepted book: its records, the order of its blocks, the weight of each scope, and the order of each scope's steps in a
 -- row of 40

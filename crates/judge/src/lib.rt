@@ -1,6 +1,6 @@
 // Judging a book: the first fault in the order written, or the number of its scopes; and the tables of an accepted book.
-use book::Fault;
-use book::Judged;
+use answers::Fault;
+use answers::Judged;
 use checks::find_faults;
 use mixing::has_mixed;
 use scan::Reading;

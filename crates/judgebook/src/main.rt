@@ -1,5 +1,5 @@
 // Judges the book on standard input: prints `accepted N`, the number of its scopes, or `refused R`, the number of the first fault.
-use book::Judged;
+use answers::Judged;
 use judge::judge;
 use libc::STDIN_FILENO;
 use libc::STDOUT_FILENO;

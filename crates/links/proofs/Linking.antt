@@ -13,7 +13,7 @@ use lib.ListN.{length, getD, set, drop, length-set, drop-of-length-le}
 use lib.Seq.{drop-cons, getD-set-same, getD-set-other}
 use lib.Dec.{eqb}
 use borrow.Author.Tests.{eqb-true, eqb-false, eq-eqb, ne-eqb}
-use Rattle.order.proofs.Booleans.{decide}
+use Rattle.laws.proofs.Booleans.{decide}
 use Rattle.book.specs.Syntax.{isRule}
 use Rattle.book.specs.References.{noClause}
 use Rattle.book.specs.declared.Clause.{Clause}

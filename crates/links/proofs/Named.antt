@@ -12,7 +12,7 @@ use native.Mathlib.Omega.{arith}
 use lib.ListN.{length, getD}
 use lib.Dec.{eqb, ltb}
 use borrow.Author.Tests.{ltb-true, eqb-true}
-use Rattle.order.proofs.Booleans.{decide, both, or-cases}
+use Rattle.laws.proofs.Booleans.{decide, both, or-cases}
 use Rattle.book.specs.Syntax.{Scope, sameTarget}
 use Rattle.book.specs.Decode.{scopesOf}
 use Rattle.book.specs.References.{scopeAt, noClause, namesCalled, namesTarget, namesParent, clauseNames, danglesIn}

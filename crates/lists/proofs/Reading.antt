@@ -22,8 +22,8 @@ use Rattle.calculus.specs.Values.{numberOf}
 use Rattle.calculus.specs.declared.Given.{Given}
 use Rattle.calculus.specs.declared.Given.the-variants.{Absent, Present}
 use Rattle.slices.specs.Bytes.{bigEndian, numberAt}
-use Rattle.order.proofs.Booleans.{decide, neither}
-use Rattle.order.proofs.Matrix.{zeros}
+use Rattle.laws.proofs.Booleans.{decide, neither}
+use Rattle.laws.proofs.Zeros.{zeros}
 use Rattle.cells.specs.Codec.{valueCell, AllKept}
 use Rattle.cells.specs.Cells.{givenOf, givenAt}
 use Rattle.cells.proofs.Variables.{given-cell, kept-nothing, kept-stored}

@@ -5,16 +5,16 @@ use mathlib.Core.List.{List, [], _∷_}
 use lib.ListN.{length}
 use Rattle.slices.specs.Bytes.{bigEndian, bytesOf, numberAt, numberBytes}
 use Rattle.record.specs.Kinds.{shapeIn, shapesOf, kinds}
-use Rattle.calculus.specs.declared.Cause.{Cause}
-use Rattle.calculus.specs.declared.Cause.the-variants.{Empty, Conflict, OutOfRange}
+use Rattle.answers.specs.declared.Cause.{Cause}
+use Rattle.answers.specs.declared.Cause.the-variants.{Empty, Conflict, OutOfRange}
 use Rattle.book.specs.Lists.{any}
 use Rattle.book.specs.Records.{follows, invalid}
 use Rattle.book.specs.Scopes.{sum}
 use Rattle.lists.specs.Inputs.{badRecord, inputsFrom, inputs}
 use Rattle.lists.specs.Results.{resultLength, resultsFrom, results}
 use Rattle.evaluation.specs.Evaluate.{Reply, refuse}
-use Rattle.evaluation.specs.declared.Refusal.the-variants.{NoSuchScope, Stuck}
-use Rattle.evaluation.specs.declared.Answer.the-variants.{Values, Ended}
+use Rattle.answers.specs.declared.Refusal.the-variants.{NoSuchScope, Stuck}
+use Rattle.answers.specs.declared.Answer.the-variants.{Values, Ended}
 use Rattle.machine.specs.Instructions.{instructionOf}
 use Rattle.machine.specs.Blocks.{inFront, parse, blocksOf, hasBlock, variablesOf}
 use Rattle.machine.specs.Acceptance.{counted, faulty, sound, lands, fits, allFit, weightIn, wellFormed, allWellFormed, accepted}

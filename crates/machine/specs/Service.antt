@@ -6,7 +6,7 @@ use lib.Dec.{leb}
 use Rattle.lists.specs.Inputs.{Inputs, bad, good, inputs}
 use Rattle.lists.specs.Results.{resultLength}
 use Rattle.evaluation.specs.Evaluate.{Reply, refuse, replyOf}
-use Rattle.evaluation.specs.declared.Refusal.the-variants.{NoSuchScope, BadInput, BufferTooSmall, BadCode, Stuck}
+use Rattle.answers.specs.declared.Refusal.the-variants.{NoSuchScope, BadInput, BufferTooSmall, BadCode, Stuck}
 use Rattle.machine.specs.Blocks.{Block, blocksOf, hasBlock, variablesOf}
 use Rattle.machine.specs.Acceptance.{accepted}
 use Rattle.machine.specs.Machine.{Ran, ran, stuck}

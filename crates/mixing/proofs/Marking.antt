@@ -20,8 +20,8 @@ use Rattle.book.specs.Positions.{clauseAt}
 use Rattle.book.specs.declared.Consequence.{Consequence}
 use Rattle.book.specs.declared.Consequence.the-variants.{Of, Fixed}
 use Rattle.mixing.specs.Marks.{slotOf, markOf, mixedAt}
-use Rattle.order.proofs.Booleans.{decide}
-use Rattle.order.proofs.Matrix.{zeros}
+use Rattle.laws.proofs.Booleans.{decide}
+use Rattle.laws.proofs.Zeros.{zeros}
 use Rattle.book.proofs.Searches.{any-at, any-none}
 use Rattle.mixing.proofs.Targets.{Ranged, slot-below, slot-same, same-slot}
 

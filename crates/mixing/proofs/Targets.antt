@@ -20,7 +20,7 @@ use Rattle.book.specs.Positions.{clauseAt}
 use Rattle.book.specs.declared.Target.{Target}
 use Rattle.book.specs.Limits.{Within}
 use Rattle.mixing.specs.Marks.{slotOf}
-use Rattle.order.proofs.Booleans.{decide, both}
+use Rattle.laws.proofs.Booleans.{decide, both}
 use Rattle.book.proofs.Naming.{named-clauses, scope-sound}
 use Rattle.book.proofs.Same.{same-target}
 

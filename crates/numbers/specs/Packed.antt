@@ -1,14 +1,14 @@
 -- Answers as one number of 64 bits: the refusal in the highest byte.
 use Prim.Native.Nat.{ℕ, _+_, _*_, _%_}
-use Rattle.book.specs.declared.Judged.{Judged}
-use Rattle.book.specs.declared.Judged.the-variants as judged
+use Rattle.answers.specs.declared.Judged.{Judged}
+use Rattle.answers.specs.declared.Judged.the-variants as judged
 use Rattle.evaluation.specs.Evaluate.{refusalNumber}
-use Rattle.evaluation.specs.declared.Refusal.{Refusal}
-use Rattle.evaluation.specs.declared.Refusal.the-variants.{Book}
-use Rattle.evaluation.specs.declared.Answer.{Answer}
-use Rattle.evaluation.specs.declared.Answer.the-variants.{Values, Ended, Refused}
-use Rattle.evaluation.specs.declared.Compiled.{Compiled}
-use Rattle.evaluation.specs.declared.Compiled.the-variants as compiled
+use Rattle.answers.specs.declared.Refusal.{Refusal}
+use Rattle.answers.specs.declared.Refusal.the-variants.{Book}
+use Rattle.answers.specs.declared.Answer.{Answer}
+use Rattle.answers.specs.declared.Answer.the-variants.{Values, Ended, Refused}
+use Rattle.answers.specs.declared.Compiled.{Compiled}
+use Rattle.answers.specs.declared.Compiled.the-variants as compiled
 use Rattle.numbers.specs.Causes.{causeNumber}
 
 -- refusal * 2^56

@@ -1,10 +1,10 @@
 // The answers of the services as numbers: the paper's number of a fault, of a refusal and of an outcome, and a whole answer as one number.
-use book::Fault;
-use book::Judged;
-use calculus::Cause;
-use evaluation::Answer;
-use evaluation::Compiled;
-use evaluation::Refusal;
+use answers::Answer;
+use answers::Cause;
+use answers::Compiled;
+use answers::Fault;
+use answers::Judged;
+use answers::Refusal;
 ghost use mathlib.Core.Path.{_≡_};
 ghost use Rattle.book.specs.Judge.{faultNumber};
 ghost use Rattle.evaluation.specs.Evaluate.{refusalNumber};

@@ -1,6 +1,6 @@
 // The operators, over values and over outcomes. Each result equals a definition of the calculus.
+use answers::Cause;
 use calculus::Binary;
-use calculus::Cause;
 use calculus::Outcome;
 use calculus::Unary;
 use calculus::Value;

@@ -16,7 +16,7 @@ use lib.ListN.{length, getD}
 use lib.Dec.{eqb}
 use borrow.Author.Tests.{eq-eqb, eqb-true}
 use Rattle.order.specs.Order.{among}
-use Rattle.order.proofs.Booleans.{decide, or-cases}
+use Rattle.laws.proofs.Booleans.{decide, or-cases}
 
 pub among-append : (xs ys : List ℕ) (v : ℕ) → among (xs ++ ys) v ≡ (among xs v || among ys v)
 unfolding among

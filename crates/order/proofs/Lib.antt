@@ -1,4 +1,3 @@
-pub mod Booleans
 pub mod Search
 pub mod Matrix
 pub mod Ready

@@ -1,9 +1,10 @@
 -- Laws of the bytes of the matrix, and of the marks of the vertices that are done.
 --     marked-true, marked-false    a byte that is not 0, or 0
 --     marked-set                   the marks once one more is set
---     zeros, zero-marks            a list of zeros has 0 everywhere, so nothing is marked in it
+--     zero-marks                   nothing is marked in a list of zeros
 --     edge-true, edge-false        the byte of an edge
 -- Assumes nothing.
+use Rattle.laws.proofs.Zeros.{zeros}
 use Prim.Native.Nat.{ℕ, zero, suc, _<_, _+_, _*_}
 use mathlib.Core.Path.{_≡_, refl, sym}
 use mathlib.Core.Bool.{true, false, not, _||_, or-true, or-false}
@@ -14,7 +15,7 @@ use lib.Seq.{getD-set-same, getD-set-other}
 use lib.Dec.{eqb}
 use borrow.Author.Tests.{eq-eqb, ne-eqb, eqb-true, eqb-false}
 use Rattle.order.specs.Matrix.{marked, edgeOf}
-use Rattle.order.proofs.Booleans.{decide}
+use Rattle.laws.proofs.Booleans.{decide}
 
 module _ (bytes : List ℕ) (i : ℕ) where
   pub marked-true : (getD bytes i 0 ≡ 0 → ⊥) → marked bytes i ≡ true
@@ -43,11 +44,6 @@ marked-set done v w h =
     rw (q, e, getD-set-same done v 1 0 h) (sym (or-true (not (eqb (getD done v 0) 0)))))
     (λ (q : eqb w v ≡ false). rw (q, getD-set-other done v w 1 0 (eqb-false w v q)) (sym (or-false (not (eqb (getD done w 0) 0)))))
     (decide (eqb w v))
-
-pub zeros : (n i : ℕ) → _≡_ {A = ℕ} (getD (replicate n 0) i 0) 0
-zeros zero i = refl
-zeros (suc n) zero = refl
-zeros (suc n) (suc i) = zeros n i
 
 pub zero-marks : (n i : ℕ) → marked (replicate n 0) i ≡ false
 zero-marks n i = marked-false (replicate n 0) i (zeros n i)

@@ -23,7 +23,7 @@ use Rattle.order.specs.Search.{lowestFrom, lowest}
 use Rattle.order.specs.Order.{unmet, ready, next}
 use Rattle.order.specs.Matrix.{marked, edgeOf}
 use Rattle.order.specs.Memo.{Met, DoneBelow}
-use Rattle.order.proofs.Booleans.{decide}
+use Rattle.laws.proofs.Booleans.{decide}
 use Rattle.order.proofs.Search.{lowest-before, left-from}
 use Rattle.order.proofs.Matrix.{marked-set}
 use Rattle.order.proofs.Ready.{met-done, met-none, unmet-none, ready-done}

@@ -24,7 +24,7 @@ use borrow.Author.Tests.{eqb-true, lt-ltb, le-ltb, not-true, not-false}
 use Rattle.order.specs.Search.{none}
 use Rattle.order.specs.Order.{among, ready, next, taken, order}
 use Rattle.order.specs.Reaching.{Reaches}
-use Rattle.order.proofs.Booleans.{decide, or-cases}
+use Rattle.laws.proofs.Booleans.{decide, or-cases}
 use Rattle.order.proofs.Search.{none-each, none-not}
 use Rattle.order.proofs.Ready.{ready-done, ready-new, ready-met, blocked, next-bound, next-ready, next-before, next-congruent}
 use Rattle.order.proofs.Count.{count, with-one, count-bound, count-lacks, count-all, count-same, count-more, count-none}

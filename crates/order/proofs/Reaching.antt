@@ -9,7 +9,7 @@ use native.Mathlib.Omega.{arith}
 use lib.Dec.{eqb}
 use borrow.Author.Tests.{eqb-true}
 use Rattle.order.specs.Reaching.{Reaches}
-use Rattle.order.proofs.Booleans.{decide, or-cases}
+use Rattle.laws.proofs.Booleans.{decide, or-cases}
 use Rattle.order.proofs.Count.{count, with-one, count-lacks, count-more}
 
 module _ (edge : ℕ → ℕ → Bool) (n : ℕ) where

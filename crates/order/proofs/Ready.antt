@@ -17,7 +17,7 @@ use native.Mathlib.Omega.{arith}
 use borrow.Author.Tests.{eq-eqb, ne-eqb, not-true, not-false}
 use Rattle.order.specs.Search.{lowestFrom, lowest, none}
 use Rattle.order.specs.Order.{unmet, ready, next}
-use Rattle.order.proofs.Booleans.{both}
+use Rattle.laws.proofs.Booleans.{both}
 use Rattle.order.proofs.Search.{lowest-has, lowest-before, lowest-bound, lowest-congruent, none-each, none-not, left-here}
 
 module _ (edge : ℕ → ℕ → Bool) (done : ℕ → Bool) (v w : ℕ) where

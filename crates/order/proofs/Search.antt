@@ -17,7 +17,7 @@ use native.Mathlib.Nat.{eq-or-lt-of-le}
 use native.Mathlib.Numerals.{add-one}
 use borrow.Author.Tests.{eqb-true, eqb-false}
 use Rattle.order.specs.Search.{lowestFrom, lowest, none}
-use Rattle.order.proofs.Booleans.{decide}
+use Rattle.laws.proofs.Booleans.{decide}
 
 before-from : (p : ℕ → Bool) (k m : ℕ) (w : ℕ) → k ≤ w → w < lowestFrom p k m → p w ≡ false
 unfolding lowestFrom

@@ -14,8 +14,8 @@ use native.Mathlib.Omega.{arith}
 use lib.ListN.{length, getD, List·getD-eq-default}
 use lib.Dec.{ltb}
 use borrow.Author.Tests.{le-leb, lt-leb, ltb-true, ltb-false}
-use Rattle.order.proofs.Booleans.{decide}
-use Rattle.calculus.specs.declared.Cause.{Cause}
+use Rattle.laws.proofs.Booleans.{decide}
+use Rattle.answers.specs.declared.Cause.{Cause}
 use Rattle.calculus.specs.declared.Given.{Given}
 use Rattle.book.specs.declared.Variable.{Variable}
 use Rattle.lists.specs.Inputs.{bad, good, inputs}
@@ -26,9 +26,9 @@ use Rattle.lists.proofs.Types.{typed-count}
 use Rattle.evaluation.specs.Run.{values}
 use Rattle.evaluation.specs.Types.{Fitting}
 use Rattle.evaluation.specs.Evaluate.{memoryAfter}
-use Rattle.evaluation.specs.declared.Refusal.the-variants as refusal
-use Rattle.evaluation.specs.declared.Answer.{Answer}
-use Rattle.evaluation.specs.declared.Answer.the-variants.{Values, Ended, Refused}
+use Rattle.answers.specs.declared.Refusal.the-variants as refusal
+use Rattle.answers.specs.declared.Answer.{Answer}
+use Rattle.answers.specs.declared.Answer.the-variants.{Values, Ended, Refused}
 use Rattle.evaluation.proofs.Types.{inputs-fitting}
 use Rattle.evaluation.proofs.Replies.{same-reply, refuses}
 use Rattle.machine.specs.Blocks.{blocksOf, variablesOf}

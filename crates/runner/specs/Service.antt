@@ -8,7 +8,7 @@ use Rattle.lists.specs.Reading.{typed}
 use Rattle.lists.specs.Results.{resultLength}
 use Rattle.evaluation.specs.Types.{Fitting}
 use Rattle.evaluation.specs.Evaluate.{Replies}
-use Rattle.evaluation.specs.declared.Answer.{Answer}
+use Rattle.answers.specs.declared.Answer.{Answer}
 use Rattle.machine.specs.Acceptance.{accepted}
 use Rattle.machine.specs.Service.{reply, run}
 use Rattle.verifier.specs.Tables.{blockAt, blockCount, Tabled, Room}

@@ -1,8 +1,8 @@
 // The service that runs a scope of code, judging it first.
+use answers::Answer;
+use answers::Refusal;
 use blocks::Ran;
 use blocks::run_cells;
-use evaluation::Answer;
-use evaluation::Refusal;
 use heads::types_in;
 use inputs::read_by;
 use results::length_by;

@@ -12,7 +12,7 @@ use lib.ListN.{length, getD, set, replicate, length-set}
 use lib.Seq.{getD-set-same, getD-set-other}
 use lib.Dec.{ltb}
 use borrow.Author.Tests.{ltb-true, lt-ltb}
-use Rattle.order.proofs.Matrix.{zeros}
+use Rattle.laws.proofs.Zeros.{zeros}
 use Rattle.index.specs.Index.{indexAt}
 use Rattle.book.proofs.Sorts.{Sort, number, base, limit, number-below, base-below, base-above}
 

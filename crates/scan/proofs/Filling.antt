@@ -10,7 +10,7 @@ use native.Mathlib.Omega.{arith}
 use lib.ListN.{length, getD, drop, set, length-set, length-replicate, drop-of-length-le}
 use borrow.Author.Tests.{eqb-false, eq-eqb, not-false}
 use Rattle.book.specs.declared.Tally.{Tally}
-use Rattle.book.specs.declared.Fault.{Fault}
+use Rattle.answers.specs.declared.Fault.{Fault}
 use Rattle.book.specs.declared.Scanned.the-variants.{Sound}
 use Rattle.book.specs.Records.{Met, stageOf, counted, start, follows, recordsFrom, records, unknownKind}
 use Rattle.book.specs.Decode.{Parsed, inFront, parse, scopesOf}

@@ -14,7 +14,7 @@ use lib.ListN.{length, getD, drop, set, replicate, length-drop}
 use lib.Seq.{drop-cons}
 use lib.Dec.{eqb, ltb}
 use borrow.Author.Tests.{eqb-true, eqb-false, eq-eqb, ne-eqb, lt-ltb, le-ltb, ltb-true, ltb-false}
-use Rattle.order.proofs.Booleans.{decide}
+use Rattle.laws.proofs.Booleans.{decide}
 use Rattle.book.specs.declared.Tally.{Tally}
 use Rattle.book.specs.Syntax.{Scope, emptyScope}
 use Rattle.book.specs.Records.{Met, stageOf, counted, start}

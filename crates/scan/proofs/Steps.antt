@@ -21,8 +21,8 @@ use Rattle.record.specs.declared.Record.{Record}
 use Rattle.record.specs.declared.Record.the-variants.{End, Unknown, Whole}
 use Rattle.record.specs.declared.Record.the-variants.{Truncated as Record·Truncated}
 use Rattle.book.specs.declared.Tally.{Tally}
-use Rattle.book.specs.declared.Fault.{Fault}
-use Rattle.book.specs.declared.Fault.the-variants.{Truncated, UnknownKind, OutOfOrder, LimitExceeded, InvalidByte}
+use Rattle.answers.specs.declared.Fault.{Fault}
+use Rattle.answers.specs.declared.Fault.the-variants.{Truncated, UnknownKind, OutOfOrder, LimitExceeded, InvalidByte}
 use Rattle.book.specs.declared.Scanned.{Scanned}
 use Rattle.book.specs.declared.Scanned.the-variants.{Sound, Faulty}
 use Rattle.book.specs.Records.{Met, stageOf, counted, recordsFrom, start, follows, exceeds, invalid, unknownKind, truncated, outOfOrder, limitExceeded, invalidByte}

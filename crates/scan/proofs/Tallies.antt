@@ -12,9 +12,9 @@ use native.Mathlib.Omega.{arith}
 use lib.ListN.{length, getD, set, replicate, length-set, length-replicate}
 use lib.Dec.{eqb}
 use borrow.Author.Tests.{eqb-true, eqb-false, eq-eqb, lt-ltb, le-ltb}
-use Rattle.order.proofs.Booleans.{decide}
+use Rattle.laws.proofs.Booleans.{decide}
 use Rattle.book.specs.declared.Tally.{Tally}
-use Rattle.book.specs.declared.Fault.the-variants.{OutOfOrder, LimitExceeded, InvalidByte}
+use Rattle.answers.specs.declared.Fault.the-variants.{OutOfOrder, LimitExceeded, InvalidByte}
 use Rattle.book.specs.Records.{counted, start, follows, exceeds, invalid}
 use Rattle.index.specs.Index.{indexAt}
 use Rattle.scan.specs.declared.Slot.{Slot}

@@ -8,7 +8,7 @@ use Rattle.record.specs.Record.{recordAt}
 use Rattle.record.specs.declared.Record.{Record}
 use Rattle.record.specs.declared.Medium.the-variants.{Book}
 use Rattle.book.specs.declared.Tally.{Tally}
-use Rattle.book.specs.declared.Fault.the-variants.{Truncated, UnknownKind, OutOfOrder, LimitExceeded, InvalidByte}
+use Rattle.answers.specs.declared.Fault.the-variants.{Truncated, UnknownKind, OutOfOrder, LimitExceeded, InvalidByte}
 use Rattle.book.specs.Records.{Met, stageOf, follows, counted, exceeds, invalid, unknownKind, truncated, outOfOrder, limitExceeded, invalidByte}
 use Rattle.scan.specs.Counting.{tallyOf}
 use Rattle.scan.specs.declared.Step.{Step}

@@ -1,5 +1,5 @@
 // The pass over the records of a book: the faults 1 to 5, and the index by which the records are found.
-use book::Fault;
+use answers::Fault;
 use index::CLAUSES;
 use index::NODES;
 use index::ROW;

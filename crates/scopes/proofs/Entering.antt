@@ -13,7 +13,7 @@ use lib.Seq.{take-all, getD-take, getD-drop}
 use lib.Dec.{eqb}
 use borrow.Author.Tests.{eqb-true}
 use Rattle.calculus.specs.declared.Value.{Value}
-use Rattle.calculus.specs.declared.Cause.{Cause}
+use Rattle.answers.specs.declared.Cause.{Cause}
 use Rattle.calculus.specs.declared.Outcome.{Outcome}
 use Rattle.calculus.specs.declared.Outcome.the-variants.{Gives, Ends}
 use Rattle.order.specs.Order.{among}
@@ -25,7 +25,7 @@ use Rattle.book.specs.Steps.{stepCount, stepOrder}
 use Rattle.book.specs.Positions.{subScopeAt}
 use Rattle.acceptance.specs.Accepted.{AcceptedBook}
 use Rattle.order.proofs.Among.{among-none}
-use Rattle.order.proofs.Booleans.{decide}
+use Rattle.laws.proofs.Booleans.{decide}
 use Rattle.acceptance.proofs.Orders.{accepted-book, blocks-after}
 use Rattle.cells.specs.Codec.{AllKept}
 use Rattle.trees.specs.Rows.{Evaluable}

@@ -6,7 +6,7 @@ use mathlib.Core.List.{List, [], _∷_, reverse}
 use lib.ListN.{length, getD, take, drop}
 use Rattle.calculus.specs.Evaluation.{Env, eval, step}
 use Rattle.calculus.specs.declared.Value.{Value}
-use Rattle.calculus.specs.declared.Cause.{Cause}
+use Rattle.answers.specs.declared.Cause.{Cause}
 use Rattle.calculus.specs.declared.Outcome.{Outcome}
 use Rattle.calculus.specs.declared.Outcome.the-variants.{Gives, Ends}
 use Rattle.calculus.specs.declared.Given.{Given}
@@ -20,7 +20,7 @@ use Rattle.book.specs.Scopes.{blocks}
 use Rattle.book.specs.Trees.{tree, hasClause, calledTarget, ownTarget}
 use Rattle.book.specs.Steps.{stepCount, stepOrder}
 use Rattle.book.specs.Judge.{judge}
-use Rattle.book.specs.declared.Judged.the-variants.{Accepted}
+use Rattle.answers.specs.declared.Judged.the-variants.{Accepted}
 use Rattle.terms.specs.Outcomes.{envOf}
 use Rattle.lists.specs.Inputs.{isGiven}
 use Rattle.lists.specs.Writing.{valuesOf}

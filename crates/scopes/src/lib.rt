@@ -1,5 +1,5 @@
 // Entering a scope of a book: its steps are run in their order, each call in cells of its own.
-use calculus::Cause;
+use answers::Cause;
 use calculus::Given;
 use calculus::Outcome;
 use calculus::Value;

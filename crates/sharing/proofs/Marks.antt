@@ -18,7 +18,7 @@ use lib.Seq.{set-out, take-all, take-suc}
 use lib.Dec.{eqb}
 use Rattle.order.specs.Order.{among}
 use Rattle.order.specs.Matrix.{marked}
-use Rattle.order.proofs.Booleans.{decide, eqb-swap}
+use Rattle.laws.proofs.Booleans.{decide, eqb-swap}
 use Rattle.order.proofs.Matrix.{marked-true, marked-false, marked-set, zero-marks}
 use Rattle.book.specs.Lists.{any}
 use Rattle.book.specs.Sharing.{unless255, gathered, repeats}

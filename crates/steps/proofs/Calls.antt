@@ -19,8 +19,8 @@ use Rattle.book.specs.References.{scopeAt}
 use Rattle.book.specs.Scopes.{calls}
 use Rattle.book.specs.Positions.{subScopeAt}
 use Rattle.steps.specs.Edges.{oneEdge, callEdges, Marked}
-use Rattle.order.proofs.Booleans.{decide}
-use Rattle.order.proofs.Booleans.{eqb-swap}
+use Rattle.laws.proofs.Booleans.{decide}
+use Rattle.laws.proofs.Booleans.{eqb-swap}
 use Rattle.steps.proofs.Marking.{Marking, anyEdge, start, turn, done, list-turn, list-done}
 
 each : (i : ℕ) (xs : List ℕ) (x y : ℕ) → anyEdge (oneEdge i) xs x y ≡ (eqb i x && among xs y)

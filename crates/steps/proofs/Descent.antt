@@ -10,7 +10,7 @@ use lib.ListN.{length, getD}
 use lib.Dec.{eqb}
 use borrow.Author.Tests.{ne-eqb}
 use Rattle.order.specs.Order.{among}
-use Rattle.order.proofs.Booleans.{untrue}
+use Rattle.laws.proofs.Booleans.{untrue}
 use Rattle.book.specs.Lists.{any}
 use Rattle.book.specs.Syntax.{Scope, noNode}
 use Rattle.book.specs.References.{scopeAt, dangles}

@@ -19,7 +19,7 @@ use Rattle.order.specs.Matrix.{marked, edgeOf}
 use Rattle.order.proofs.Matrix.{marked-set}
 use Rattle.book.specs.Lists.{any}
 use Rattle.steps.specs.Edges.{oneEdge, Marked}
-use Rattle.order.proofs.Booleans.{decide}
+use Rattle.laws.proofs.Booleans.{decide}
 
 -- One edge
 

@@ -16,7 +16,8 @@ use Rattle.order.specs.Matrix.{edgeOf}
 use Rattle.order.specs.Answer.{Filled}
 use Rattle.order.specs.declared.Ordered.{Ordered}
 use Rattle.order.specs.declared.Ordered.the-variants.{Taken, Unfit}
-use Rattle.order.proofs.Matrix.{edge-false, zeros}
+use Rattle.order.proofs.Matrix.{edge-false}
+use Rattle.laws.proofs.Zeros.{zeros}
 use Rattle.order.proofs.Answer.{filled-fit}
 use Rattle.order.proofs.Order.{order-congruent}
 use Rattle.book.specs.Syntax.{Scope}

@@ -15,7 +15,7 @@ use lib.Seq.{getD-set-same, getD-set-other}
 use lib.Dec.{eqb}
 use borrow.Author.Tests.{eqb-true, eqb-false, ne-eqb}
 use Rattle.order.specs.Order.{among}
-use Rattle.order.proofs.Booleans.{decide, both, or-cases, both-ways, untrue}
+use Rattle.laws.proofs.Booleans.{decide, both, or-cases, both-ways, untrue}
 use Rattle.order.proofs.Among.{among-append, among-at, among-place}
 use Rattle.book.specs.Lists.{any}
 use Rattle.book.specs.Syntax.{Scope}

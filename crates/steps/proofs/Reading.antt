@@ -16,7 +16,7 @@ use borrow.Author.Tests.{ne-eqb, ltb-true}
 use denote.Enum.Declared.{tagOf}
 use types.Run.{OneOf, miss}
 use Rattle.order.specs.Order.{among}
-use Rattle.order.proofs.Booleans.{decide, both}
+use Rattle.laws.proofs.Booleans.{decide, both}
 use Rattle.order.proofs.Among.{among-at}
 use Rattle.calculus.specs.Terms.{Term, Terms, none}
 use Rattle.book.specs.Lists.{any}

@@ -1,6 +1,6 @@
 // The trial strips a to m, run through the operators of the calculus: a line each, its letter and what it gives.
+use answers::Cause;
 use calculus::Binary;
-use calculus::Cause;
 use calculus::Gathered;
 use calculus::Given;
 use calculus::Joined;

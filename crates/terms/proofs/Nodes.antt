@@ -21,14 +21,14 @@ use borrow.Author.Tests.{eq-eqb, ne-eqb, eqb-false}
 use Rattle.slices.specs.Bytes.{numberAt}
 use Rattle.record.specs.Kinds.{kinds, shapesOf, shapeIn}
 use Rattle.record.proofs.Decision.{NoneOf}
-use Rattle.order.proofs.Booleans.{decide}
+use Rattle.laws.proofs.Booleans.{decide}
 use Rattle.calculus.specs.Outcomes.{binaryOn, choose}
 use Rattle.calculus.specs.Defaults.{gather, settle}
 use Rattle.calculus.specs.Terms.{Term, Terms, none, also}
 use Rattle.calculus.specs.Evaluation.{Env, eval, exceptions}
 use Rattle.calculus.proofs.Numbers.{zero-fits}
 use Rattle.calculus.specs.declared.Value.the-variants as value
-use Rattle.calculus.specs.declared.Cause.the-variants as cause
+use Rattle.answers.specs.declared.Cause.the-variants as cause
 use Rattle.calculus.specs.declared.Outcome.{Outcome}
 use Rattle.calculus.specs.declared.Outcome.the-variants.{Gives, Ends}
 use Rattle.calculus.specs.declared.Unary.the-variants.{Not, Negate}

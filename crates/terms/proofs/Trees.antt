@@ -12,7 +12,7 @@ use native.Mathlib.Omega.{arith}
 use lib.ListN.{length, getD}
 use lib.Dec.{eqb, ltb}
 use borrow.Author.Tests.{ltb-true}
-use Rattle.order.proofs.Booleans.{both}
+use Rattle.laws.proofs.Booleans.{both}
 use Rattle.calculus.specs.Terms.{Term, Terms, literal, none, also}
 use Rattle.calculus.specs.Evaluation.{Env, eval}
 use Rattle.calculus.specs.declared.Value.the-variants.{Truth}

@@ -7,7 +7,7 @@ use lib.ListN.{length, getD}
 use lib.Dec.{eqb}
 use Rattle.calculus.specs.Outcomes.{choose}
 use Rattle.calculus.specs.declared.Value.the-variants.{Truth}
-use Rattle.calculus.specs.declared.Cause.the-variants.{Empty}
+use Rattle.answers.specs.declared.Cause.the-variants.{Empty}
 use Rattle.calculus.specs.declared.Outcome.{Outcome}
 use Rattle.calculus.specs.declared.Outcome.the-variants.{Gives, Ends}
 use Rattle.terms.specs.Outcomes.{outcomeIn, Readable}

@@ -16,7 +16,7 @@ use lib.Dec.{eqb}
 use borrow.Author.Tests.{eqb-true}
 use Rattle.calculus.specs.Terms.{Term, Terms, literal, default, none, also}
 use Rattle.calculus.specs.declared.Value.the-variants.{Truth}
-use Rattle.order.proofs.Booleans.{both, or-cases}
+use Rattle.laws.proofs.Booleans.{both, or-cases}
 use Rattle.book.specs.Syntax.{Scope, noNode}
 use Rattle.book.specs.References.{noClause}
 use Rattle.book.specs.Sharing.{unless255, operands, consequenceNode, clauseNodes, gathered, namings}

@@ -8,7 +8,7 @@ use Rattle.record.specs.Kinds.{shapeIn, shapesOf, kinds}
 use Rattle.slices.specs.Bytes.{bigEndian, bytesOf, numberAt, numberBytes}
 use Rattle.calculus.specs.Terms.{Term, literal, own, called, error, unary, binary, choice}
 use Rattle.calculus.specs.declared.Value.the-variants.{Truth, Number}
-use Rattle.calculus.specs.declared.Cause.the-variants.{Conflict}
+use Rattle.answers.specs.declared.Cause.the-variants.{Conflict}
 use Rattle.calculus.specs.declared.Unary.the-variants.{Not, Negate}
 use Rattle.calculus.specs.declared.Binary.the-variants.{And, Add, Subtract, Equal, Less}
 use Rattle.order.specs.Search.{lowestFrom, lowest, none}

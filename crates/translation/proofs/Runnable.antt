@@ -10,7 +10,7 @@ use Rattle.book.specs.Decode.{scopesOf}
 use Rattle.book.specs.References.{scopeAt}
 use Rattle.book.specs.Trees.{tree}
 use Rattle.book.specs.Judge.{judge}
-use Rattle.book.specs.declared.Judged.the-variants.{Accepted}
+use Rattle.answers.specs.declared.Judged.the-variants.{Accepted}
 use Rattle.book.specs.declared.Target.{Target}
 use Rattle.acceptance.proofs.Orders.{accepted-book}
 use Rattle.translation.specs.Measures.{Runnable}

@@ -15,7 +15,7 @@ use lib.ListN.{length, getD}
 use lib.Dec.{eqb}
 use borrow.Author.Tests.{eq-eqb}
 use Rattle.order.specs.Order.{among}
-use Rattle.order.proofs.Booleans.{neither}
+use Rattle.laws.proofs.Booleans.{neither}
 use Rattle.order.proofs.Among.{among-at, among-first}
 use Rattle.book.specs.Sharing.{gathered, repeats}
 use Rattle.book.specs.Scopes.{sum}

@@ -15,7 +15,7 @@ use lib.ListN.{length, getD, drop, drop-of-length-le}
 use lib.Seq.{drop-cons}
 use lib.Dec.{eqb, ltb}
 use borrow.Author.Tests.{ltb-true, ltb-false, ne-eqb}
-use Rattle.order.proofs.Booleans.{decide}
+use Rattle.laws.proofs.Booleans.{decide}
 use Rattle.calculus.specs.Terms.{Term, Terms, none, also, default}
 use Rattle.book.specs.Lists.{any}
 use Rattle.book.specs.Syntax.{Scope}

@@ -8,7 +8,7 @@ use mathlib.Core.Logic.{⊎-elim}
 use lib.ListN.{length, getD}
 use lib.Dec.{eqb}
 use borrow.Author.Tests.{ltb-true, eq-eqb, ne-eqb, eqb-true, eqb-false}
-use Rattle.order.proofs.Booleans.{decide, both}
+use Rattle.laws.proofs.Booleans.{decide, both}
 use Rattle.calculus.specs.Evaluation.{eval}
 use Rattle.book.specs.Syntax.{Scope, clauseOf}
 use Rattle.book.specs.Decode.{scopesOf}

@@ -14,7 +14,7 @@ use lib.Seq.{getD-take, getD-drop}
 use lib.Dec.{ltb}
 use borrow.Author.Tests.{ltb-true, ne-eqb}
 use Rattle.slices.proofs.Parts.{part-room}
-use Rattle.order.proofs.Booleans.{both}
+use Rattle.laws.proofs.Booleans.{both}
 use Rattle.calculus.specs.Evaluation.{eval}
 use Rattle.book.specs.Syntax.{Scope, noNode}
 use Rattle.book.specs.Decode.{scopesOf}

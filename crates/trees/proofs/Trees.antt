@@ -9,11 +9,11 @@ use native.Mathlib.Omega.{arith}
 use lib.ListN.{getD}
 use lib.Dec.{eqb}
 use borrow.Author.Tests.{eqb-true, eqb-false}
-use Rattle.order.proofs.Booleans.{decide}
+use Rattle.laws.proofs.Booleans.{decide}
 use Rattle.calculus.specs.Defaults.{settle}
 use Rattle.calculus.proofs.Numbers.{zero-fits}
 use Rattle.calculus.specs.declared.Value.the-variants.{Truth}
-use Rattle.calculus.specs.declared.Cause.the-variants.{Empty}
+use Rattle.answers.specs.declared.Cause.the-variants.{Empty}
 use Rattle.calculus.specs.declared.Outcome.{Outcome}
 use Rattle.calculus.specs.declared.Outcome.the-variants.{Gives, Ends}
 use Rattle.calculus.specs.declared.Gathered.{Gathered}

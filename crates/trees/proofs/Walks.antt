@@ -9,7 +9,7 @@ use native.Mathlib.Omega.{arith}
 use lib.ListN.{length, getD, drop, length-drop}
 use Rattle.calculus.specs.Defaults.{gather}
 use Rattle.calculus.proofs.Numbers.{zero-fits}
-use Rattle.calculus.specs.declared.Cause.{Cause}
+use Rattle.answers.specs.declared.Cause.{Cause}
 use Rattle.calculus.specs.declared.Outcome.{Outcome}
 use Rattle.calculus.specs.declared.Joined.the-variants.{Nothing}
 use Rattle.calculus.specs.declared.Gathered.{Gathered}

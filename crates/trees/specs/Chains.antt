@@ -6,7 +6,7 @@ use Rattle.calculus.specs.Outcomes.{choose}
 use Rattle.calculus.specs.Defaults.{settle}
 use Rattle.calculus.specs.Terms.{Terms}
 use Rattle.calculus.specs.Evaluation.{eval, exceptions}
-use Rattle.calculus.specs.declared.Cause.the-variants.{Empty}
+use Rattle.answers.specs.declared.Cause.the-variants.{Empty}
 use Rattle.calculus.specs.declared.Outcome.{Outcome}
 use Rattle.calculus.specs.declared.Outcome.the-variants.{Ends}
 use Rattle.calculus.specs.declared.Joined.the-variants.{Nothing}

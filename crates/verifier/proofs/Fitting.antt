@@ -12,7 +12,7 @@ use native.Mathlib.Omega.{arith}
 use lib.ListN.{length, getD, List·getD-eq-default}
 use lib.Dec.{T, eqb, ltb}
 use borrow.Author.Tests.{eqb-true, eq-eqb, ltb-true, ltb-false}
-use Rattle.order.proofs.Booleans.{decide, or-cases}
+use Rattle.laws.proofs.Booleans.{decide, or-cases}
 use Rattle.slices.specs.Bytes.{bigEndian, numberAt}
 use Rattle.record.specs.Kinds.{kinds, shapesOf, shapeIn}
 use Rattle.record.proofs.Decision.{by-range, over, isAny}

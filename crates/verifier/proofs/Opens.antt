@@ -14,7 +14,7 @@ use native.Mathlib.Omega.{arith}
 use lib.ListN.{length, getD, drop, set, replicate, length-replicate, drop-of-length-le}
 use lib.Dec.{eqb, ltb}
 use borrow.Author.Tests.{lt-ltb, ltb-true, ltb-false, eqb-true, eqb-false}
-use Rattle.order.proofs.Booleans.{decide}
+use Rattle.laws.proofs.Booleans.{decide}
 use Rattle.book.specs.Lists.{any}
 use Rattle.book.specs.Scopes.{sum}
 use Rattle.machine.specs.Blocks.{Block, Parsed, emptyBlock, stageOf, parse, hasBlock, variablesOf}
@@ -34,7 +34,7 @@ use Rattle.verifier.specs.declared.Closing.the-variants.{Closed}
 use Rattle.verifier.specs.declared.Closing.the-variants as closing
 use Rattle.verifier.specs.declared.Verdict.{Verdict}
 use Rattle.verifier.specs.declared.Verdict.the-variants as verdict
-use Rattle.order.proofs.Matrix.{zeros}
+use Rattle.laws.proofs.Zeros.{zeros}
 use native.Mathlib.Numerals.{add-one}
 
 -- at a record of kind 1 the present block ends

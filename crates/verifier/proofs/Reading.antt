@@ -17,7 +17,7 @@ use lib.ListN.{length, getD, take, drop, length-append, length-drop, drop-of-len
 use lib.Seq.{drop-cons, drop-drop}
 use lib.Dec.{eqb, ltb}
 use borrow.Author.Tests.{eq-eqb, ltb-false, eqb-true, eqb-false, not-true, not-false}
-use Rattle.order.proofs.Booleans.{decide, both, neither}
+use Rattle.laws.proofs.Booleans.{decide, both, neither}
 use Rattle.record.specs.Kinds.{kinds, shapesOf}
 use Rattle.record.specs.declared.Medium.the-variants.{Code}
 use Rattle.book.proofs.Shapes.{every, shape-below, in-order}

@@ -18,7 +18,7 @@ use lib.ListN.{length, getD, set, length-set}
 use lib.Seq.{getD-set-same, getD-set-other, drop-at}
 use lib.Dec.{eqb, ltb}
 use borrow.Author.Tests.{eqb-true, eqb-false, ltb-true, ltb-false}
-use Rattle.order.proofs.Booleans.{decide, both}
+use Rattle.laws.proofs.Booleans.{decide, both}
 use Rattle.machine.specs.Blocks.{Block, bodyLength}
 use Rattle.machine.specs.Instructions.{instructionOf}
 use Rattle.machine.specs.Acceptance.{lands, fits, allFit}

@@ -14,7 +14,7 @@ use lib.ListN.{length, getD, take, drop, set, length-set, length-drop, List·get
 use lib.Seq.{drop-drop, take-add, length-take-le, getD-take}
 use lib.Dec.{eqb, ltb}
 use borrow.Author.Tests.{lt-ltb, ltb-true}
-use Rattle.order.proofs.Booleans.{decide, both}
+use Rattle.laws.proofs.Booleans.{decide, both}
 use Rattle.machine.specs.Blocks.{Block, Parsed, bodyLength, stageOf, variablesOf}
 use Rattle.machine.specs.Instructions.{instructionOf}
 use Rattle.machine.specs.Acceptance.{counted, sound, lands, fits, accepted}

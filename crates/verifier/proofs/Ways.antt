@@ -14,7 +14,7 @@ use lib.ListN.{length, getD, take, drop, length-drop}
 use lib.Seq.{getD-drop, take-all, length-take-le}
 use lib.Dec.{eqb}
 use borrow.Author.Tests.{eqb-true, eqb-false}
-use Rattle.order.proofs.Booleans.{decide}
+use Rattle.laws.proofs.Booleans.{decide}
 use Rattle.machine.specs.Blocks.{stageOf}
 use Rattle.record.specs.Kinds.{shapeIn}
 use Rattle.record.specs.declared.Shape.{Shape}

@@ -22,7 +22,7 @@ use Rattle.book.specs.Scopes.{blocks, sum, weight}
 use Rattle.book.specs.Positions.{subScopeAt}
 use Rattle.steps.specs.Limits.{Scoped, WholeOrder}
 use Rattle.weights.specs.Weighing.{weightBy, Weighed}
-use Rattle.order.proofs.Booleans.{decide}
+use Rattle.laws.proofs.Booleans.{decide}
 use Rattle.book.proofs.Sums.{sum-same}
 use Rattle.book.proofs.Weights.{block-bound, every-block, block-snoc, called-before, weight-sum, overweight-one, overweight-none}
 

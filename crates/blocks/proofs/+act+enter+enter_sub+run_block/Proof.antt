@@ -5,7 +5,7 @@ use mathlib.Core.Path.{refl, sym, _∙_}
 use lib.ListN.{length}
 use denote.Ref.{now}
 use native.Mathlib.Omega.{arith}
-use Rattle.order.proofs.Matrix.{zeros}
+use Rattle.laws.proofs.Zeros.{zeros}
 use Rattle.slices.proofs.Parts.{part-room}
 use Rattle.blocks.specs.Entries.{runAt, variablesAt, Known}
 use Rattle.blocks.specs.Running.{Running}

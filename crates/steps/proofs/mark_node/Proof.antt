@@ -75,7 +75,10 @@ own-by-requires-11 : tie.Need-own-by-requires-11
 own-by-requires-11 c κs = search needs
 
 returns : tie.Need-returns
-returns c = let q = leaf (c .before .before .before .args .variables) (c .before .before .before .args .node) (c .match .keys1) in (rw (q .0) (no-column _ _ _ (omega arith)), rw (q .1) own-none)
+returns c =
+    let s = c .before .before .before in
+    let q = leaf (s .args .variables) (s .args .node) (c .match .keys1) in
+    (rw (q .0) (no-column _ _ _ (omega arith)), rw (q .1) own-none)
 
 same-length : tie.Need-same-length
 same-length c = search needs
@@ -99,19 +102,35 @@ same-length-4 : tie.Need-same-length-4
 same-length-4 c = search needs
 
 returns-5 : tie.Need-returns-5
-returns-5 c = rw (c .before .before .before .before .before .before .before .before .before .node4 .given .1) (no-column _ _ _ (omega arith), own-then (c .before .before .before .before .before .before .own-by2 .ensures) (c .before .before .own-by3 .ensures))
+returns-5 c =
+    let a = c .before .before .before .before .before .before in
+    rw (a .before .before .before .node4 .given .1)
+    (no-column _ _ _ (omega arith), own-then (a .own-by2 .ensures) (c .before .before .own-by3 .ensures))
 
 same-length-5 : tie.Need-same-length-5
 same-length-5 c = search needs
 
 returns-6 : tie.Need-returns-6
-returns-6 c = rw (c .before .before .before .before .before .before .before .before .before .before .before .before .before .node5 .given .1) (no-column _ _ _ (omega arith), own-then (c .before .before .before .before .before .before .before .before .before .before .own-by4 .ensures) (own-then (c .before .before .before .before .before .before .own-by5 .ensures) (c .before .before .own-by6 .ensures)))
+returns-6 c =
+    let b = c .before .before .before .before .before .before in
+    let a = b .before .before .before .before in
+    rw (a .before .before .before .node5 .given .1)
+    (no-column _ _ _ (omega arith), own-then (a .own-by4 .ensures) (own-then (b .own-by5 .ensures) (c .before .before .own-by6 .ensures)))
 
 same-length-6 : tie.Need-same-length-6
 same-length-6 c = search needs
 
 returns-7 : tie.Need-returns-7
-returns-7 c = rw (c .before .before .before .before .before .before .before .before .before .before .before .before .before .before .before .before .before .before .before .before .before .node6 .given .1) (no-column _ _ _ (omega arith), own-unless (c .before .before .before .before .before .before .before .before .before .before .before .before .before .before .before .before .before .before .own-by7 .ensures) (own-unless (c .before .before .before .before .before .before .before .before .before .before .before .before .before .before .own-by8 .ensures) (own-unless (c .before .before .before .before .before .before .before .before .before .before .own-by9 .ensures) (own-then (c .before .before .before .before .before .before .own-by10 .ensures) (c .before .before .own-by11 .ensures)))))
+returns-7 c =
+    let j = c .before .before .before .before .before .before in
+    let z = j .before .before .before .before in
+    let y = z .before .before .before .before in
+    let x = y .before .before .before .before in
+    rw (x .before .before .before .node6 .given .1) (
+      no-column _ _ _ (omega arith),
+      own-unless (x .own-by7 .ensures)
+          (own-unless (y .own-by8 .ensures) (own-unless (z .own-by9 .ensures) (own-then (j .own-by10 .ensures) (c .before .before .own-by11 .ensures)))),
+    )
 
 pub mark-node-spec : {M : Type 1} → statement M
 mark-node-spec =

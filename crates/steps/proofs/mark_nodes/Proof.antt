@@ -27,25 +27,38 @@ sub-n : tie.Need-sub-n Inv-loop μ-loop
 sub-n c = omega arith
 
 slice-read-row : tie.Need-slice-read-row Inv-loop μ-loop
-slice-read-row c = omega (arith, c .before .before .before .before .before .before .before .before .before .pre .0 .laid .within .nodes (c .before .before .before .before .before .before .before .before .before .args .i))
+slice-read-row c =
+    let s = c .before .before .before .before .before .before .before .before .before in
+    omega (arith, s .pre .0 .laid .within .nodes (s .args .i))
 
 node-at-requires : tie.Need-node-at-requires Inv-loop μ-loop
 node-at-requires c κs = search needs
 
 mark-node-requires : tie.Need-mark-node-requires Inv-loop μ-loop
-mark-node-requires c κs = (rw (c .before .before .before .before .before .before .before .before .variable-count .ensures) (c .before .before .before .before .before .before .before .before .before .before .before .before .before .pre .0 .laid .within .variables (c .before .before .before .before .before .before .before .before .before .before .before .before .before .args .i)), c .before .before .before .before .before .before .loop .inv .long, c .before .before .before .before .before .before .loop .inv .marks .long ∙ c .before .before .before .before .before .before .before .before .before .before .before .before .before .pre .2)
+mark-node-requires c κs =
+    let s = c .before .before .before .before .before .before .before .before .before .before .before .before .before in
+    let inv = c .before .before .before .before .before .before .loop .inv in
+    (rw (c .before .before .before .before .before .before .before .before .variable-count .ensures) (s .pre .0 .laid .within .variables (s .args .i)), inv .long, inv .marks .long ∙ s .pre .2)
 
 loop-less : tie.Need-loop-less Inv-loop μ-loop
 loop-less c = omega arith
 
 loop-again : tie.Need-loop-again Inv-loop μ-loop
-loop-again c = descent-owned _ _ _ _ _ _ (descent-down (c .before .before .before .before .before .before .before .before .before .before .before .loop .inv) (c .before .before .before .before .before .before .before .before .before .before .loop-test .taken)) (c .before .before .before .before .before .before .before .before .before .before .before .before .before .before .before .before .before .before .pre .0 .laid .within .nodes (c .before .before .before .before .before .before .before .before .before .before .before .before .before .before .before .before .before .before .args .i)) (c .before .before .before .before .before .before .before .before .before .before .before .before .before .before .before .before .before .before .pre .0 .sound) (c .before .before .before .before .before .before .before .before .before .before .before .before .before .before .before .before .before .before .pre .0 .single) _ refl _ (rw (c .before .before .before .before .before .before .before .node-at .ensures) at (c .before .before .before .before .mark-node .ensures .1)) _ (rw (c .before .before .before .before .before .before .before .node-at .ensures, c .before .before .before .before .before .before .before .before .before .before .before .before .before .variable-count .ensures) at (c .before .before .before .before .mark-node .ensures .0))
+loop-again c =
+    let s = c .before .before .before .before .before .before .before .before .before .before .before .before .before .before .before .before .before .before in
+    let m = c .before .before .before .before in
+    let at = m .before .before .before in
+    descent-owned _ _ _ _ _ _ (descent-down (at .before .before .before .before .loop .inv) (at .before .before .before .loop-test .taken))
+    (s .pre .0 .laid .within .nodes (s .args .i)) (s .pre .0 .sound) (s .pre .0 .single) _ refl _
+    (rw (at .node-at .ensures) at (m .mark-node .ensures .1)) _
+    (rw (at .node-at .ensures, at .before .before .before .before .before .before .variable-count .ensures) at (m .mark-node .ensures .0))
 
 loop-less-2 : tie.Need-loop-less-2 Inv-loop μ-loop
 loop-less-2 c = omega arith
 
 loop-again-2 : tie.Need-loop-again-2 Inv-loop μ-loop
-loop-again-2 c = descent-free _ _ _ _ _ _ (descent-down (c .before .before .before .loop .inv) (c .before .before .loop-test .taken)) (c .if1 .left)
+loop-again-2 c =
+    descent-free _ _ _ _ _ _ (descent-down (c .before .before .before .loop .inv) (c .before .before .loop-test .taken)) (c .if1 .left)
 
 same-length : tie.Need-same-length Inv-loop μ-loop
 same-length c = c .before .loop .inv .long ∙ sym (c .before .before .before .before .before .before .before .before .pre .1 .long)

@@ -21,7 +21,9 @@ same-length : tie.Need-same-length
 same-length c = search needs
 
 returns : tie.Need-returns
-returns c = rw (c .before .before .before .before .before .consequence .given .1) (own-unless (c .before .before .before .before .before .before .before .before .before .own-by .ensures) (c .before .before .own-by2 .ensures))
+returns c =
+    let m = c .before .before .before .before .before in
+    rw (m .consequence .given .1) (own-unless (m .before .before .before .before .own-by .ensures) (c .before .before .own-by2 .ensures))
 
 same-length-2 : tie.Need-same-length-2
 same-length-2 c = search needs

@@ -24,16 +24,26 @@ variable-count-requires : tie.Need-variable-count-requires Inv-loop μ-loop
 variable-count-requires c κs = search needs
 
 loop-holds : tie.Need-loop-holds Inv-loop μ-loop
-loop-holds c = (omega arith, rooting-start _ _ (c .before .before .before .before .before .pre .0 .laid .within .nodes (c .before .before .before .before .before .args .i)) (c .before .before .before .before .before .pre .0 .sound) _ (c .before .before .before .before .before .pre .1))
+loop-holds c =
+    let s = c .before .before .before .before .before in
+    (omega arith, rooting-start _ _ (s .pre .0 .laid .within .nodes (s .args .i)) (s .pre .0 .sound) _ (s .pre .1))
 
 clause-at-requires : tie.Need-clause-at-requires Inv-loop μ-loop
 clause-at-requires c κs = search needs
 
 step-with-requires : tie.Need-step-with-requires Inv-loop μ-loop
-step-with-requires c κs = rw (c .before .before .before .variable-count .ensures) (c .before .before .before .before .before .before .before .before .pre .0 .laid .within .variables (c .before .before .before .before .before .before .before .before .args .i))
+step-with-requires c κs =
+    let s = c .before .before .before .before .before .before .before .before in
+    rw (c .before .before .before .variable-count .ensures) (s .pre .0 .laid .within .variables (s .args .i))
 
 cast-row : tie.Need-cast-row Inv-loop μ-loop
-cast-row c = let l = few-rows _ _ _ (c .before .before .before .before .before .before .before .before .before .pre .0 .sound) (c .before .before .before .before .before .before .before .before .before .pre .0 .laid .within) (rw (← c .before .before .before .before .before .clause-count .ensures) (c .before .before .loop-test .taken)) _ (c .before .clause-at .ensures) _ (c .before .before .before .before .variable-count .ensures) in omega (arith, c .step-with .ensures)
+cast-row c =
+    let s = c .before .before .before .before .before .before .before .before .before in
+    let few =
+    few-rows _ _ _ (s .pre .0 .sound) (s .pre .0 .laid .within)
+    (rw (← c .before .before .before .before .before .clause-count .ensures) (c .before .before .loop-test .taken))
+    _ (c .before .clause-at .ensures) _ (c .before .before .before .before .variable-count .ensures) in
+    omega (arith, c .step-with .ensures)
 
 own-clause-requires : tie.Need-own-clause-requires Inv-loop μ-loop
 own-clause-requires c κs = search needs
@@ -45,13 +55,24 @@ loop-less : tie.Need-loop-less Inv-loop μ-loop
 loop-less c = omega arith
 
 loop-again : tie.Need-loop-again Inv-loop μ-loop
-loop-again c = (omega arith, rooting-turn _ _ (c .before .before .before .before .before .before .before .before .before .before .before .before .before .pre .0 .laid .within .nodes (c .before .before .before .before .before .before .before .before .before .before .before .before .before .args .i)) (c .before .before .before .before .before .before .before .before .before .before .before .before .before .pre .0 .sound) (c .before .before .before .before .before .before .before .before .before .before .before .before .before .pre .0 .single) _ _ (c .before .before .before .before .before .before .before .loop .inv .1) _ _ _ _ (rw (← c .before .before .before .before .before .before .before .before .before .clause-count .ensures) (c .before .before .before .before .before .before .loop-test .taken)) (c .before .before .before .before .before .clause-at .ensures) (c .before .before .before .before .before .before .before .before .variable-count .ensures) (c .before .before .before .before .step-with .ensures) (c .before .before .own-clause .ensures))
+loop-again c =
+    let s = c .before .before .before .before .before .before .before .before .before .before .before .before .before in
+    let m = c .before .before .before .before in
+    let at = m .before .before in (
+      omega arith,
+      rooting-turn _ _ (s .pre .0 .laid .within .nodes (s .args .i)) (s .pre .0 .sound) (s .pre .0 .single) _ _ (at .before .loop .inv .1) _ _ _ _
+          (rw (← at .before .before .before .clause-count .ensures) (at .loop-test .taken)) (m .before .clause-at .ensures)
+          (at .before .before .variable-count .ensures) (m .step-with .ensures) (c .before .before .own-clause .ensures),
+    )
 
 same-length : tie.Need-same-length Inv-loop μ-loop
 same-length c = c .before .loop .inv .1 .long ∙ sym (ap length (c .before .before .before .before .before .before .before .pre .1))
 
 returns : tie.Need-returns Inv-loop μ-loop
-returns c = rooting-done _ _ (c .before .before .before .before .before .before .before .pre .0 .laid .within .nodes (c .before .before .before .before .before .before .before .args .i)) (c .before .before .before .before .before .before .before .pre .0 .sound) (c .before .before .before .before .before .before .before .pre .0 .single) _ _ (c .before .loop .inv .1) (rw (← c .before .before .before .clause-count .ensures) (c .loop-test .left))
+returns c =
+    let s = c .before .before .before .before .before .before .before in
+    rooting-done _ _ (s .pre .0 .laid .within .nodes (s .args .i)) (s .pre .0 .sound) (s .pre .0 .single) _ _ (c .before .loop .inv .1)
+    (rw (← c .before .before .before .clause-count .ensures) (c .loop-test .left))
 
 pub own-clauses-spec : {M : Type 1} → statement M
 own-clauses-spec =

@@ -14,7 +14,7 @@ use mir.Syntax.{w32}
 use mir.Val.{SFits}
 use mir.Facts.{toZ-ofZ}
 use borrow.Author.Tests.{eq-eqb, ne-eqb, eqb-false}
-use Rattle.order.proofs.Booleans.{decide}
+use Rattle.laws.proofs.Booleans.{decide}
 use Rattle.terms.specs.Outcomes.{NamesException, Readable, ReadableException}
 use Rattle.terms.proofs.Nodes as nodes
 use borrow.Author.Needs.{needs}

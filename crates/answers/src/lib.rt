@@ -1,0 +1,53 @@
+// What the services answer.
+
+// Why a run ends without a value.
+pub enum Cause {
+    Empty,
+    Conflict,
+    OutOfRange,
+}
+
+// Why a book is refused.
+pub enum Fault {
+    Truncated,
+    UnknownKind,
+    OutOfOrder,
+    LimitExceeded,
+    InvalidByte,
+    DanglingReference,
+    SharedNode,
+    TypeMismatch,
+    MixedClauses,
+    ScopeCycle,
+    WeightExceeded,
+    DependencyCycle,
+}
+
+// What judging a book answers: the number of its scopes, or the first fault.
+pub enum Judged {
+    Accepted(usize),
+    Refused(Fault),
+}
+
+// Why a service refuses: the numbers 1 to 17.
+pub enum Refusal {
+    Book(Fault),
+    NoSuchScope,
+    BadInput,
+    BufferTooSmall,
+    BadCode,
+    Stuck,
+}
+
+// What evaluating and running answer: the count of scopes entered and, where the run ends in values, the length of the results.
+pub enum Answer {
+    Values(usize, usize),
+    Ended(Cause, usize),
+    Refused(Refusal),
+}
+
+// What compiling answers: the length written, or why nothing is.
+pub enum Compiled {
+    Written(usize),
+    Refused(Refusal),
+}
