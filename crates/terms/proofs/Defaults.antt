@@ -4,16 +4,9 @@
 -- Assumes nothing.
 use Prim.Native.Nat.{ℕ, _<_, _≤_}
 use mathlib.Core.Path.{_≡_, refl}
-use mathlib.Core.Bool.{true, false}
 use native.Mathlib.Omega.{arith}
-use mir.Syntax.{w32}
-use mir.Val.{SFits}
-use mir.Facts.{fits-ofZ}
-use Rattle.calculus.specs.Values.{numberOf}
 use Rattle.calculus.specs.Defaults.{settle}
 use Rattle.calculus.proofs.Numbers.{zero-fits}
-use Rattle.calculus.specs.declared.Value.{Value}
-use Rattle.calculus.specs.declared.Value.the-variants.{Truth, Number}
 use Rattle.answers.specs.declared.Cause.{Cause}
 use Rattle.answers.specs.declared.Cause.the-variants.{Empty, Conflict, OutOfRange}
 use Rattle.calculus.specs.declared.Outcome.{Outcome}
@@ -23,8 +16,8 @@ use Rattle.calculus.specs.declared.Joined.the-variants.{Nothing, One, Many}
 use Rattle.calculus.specs.declared.Gathered.{Gathered}
 use Rattle.calculus.specs.declared.Gathered.the-variants.{SoFar, Ended}
 use Rattle.cells.specs.Codec.{conflictCell, emptyCell, manyCell, cellOf, gatheredCell, Codes, Gathers}
-use Rattle.terms.specs.Operators.{OnBoth}
 use Rattle.cells.proofs.Codec.{value-high, value-low, above, no-end, no-value}
+use Rattle.terms.specs.Operators.{OnBoth}
 
 -- what has not ended
 so-far-low : (j : Joined) (x : ℕ) → Gathers x (SoFar j) → x < emptyCell

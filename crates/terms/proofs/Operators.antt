@@ -10,14 +10,13 @@ use lib.Dec.{eqb}
 use lib.IntN.{ℤ, negℤ, _+ℤ_, _-ℤ_}
 use lib.Signed.{ltZ}
 use mir.Syntax.{w32}
-use mir.Val.{SFits, toZ}
+use mir.Val.{SFits}
 use mir.ValLaws.{toZ-fits}
-use Rattle.calculus.specs.Values.{truthOf, numberOf, ranged, equal}
+use Rattle.calculus.specs.Values.{ranged}
 use Rattle.calculus.specs.Operators.{unaryOf, binaryOf}
 use Rattle.calculus.proofs.Numbers.{zero-fits}
 use Rattle.calculus.specs.declared.Value.{Value}
 use Rattle.calculus.specs.declared.Value.the-variants.{Truth, Number}
-use Rattle.answers.specs.declared.Cause.{Cause}
 use Rattle.answers.specs.declared.Cause.the-variants.{OutOfRange}
 use Rattle.calculus.specs.declared.Outcome.the-variants.{Gives, Ends}
 use Rattle.calculus.specs.declared.Unary.{Unary}
@@ -25,8 +24,8 @@ use Rattle.calculus.specs.declared.Unary.the-variants.{Not, Negate}
 use Rattle.calculus.specs.declared.Binary.{Binary}
 use Rattle.calculus.specs.declared.Binary.the-variants.{And, Add, Subtract, Equal, Less}
 use Rattle.cells.specs.Codec.{emptyCell, rangeCell, yesCell, truthCell, valueCell, cellOf, payload, Codes}
-use Rattle.terms.specs.Operators.{OnOne, OnTwo}
 use Rattle.cells.proofs.Codec.{no-end, no-value, is-yes, is-number, are-same}
+use Rattle.terms.specs.Operators.{OnOne, OnTwo}
 
 pub end-passes : (op : Unary) (x : ℕ) → emptyCell ≤ x → OnOne op x x
 end-passes op x l (Gives v) h = no-end v x h l

@@ -35,6 +35,9 @@ ghost use Rattle.terms.specs.Operators.{operator, OnOne, OnTwo, OnBoth};
 ghost use Rattle.terms.specs.Outcomes.{outcomeIn, Readable, ReadableDefault, ReadableException, GathersIn};
 ghost use Rattle.terms.specs.Clauses.{restIn, ReadableClause};
 
+// The cells of a sub-scope's variables.
+const VARIABLES: usize = 32;
+
 // The cell of a yes/no.
 fn truth(b: bool) -> u64
     ensures { λ r. ⌜ r ≡ truthCell b ⌝ }
@@ -145,7 +148,7 @@ fn eval_below(book: &[u8], row: &[u16], own: &[u64], called: &[u64], n: usize) -
         KIND_OWN => held_cell(own[a as usize]),
         KIND_CALLED => {
             let x = book[at + 2];
-            held_cell(called[(a as usize) * 32 + (x as usize)])
+            held_cell(called[(a as usize) * VARIABLES + (x as usize)])
         }
         KIND_EMPTY => EMPTY,
         KIND_CONFLICT => CONFLICT,
