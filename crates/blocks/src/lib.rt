@@ -378,7 +378,7 @@ fn run_within(
     }
 }
 
-// Runs block p, with a small stack and few tries at first, smaller still for short code.
+// Runs block p, with a small stack and few tries at first: smaller still for code so short that it hardly fills them.
 pub fn run_cells(
     code: &[u8],
     spans: &[usize],
@@ -391,7 +391,7 @@ pub fn run_cells(
     requires { ⌜ Entry (now code) (now spans) (now heads) (now places) p (now own) × (length (now given) ≡ 32) ⌝ }
     ensures { λ r. ⌜ CameTo (now (code .entry)) p (now (given .entry)) r (now (own .exit)) ⌝ }
 {
-    if code.len() < 512 {
+    if code.len() < 128 {
         let mut st = [0u64; 64];
         let mut tr = [0usize; 64];
         return run_within(code, spans, heads, places, p, given, &mut st, &mut tr, own);
