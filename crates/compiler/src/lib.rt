@@ -3,7 +3,7 @@ use answers::Compiled;
 use answers::Judged;
 use answers::Refusal;
 use emitter::emit_blocks;
-use judge::judge_into;
+use judge::load;
 ghost use mathlib.Core.Path.{_≡_};
 ghost use lib.ListN.{length};
 ghost use Rattle.compiler.specs.Compile.{Compiles};
@@ -76,7 +76,7 @@ pub fn compile(book: &[u8], code: &mut [u8]) -> Compiled
     let mut blocks = [0u8; 32];
     let mut weights = [0u16; 32];
     let mut orders = [0u8; 1280];
-    let judged = judge_into(book, &mut index, &mut blocks, &mut weights, &mut orders);
+    let judged = load(book, &mut index, &mut blocks, &mut weights, &mut orders);
     match judged {
         Judged::Accepted(n) => { compile_accepted(book, &index, &blocks, &orders, n, code) }
         Judged::Refused(f) => Compiled::Refused(Refusal::Book(f)),

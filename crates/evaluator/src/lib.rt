@@ -3,7 +3,7 @@ use answers::Answer;
 use answers::Judged;
 use answers::Refusal;
 use inputs::read_inputs;
-use judge::judge_into;
+use judge::load;
 use links::fill_all_links;
 use results::result_length;
 use results::write_results;
@@ -99,7 +99,7 @@ pub fn evaluate(book: &[u8], scope: usize, inputs: &[u8], results: &mut [u8]) ->
     let mut blocks = [0u8; 32];
     let mut weights = [0u16; 32];
     let mut orders = [0u8; 1280];
-    let judged = judge_into(book, &mut index, &mut blocks, &mut weights, &mut orders);
+    let judged = load(book, &mut index, &mut blocks, &mut weights, &mut orders);
     match judged {
         Judged::Accepted(n) => {
             evaluate_accepted(book, &index, &orders, n, scope, inputs, results)

@@ -28,14 +28,14 @@ use Rattle.scan.specs.Filling.{scannedBy, Recorded}
 use Rattle.scan.specs.declared.Reading.{Reading}
 use Rattle.scan.specs.declared.Reading.the-variants.{Complete}
 use Rattle.scan.specs.declared.Reading.the-variants.{Faulty as Reading·Faulty}
-use Rattle.judge.specs.Verdict.{SoundRecords, Judging, orderFaults}
+use Rattle.judge.specs.Verdict.{SoundRecords, Loads, orderFaults}
 
 never : (f : Fault) (n : ℕ) → Refused f ≡ Accepted n → ⊥
 never f n q = let z : _≡_ {A = ℕ} 0 1 = cc in omega arith
 
 -- a refused book has no tables
 pub refused : {bytes index blocks weights orders : List ℕ} {expected : Judged} {f : Fault} → Refused f ≡ expected
-    → Judging bytes index blocks weights orders expected (Refused f)
+    → Loads bytes index blocks weights orders expected (Refused f)
 refused {f = f} e = record { answer = e; tables = λ n q. absurd (never f n q) }
 
 -- what reading the records told

@@ -53,6 +53,6 @@ pub record Room (blocks weights orders : List ℕ) : Type 0 where
   pub orderRoom : 1280 ≤ length orders
 
 -- an answer, and of an accepted book the tables
-pub record Judging (bytes index blocks weights orders : List ℕ) (expected r : Judged) : Type 0 where
+pub record Loads (bytes index blocks weights orders : List ℕ) (expected r : Judged) : Type 0 where
   pub answer : r ≡ expected
   pub tables : (n : ℕ) → r ≡ Accepted n → Tables bytes index blocks weights orders

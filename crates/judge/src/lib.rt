@@ -1,4 +1,4 @@
-// Judging a book: the first fault in the order written, or the number of its scopes; and the tables of an accepted book.
+// Loads a book: the first fault in the order written, or the number of its scopes; and the tables of an accepted book.
 use answers::Fault;
 use answers::Judged;
 use checks::find_faults;
@@ -13,7 +13,7 @@ ghost use lib.ListN.{replicate};
 ghost use Rattle.book.specs.Decode.{scopesOf};
 ghost use Rattle.book.specs.Judge.{wholeBook};
 ghost use Rattle.book.specs.Judge.{judge as Judge·judge};
-ghost use Rattle.judge.specs.Verdict.{Room, SoundRecords, Checked, Judging, orderFaults};
+ghost use Rattle.judge.specs.Verdict.{Room, SoundRecords, Checked, Loads, orderFaults};
 
 // Faults 10 to 12, over calls and steps: fills the orders and the weights.
 fn judge_orders(
@@ -26,7 +26,7 @@ fn judge_orders(
 ) -> Judged
     requires { ⌜ Checked (now book) (now index) scopes × Room (now blocks) (now weights) (now orders) ⌝ }
     ensures { λ r.
-        ⌜ Judging (now (book .entry)) (now (index .entry)) (now (blocks .exit)) (now (weights .exit)) (now (orders .exit)) (orderFaults (scopesOf (now (book .entry)))) r ⌝ }
+        ⌜ Loads (now (book .entry)) (now (index .entry)) (now (blocks .exit)) (now (weights .exit)) (now (orders .exit)) (orderFaults (scopesOf (now (book .entry)))) r ⌝ }
 {
     if block_order(book, index, scopes, blocks) != scopes {
         return Judged::Refused(Fault::ScopeCycle);
@@ -51,7 +51,7 @@ fn judge_whole(
 ) -> Judged
     requires { ⌜ SoundRecords (now book) (now index) scopes × Room (now blocks) (now weights) (now orders) ⌝ }
     ensures { λ r.
-        ⌜ Judging (now (book .entry)) (now (index .entry)) (now (blocks .exit)) (now (weights .exit)) (now (orders .exit)) (wholeBook (scopesOf (now (book .entry)))) r ⌝ }
+        ⌜ Loads (now (book .entry)) (now (index .entry)) (now (blocks .exit)) (now (weights .exit)) (now (orders .exit)) (wholeBook (scopesOf (now (book .entry)))) r ⌝ }
 {
     let found = find_faults(book, index, scopes);
     if found.dangles {
@@ -69,8 +69,8 @@ fn judge_whole(
     judge_orders(book, index, scopes, blocks, weights, orders)
 }
 
-// Judges a book, and fills the tables of an accepted one: they are lent empty.
-pub fn judge_into(
+// Loads a book: judges it, and fills the tables of an accepted one. They are lent empty.
+pub fn load(
     book: &[u8],
     index: &mut [u16],
     blocks: &mut [u8],
@@ -79,7 +79,7 @@ pub fn judge_into(
 ) -> Judged
     requires { ⌜ (now index ≡ replicate 13504 0) × Room (now blocks) (now weights) (now orders) ⌝ }
     ensures { λ r.
-        ⌜ Judging (now (book .entry)) (now (index .exit)) (now (blocks .exit)) (now (weights .exit)) (now (orders .exit)) (Judge·judge (now (book .entry))) r ⌝ }
+        ⌜ Loads (now (book .entry)) (now (index .exit)) (now (blocks .exit)) (now (weights .exit)) (now (orders .exit)) (Judge·judge (now (book .entry))) r ⌝ }
 {
     if 32768 < book.len() {
         return Judged::Refused(Fault::LimitExceeded);
@@ -98,5 +98,5 @@ pub fn judge(book: &[u8]) -> Judged
     let mut blocks = [0u8; 32];
     let mut weights = [0u16; 32];
     let mut orders = [0u8; 1280];
-    judge_into(book, &mut index, &mut blocks, &mut weights, &mut orders)
+    load(book, &mut index, &mut blocks, &mut weights, &mut orders)
 }

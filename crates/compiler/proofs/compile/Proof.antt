@@ -6,20 +6,20 @@ use borrow.Author.Needs.{needs}
 use Rattle.compiler.proofs.compile.Statement.{statement}
 use Rattle.compiler.proofs.compile.Tie as tie
 
-slice-aggregate-judge-into : tie.Need-slice-aggregate-judge-into
-slice-aggregate-judge-into c = search needs
+slice-aggregate-load : tie.Need-slice-aggregate-load
+slice-aggregate-load c = search needs
 
-slice-aggregate-judge-into-2 : tie.Need-slice-aggregate-judge-into-2
-slice-aggregate-judge-into-2 c = search needs
+slice-aggregate-load-2 : tie.Need-slice-aggregate-load-2
+slice-aggregate-load-2 c = search needs
 
-slice-aggregate-judge-into-3 : tie.Need-slice-aggregate-judge-into-3
-slice-aggregate-judge-into-3 c = search needs
+slice-aggregate-load-3 : tie.Need-slice-aggregate-load-3
+slice-aggregate-load-3 c = search needs
 
-slice-aggregate-judge-into-4 : tie.Need-slice-aggregate-judge-into-4
-slice-aggregate-judge-into-4 c = search needs
+slice-aggregate-load-4 : tie.Need-slice-aggregate-load-4
+slice-aggregate-load-4 c = search needs
 
-judge-into-requires : tie.Need-judge-into-requires
-judge-into-requires c κs =
+load-requires : tie.Need-load-requires
+load-requires c κs =
     (refl, record { blockRoom = search needs; weightRoom = search needs; orderRoom = search needs })
 
 enum-known-judged : tie.Need-enum-known-judged
@@ -36,9 +36,9 @@ slice-aggregate-compile-accepted-3 c = search needs
 
 compile-accepted-requires : tie.Need-compile-accepted-requires
 compile-accepted-requires c κs =
-    let t = c .before .before .before .before .before .before .before .before .before .before .before .judge-into .ensures .tables _ (c .before .before .before .before .before .judged .given .1) in
+    let t = c .before .before .before .before .before .before .before .before .before .before .before .load .ensures .tables _ (c .before .before .before .before .before .judged .given .1) in
     record {
-      accepted = sym (c .before .before .before .before .before .before .before .before .before .before .before .judge-into .ensures .answer) ∙ c .before .before .before .before .before .judged .given .1;
+      accepted = sym (c .before .before .before .before .before .before .before .before .before .before .before .load .ensures .answer) ∙ c .before .before .before .before .before .judged .given .1;
       laid = t .laid;
       blockOrder = t .blockOrder;
       stepOrders = t .stepOrders;
@@ -56,17 +56,17 @@ returns c =
 
 returns-2 : tie.Need-returns-2
 returns-2 c =
-    refused (sym (c .before .before .before .before .before .before .before .judge-into .ensures .answer) ∙ c .before .judged2 .given .1)
+    refused (sym (c .before .before .before .before .before .before .before .load .ensures .answer) ∙ c .before .judged2 .given .1)
 
 pub compile-spec : {M : Type 1} → statement M
 compile-spec =
     tie.close
     (tie.spec
-    slice-aggregate-judge-into
-    slice-aggregate-judge-into-2
-    slice-aggregate-judge-into-3
-    slice-aggregate-judge-into-4
-    judge-into-requires
+    slice-aggregate-load
+    slice-aggregate-load-2
+    slice-aggregate-load-3
+    slice-aggregate-load-4
+    load-requires
     enum-known-judged
     slice-aggregate-compile-accepted
     slice-aggregate-compile-accepted-2

@@ -6,23 +6,23 @@ use borrow.Author.Needs.{needs}
 use Rattle.evaluator.proofs.evaluate.Statement.{statement}
 use Rattle.evaluator.proofs.evaluate.Tie as tie
 
-slice-aggregate-judge-into : tie.Need-slice-aggregate-judge-into
-slice-aggregate-judge-into c = search needs
+slice-aggregate-load : tie.Need-slice-aggregate-load
+slice-aggregate-load c = search needs
 
-slice-aggregate-judge-into-2 : tie.Need-slice-aggregate-judge-into-2
-slice-aggregate-judge-into-2 c = search needs
+slice-aggregate-load-2 : tie.Need-slice-aggregate-load-2
+slice-aggregate-load-2 c = search needs
 
-slice-aggregate-judge-into-3 : tie.Need-slice-aggregate-judge-into-3
-slice-aggregate-judge-into-3 c = search needs
+slice-aggregate-load-3 : tie.Need-slice-aggregate-load-3
+slice-aggregate-load-3 c = search needs
 
-slice-aggregate-judge-into-4 : tie.Need-slice-aggregate-judge-into-4
-slice-aggregate-judge-into-4 c = search needs
+slice-aggregate-load-4 : tie.Need-slice-aggregate-load-4
+slice-aggregate-load-4 c = search needs
 
-slice-aggregate-judge-into-5 : tie.Need-slice-aggregate-judge-into-5
-slice-aggregate-judge-into-5 c = search needs
+slice-aggregate-load-5 : tie.Need-slice-aggregate-load-5
+slice-aggregate-load-5 c = search needs
 
-judge-into-requires : tie.Need-judge-into-requires
-judge-into-requires c κs = (record { noPlaces = refl; noCounts = refl }, record { blockRoom = search needs; weightRoom = search needs; orderRoom = search needs })
+load-requires : tie.Need-load-requires
+load-requires c κs = (record { noPlaces = refl; noCounts = refl }, record { blockRoom = search needs; weightRoom = search needs; orderRoom = search needs })
 
 enum-known-judged : tie.Need-enum-known-judged
 enum-known-judged c = search needs
@@ -37,7 +37,7 @@ slice-aggregate-evaluate-accepted-3 : tie.Need-slice-aggregate-evaluate-accepted
 slice-aggregate-evaluate-accepted-3 c = search needs
 
 evaluate-accepted-requires : tie.Need-evaluate-accepted-requires
-evaluate-accepted-requires c κs = let t = c .before .before .before .before .before .before .before .before .before .before .before .before .judge-into .ensures .tables _ (c .before .before .before .before .before .judged .given .1) in record { accepted = sym (c .before .before .before .before .before .before .before .before .before .before .before .before .judge-into .ensures .answer) ∙ c .before .before .before .before .before .judged .given .1; laid = t .laid; stepOrders = t .stepOrders }
+evaluate-accepted-requires c κs = let t = c .before .before .before .before .before .before .before .before .before .before .before .before .load .ensures .tables _ (c .before .before .before .before .before .judged .given .1) in record { accepted = sym (c .before .before .before .before .before .before .before .before .before .before .before .before .load .ensures .answer) ∙ c .before .before .before .before .before .judged .given .1; laid = t .laid; stepOrders = t .stepOrders }
 
 enum-known-judged-2 : tie.Need-enum-known-judged-2
 enum-known-judged-2 c = search needs
@@ -49,18 +49,18 @@ returns : tie.Need-returns
 returns c = c .before .before .evaluate-accepted .ensures
 
 returns-2 : tie.Need-returns-2
-returns-2 c = refused-book _ _ _ (sym (c .before .before .before .before .before .before .before .before .judge-into .ensures .answer) ∙ c .before .judged2 .given .1)
+returns-2 c = refused-book _ _ _ (sym (c .before .before .before .before .before .before .before .before .load .ensures .answer) ∙ c .before .judged2 .given .1)
 
 pub evaluate-spec : {M : Type 1} → statement M
 evaluate-spec =
     tie.close
     (tie.spec
-    slice-aggregate-judge-into
-    slice-aggregate-judge-into-2
-    slice-aggregate-judge-into-3
-    slice-aggregate-judge-into-4
-    slice-aggregate-judge-into-5
-    judge-into-requires
+    slice-aggregate-load
+    slice-aggregate-load-2
+    slice-aggregate-load-3
+    slice-aggregate-load-4
+    slice-aggregate-load-5
+    load-requires
     enum-known-judged
     slice-aggregate-evaluate-accepted
     slice-aggregate-evaluate-accepted-2

@@ -1,11 +1,11 @@
--- `judge::judge_into` meets its contract.
+-- `judge::load` meets its contract.
 -- Assumes nothing.
 use Rattle.judge.proofs.Faults.{refused, long, faulty, sound, read-sound, read-fault}
 use denote.Ref.{now}
 use mathlib.Core.Path.{_∙_}
 use borrow.Author.Needs.{needs}
-use Rattle.judge.proofs.judge_into.Statement.{statement}
-use Rattle.judge.proofs.judge_into.Tie as tie
+use Rattle.judge.proofs.load.Statement.{statement}
+use Rattle.judge.proofs.load.Tie as tie
 
 returns : tie.Need-returns
 returns c = refused (long (now (c .before .before .before .before .before .before .args .book)) (c .if1 .taken))
@@ -45,8 +45,8 @@ same-length-5 c = search needs
 returns-3 : tie.Need-returns-3
 returns-3 c = refused (faulty (now (c .before .before .before .before .before .before .before .before .before .before .before .before .before .args .book)) (c .before .before .before .before .before .before .before .if1 .left) (read-fault (c .before .before .before .before .before .read-records .ensures) (c .before .f .given .1)))
 
-pub judge-into-spec : {M : Type 1} → statement M
-judge-into-spec =
+pub load-spec : {M : Type 1} → statement M
+load-spec =
     tie.close
     (tie.spec
     returns
