@@ -147,7 +147,7 @@ module _ {bytes index orders : List ℕ} {n i : ℕ} {given memory : List ℕ} (
   pub all-links : n * 834 ≤ 26688
   all-links = let few = accepted-scopes bytes n (a .tabled .accepted) in omega (arith, few)
 
-  pub entry : {links own memo : List ℕ} → AllLinked bytes n links → length own ≡ 32 → AllKept own → Known bytes memo → Entry bytes index links orders i own memo
+  pub entry : {links own memo : List ℕ} → AllLinked bytes n links → length own ≡ 32 → AllKept own → Known bytes memo → Entry bytes index links orders i given own memo
   entry linked size kept known =
       record {
         world = record {
@@ -157,6 +157,8 @@ module _ {bytes index orders : List ℕ} {n i : ℕ} {given memory : List ℕ} (
           stepOrders = a .tabled .stepOrders;
         };
         scope = omega (arith, a .scope, total);
+        givenRoom = a .givenRoom;
+        givenKept = a .givenKept;
         room = size;
         kept = kept;
         known = known;

@@ -9,6 +9,7 @@ use Rattle.book.specs.Steps.{stepCount, stepOrder}
 use Rattle.book.specs.Judge.{judge}
 use Rattle.index.specs.Index.{Laid}
 use Rattle.answers.specs.declared.Judged.the-variants.{Accepted}
+use Rattle.cells.specs.Codec.{AllKept}
 use Rattle.lists.specs.Writing.{resultLengthAt}
 use Rattle.evaluation.specs.Types.{Fitting}
 use Rattle.evaluation.specs.Evaluate.{replyOf, evaluate, Replies}
@@ -22,10 +23,12 @@ pub record Tabled (bytes index orders : List ℕ) (n : ℕ) : Type 0 where
   pub stepOrders : (i : ℕ) → i < length (scopesOf bytes)
       → take (stepCount (scopeAt (scopesOf bytes) i)) (drop (i * 40) orders) ≡ stepOrder (scopeAt (scopesOf bytes) i)
 
--- scope i is there, what is given fits its variables, and its results have room
+-- scope i is there, what is given, in a cell for each variable, fits its variables, and its results have room
 pub record Asked (bytes index orders : List ℕ) (n i : ℕ) (given memory : List ℕ) : Type 0 where
   pub tabled : Tabled bytes index orders n
   pub scope : i < n
+  pub givenRoom : length given ≡ 32
+  pub givenKept : AllKept given
   pub fitting : Fitting (scopeAt (scopesOf bytes) i .variables) (givensFrom given 0 (length (scopeAt (scopesOf bytes) i .variables)))
   pub room : resultLengthAt (scopesOf bytes) i ≤ length memory
 

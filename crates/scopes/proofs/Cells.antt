@@ -1,4 +1,5 @@
 -- Cells written, and lists read from cells.
+--     valued, ends-by                     what a cell is of, by one comparison
 --     stored                              a value put into a cell is held there
 --     givens-at, givens-list              what is given, as a list
 --     values-at, values-held              the values that cells hold, as a list
@@ -12,27 +13,49 @@ use mathlib.Core.List.{List, [], _∷_, _++_, map}
 use native.Mathlib.Omega.{arith}
 use lib.ListN.{length, getD, set, take, drop, replicate, length-set, length-append, length-drop, List·getD-append}
 use lib.Seq.{getD-set-same, getD-set-other, getD-append-add, length-take-le, getD-take, getD-drop}
-use mir.Syntax.{w32}
-use mir.Val.{SFits}
-use Rattle.calculus.specs.Values.{numberOf}
 use Rattle.calculus.specs.declared.Value.{Value}
 use Rattle.calculus.specs.declared.Value.the-variants.{Truth}
+use Rattle.calculus.specs.declared.Outcome.{Outcome}
+use Rattle.calculus.specs.declared.Outcome.the-variants.{Gives, Ends}
 use Rattle.calculus.specs.declared.Given.{Given}
 use Rattle.calculus.specs.declared.Given.the-variants.{Absent, Present}
-use Rattle.cells.specs.Codec.{valueCell, AllKept}
+use Rattle.cells.specs.Codec.{emptyCell, cellOf, causeOf, Codes, Kept, AllKept}
 use Rattle.cells.specs.Cells.{givenOf, givenAt, held}
-use Rattle.cells.proofs.Variables.{given-cell, kept-nothing, kept-stored}
+use Rattle.cells.proofs.Codec.{cause-decoded, no-end, no-value}
+use Rattle.cells.proofs.Variables.{given-cell, kept-nothing, kept-value}
 use Rattle.lists.specs.Writing.{valuesFrom}
-use Rattle.scopes.specs.Steps.{Stored, givensFrom}
+use Rattle.scopes.specs.Steps.{givensFrom}
 
-pub stored : (xs : List ℕ) (at : ℕ) (v : Value) → SFits w32 (numberOf v) → at < length xs → Stored xs at v (set xs at (valueCell v))
+-- a value is in a cell, and the others are as they were
+pub record Stored (before : List ℕ) (at : ℕ) (v : Value) (after : List ℕ) : Type 0 where
+  pub size : length after ≡ length before
+  pub here : givenAt after at ≡ Present v
+  pub there : (x : ℕ) → (x ≡ at → ⊥) → givenAt after x ≡ givenAt before x
+
+-- a cell below every end is a value's
+pub record Valued (c : ℕ) (o : Outcome) : Type 0 where
+  pub value : Value
+  pub gives : o ≡ Gives value
+  pub held : givenOf c ≡ Present value
+  pub kept : Kept c
+
+pub valued : (o : Outcome) (c : ℕ) → Codes c o → c < emptyCell → Valued c o
+unfolding cellOf
+valued (Gives v) c h l = record { value = v; gives = refl; held = ap givenOf (h .is) ∙ given-cell v (h .fits); kept = kept-value c v h }
+valued (Ends k) c h l = no-value k c h l
+
+pub ends-by : (o : Outcome) (c : ℕ) → Codes c o → emptyCell ≤ c → o ≡ Ends (causeOf c)
+unfolding cellOf
+ends-by (Gives v) c h l = no-end v c h l
+ends-by (Ends k) c h l = ap Ends (sym (ap causeOf (h .is) ∙ cause-decoded k))
+
+pub stored : {o : Outcome} (xs : List ℕ) (at c : ℕ) (v : Valued c o) → at < length xs → Stored xs at (v .value) (set xs at c)
 unfolding givenAt
-stored xs at v f l =
+stored xs at c v l =
     record {
-      size = length-set xs at (valueCell v);
-      here = ap givenOf (getD-set-same xs at (valueCell v) 0 l) ∙ given-cell v f;
-      there = λ x ne. ap givenOf (getD-set-other xs at x (valueCell v) 0 ne);
-      kept = kept-stored xs at v f;
+      size = length-set xs at c;
+      here = ap givenOf (getD-set-same xs at c 0 l) ∙ v .held;
+      there = λ x ne. ap givenOf (getD-set-other xs at x c 0 ne);
     }
 
 -- cells that are nothing or a value's, taken apart and put together

@@ -1,5 +1,6 @@
 -- Entering a scope: the laws of `Running`, over the numbers that the code reads from its tables.
 --     earlier, callee                     a scope that is called has its block before the caller's, and can be entered
+--     step-given, step-tree               a variable's step
 --     turn-variable, end-variable, end-hand, turn-call, end-call    a turn of the loop
 -- Assumes nothing.
 use Prim.Native.Nat.{ℕ, zero, suc, _+_, _-_, _*_, _<_, _≤_}
@@ -8,14 +9,11 @@ use mathlib.Core.Bool.{Bool, true, false, false≢true, cond}
 use mathlib.Core.List.{List, [], _∷_, _++_}
 use mathlib.Core.Logic.{⊎-elim}
 use native.Mathlib.Omega.{arith}
-use lib.ListN.{length, getD, take, drop, replicate}
+use lib.ListN.{length, getD, set, take, drop, replicate}
 use lib.Seq.{take-all, getD-take, getD-drop}
 use lib.Dec.{eqb}
-use borrow.Author.Tests.{eqb-true}
-use Rattle.calculus.specs.declared.Value.{Value}
+use borrow.Author.Tests.{eqb-true, ne-eqb}
 use Rattle.answers.specs.declared.Cause.{Cause}
-use Rattle.calculus.specs.declared.Outcome.{Outcome}
-use Rattle.calculus.specs.declared.Outcome.the-variants.{Gives, Ends}
 use Rattle.order.specs.Order.{among}
 use Rattle.book.specs.Syntax.{Scope}
 use Rattle.book.specs.Decode.{scopesOf}
@@ -27,32 +25,37 @@ use Rattle.acceptance.specs.Accepted.{AcceptedBook}
 use Rattle.order.proofs.Among.{among-none}
 use Rattle.laws.proofs.Booleans.{decide}
 use Rattle.acceptance.proofs.Orders.{accepted-book, blocks-after}
-use Rattle.cells.specs.Codec.{AllKept}
+use Rattle.cells.specs.Codec.{emptyCell, causeOf, Codes, Kept, AllKept}
+use Rattle.cells.specs.Cells.{givenOf, givenAt}
+use Rattle.cells.proofs.Variables.{kept-put}
+use Rattle.trees.specs.Chains.{treeOutcome, Ready}
 use Rattle.trees.specs.Rows.{Evaluable}
 use Rattle.evaluation.specs.Run.{ended}
 use Rattle.evaluation.proofs.Entering.{accepted-complete, accepted-formed}
-use Rattle.scopes.specs.Steps.{stepOutcome, Stored, Assigned, HandedAll, enteredAt, Came}
+use Rattle.scopes.specs.Steps.{stepOutcome, HandedAll, enteredAt, Came}
 use Rattle.scopes.specs.Known.{Known, Noting, Entry}
 use Rattle.scopes.specs.declared.Ran.{Ran}
 use Rattle.scopes.specs.declared.Ran.the-variants.{Values, Ended}
+use Rattle.scopes.proofs.Cells.{Stored, valued, ends-by, stored}
 use Rattle.scopes.proofs.Running.{Running, call-below, start, variable-ends, variable-turn, call-stops, call-ends, ends-few, values-few, call-turn, stop}
 
 abbrev hasValues : Ran → Bool
 hasValues (Values m) = true
 hasValues (Ended c m) = false
 
-pub ended-came : {bytes : List ℕ} {i : ℕ} {given own : List ℕ} {c : Cause} {m : ℕ} → length own ≡ 32 → enteredAt bytes i given ≡ ended c m
+pub ended-came : {bytes : List ℕ} {i : ℕ} {given own : List ℕ} {c : Cause} {m : ℕ} → length own ≡ 32 → AllKept own → enteredAt bytes i given ≡ ended c m
     → Came bytes i given (Ended c m) own
-ended-came size e = record { size = size; same = sym e; present = λ m q x l. absurd (false≢true (ap hasValues q)); kept = λ m q. absurd (false≢true (ap hasValues q)) }
+ended-came size kept e = record { size = size; kept = kept; same = sym e; present = λ m q x l. absurd (false≢true (ap hasValues q)) }
 
--- a value is in its variable's cell; an end changes no cell
-pub assigns : {bytes given own called : List ℕ} {i x : ℕ} {o : Outcome} {v : Value} {after : List ℕ} → o ≡ stepOutcome bytes given own called i x → o ≡ Gives v
-    → Stored own x v after → Assigned bytes given own called i x (Gives v) after
-assigns e g put = record { outcome = sym g ∙ e; stored = put }
+-- a step comes to what is given, or to its tree
+module _ (bytes given own called : List ℕ) (i x : ℕ) where
+  pub step-given : Kept (getD given x 0) → (getD given x 0 ≡ 0 → ⊥) → Codes (getD given x 0) (stepOutcome bytes given own called i x)
+  unfolding stepOutcome givenAt givenOf
+  step-given k ne = rw (ne-eqb (getD given x 0) 0 ne) (rw (ne-eqb (getD given x 0) 0 ne) at k)
 
-pub assigns-none : {bytes given own called : List ℕ} {i x : ℕ} {o : Outcome} {c : Cause} → o ≡ stepOutcome bytes given own called i x → o ≡ Ends c
-    → Assigned bytes given own called i x o own
-assigns-none e g = record { outcome = e; stored = rw g refl }
+  pub step-tree : {c : ℕ} → getD given x 0 ≡ 0 → Codes c (treeOutcome bytes own called i 255 x) → Codes c (stepOutcome bytes given own called i x)
+  unfolding stepOutcome treeOutcome givenAt givenOf
+  step-tree e h = rw e h
 
 -- the place of a number in a list
 unfoldable pub placeOf : List ℕ → ℕ → ℕ
@@ -82,7 +85,7 @@ place-at (x ∷ xs) w h =
 abbrev pub rank : List ℕ → ℕ → ℕ
 rank bytes i = placeOf (blocks (scopesOf bytes)) i
 
-module _ {bytes index links orders : List ℕ} {i : ℕ} {own₀ memo₀ : List ℕ} (e : Entry bytes index links orders i own₀ memo₀) where
+module _ {bytes index links orders : List ℕ} {i : ℕ} {given₀ own₀ memo₀ : List ℕ} (e : Entry bytes index links orders i given₀ own₀ memo₀) where
   abbrev book : List Scope
   book = scopesOf bytes
 
@@ -94,6 +97,9 @@ module _ {bytes index links orders : List ℕ} {i : ℕ} {own₀ memo₀ : List 
 
   pub scope-few : i < 32
   scope-few = omega (arith, e .scope, accepted .scopes)
+
+  pub row-ready : Ready bytes index (take 834 (drop (i * 834) links)) i
+  row-ready = record { sound = e .world .sound; linked = e .world .linked .rows i (e .scope) }
 
   step-at : (n : ℕ) → n < stepCount s → getD orders (i * 40 + n) 0 ≡ getD (stepOrder s) n 0
   step-at n l =
@@ -116,38 +122,27 @@ module _ {bytes index links orders : List ℕ} {i : ℕ} {own₀ memo₀ : List 
       ∙ blocks-after book c f (rank bytes i) low k (omega (arith, long)) in
       subst (λ (z : ℕ). rank bytes z < rank bytes i) (sym is) (place-first (blocks book) (rank bytes i) (getD (s .subScopes) k 0) first)
 
-  pub callee : (k j : ℕ) (part memo : List ℕ) → k < length (s .subScopes) → j ≡ subScopeAt book i k → length part ≡ 32 → AllKept part → Known bytes memo
-      → Entry bytes index links orders j part memo
+  pub callee : (k j : ℕ) (handed part memo : List ℕ) → k < length (s .subScopes) → j ≡ subScopeAt book i k → length handed ≡ 32 → AllKept handed
+      → length part ≡ 32 → AllKept part → Known bytes memo → Entry bytes index links orders j handed part memo
   unfolding subScopeAt
-  callee k j part memo l is room kept known =
+  callee k j handed part memo l is long given room kept known =
       let f = accepted-formed bytes (length book) (e .world .accepted) in
       record {
         world = e .world;
         scope = subst (λ (z : ℕ). z < length book) (sym is) (f i (e .scope) .subScopesNamed k l);
+        givenRoom = long;
+        givenKept = given;
         room = room;
         kept = kept;
         known = known;
       }
 
   -- what is known can be read and written
-  pub noting : {own memo : List ℕ} → length own ≡ 32 → Known bytes memo → Noting bytes index i own memo
-  noting room known = record { laid = e .world .sound .laid; scope = scope-few; room = room; known = known }
+  pub noting : {own memo : List ℕ} → length own ≡ 32 → AllKept own → Known bytes memo → Noting bytes index i own memo
+  noting room kept known = record { laid = e .world .sound .laid; scope = scope-few; room = room; kept = kept; known = known }
 
   pub begins : (given own : List ℕ) → length own ≡ 32 → AllKept own → Running bytes i given own (replicate 256 0) (replicate 32 0) 1 0
   begins given own room kept = start bytes i given (e .world .accepted) (e .scope) own room kept
-
-  -- its trees can be evaluated
-  pub evaluable : {given own called handed : List ℕ} {count n : ℕ} → Running bytes i given own called handed count n
-      → Evaluable bytes index (take 834 (drop (i * 834) links)) own called i
-  evaluable r =
-      record {
-        ready = record { sound = e .world .sound; linked = e .world .linked .rows i (e .scope) };
-        scope = scope-few;
-        ownRoom = omega (arith, r .ownRoom);
-        calledRoom = omega (arith, r .calledRoom);
-        ownKept = r .ownKept;
-        calledKept = r .calledKept;
-      }
 
   pub ends : {given own called handed : List ℕ} {count n a b : ℕ} → Running bytes i given own called handed count n
       → a ≡ length (s .variables) → b ≡ length (s .subScopes) → a + b ≤ n → Came bytes i given (Values count) own
@@ -163,6 +158,17 @@ module _ {bytes index links orders : List ℕ} {i : ℕ} {own₀ memo₀ : List 
     is : x ≡ getD (stepOrder s) n 0
     is = at ∙ step-at n inside
 
+    pub evaluable : {row : List ℕ} → row ≡ take 834 (drop (i * 834) links) → Evaluable bytes index row own called i
+    evaluable f =
+        record {
+          ready = rw f row-ready;
+          scope = scope-few;
+          ownRoom = omega (arith, r .ownRoom);
+          calledRoom = omega (arith, r .calledRoom);
+          ownKept = r .ownKept;
+          calledKept = r .calledKept;
+        }
+
     pub step-few : n < 40
     step-few = omega (arith, va, vb, more, accepted .within i .variables, accepted .within i .subScopes)
 
@@ -173,22 +179,26 @@ module _ {bytes index links orders : List ℕ} {i : ℕ} {own₀ memo₀ : List 
       pub put-room : x < length own
       put-room = omega (arith, l, va, r .ownRoom, accepted .within i .variables)
 
-      module _ {o : Outcome} {own' : List ℕ} (h : Assigned bytes given own called i x o own') where
-        outcome : o ≡ stepOutcome bytes given own called i (getD (stepOrder s) n 0)
-        outcome = h .outcome ∙ ap (stepOutcome bytes given own called i) is
+      pub given-room : x < length given₀
+      given-room = omega (arith, l, va, e .givenRoom, accepted .within i .variables)
 
-        pub turn-variable : {v : Value} → o ≡ Gives v → Running bytes i given own' called handed count (n + 1)
-        turn-variable {v} g =
+      module _ {c : ℕ} (h : Codes c (stepOutcome bytes given own called i x)) where
+        pub turn-variable : c < emptyCell → Running bytes i given (set own x c) called handed count (n + 1)
+        turn-variable below =
             let z : n + 1 ≡ suc n = omega arith in
+            let w = valued (stepOutcome bytes given own called i x) c h below in
             rw z
-            (variable-turn bytes i given (e .world .accepted) (e .scope) r inside low o v own' outcome g
-            (subst (λ (y : ℕ). Stored own y v own') is (rw g at (h .stored))))
+            (variable-turn bytes i given (e .world .accepted) (e .scope) r inside low (w .value) (set own x c)
+            (ap (stepOutcome bytes given own called i) (sym is) ∙ w .gives)
+            (subst (λ (y : ℕ). Stored own y (w .value) (set own x c)) is (stored own x c w put-room))
+            (kept-put own x c (w .kept) (r .ownKept)))
 
-        pub kept-room : {c : Cause} → o ≡ Ends c → length own' ≡ 32
-        kept-room g = ap length (rw g at (h .stored)) ∙ r .ownRoom
-
-        pub end-variable : {c : Cause} → o ≡ Ends c → Came bytes i given (Ended c count) own'
-        end-variable {c} g = ended-came (kept-room g) (variable-ends bytes i given (e .world .accepted) (e .scope) r inside low o c outcome g)
+        pub end-variable : {d : Cause} → emptyCell ≤ c → d ≡ causeOf c → Came bytes i given (Ended d count) own
+        end-variable {d} high f =
+            rw f
+            (ended-came (r .ownRoom) (r .ownKept)
+            (variable-ends bytes i given (e .world .accepted) (e .scope) r inside low (causeOf c)
+            (ap (stepOutcome bytes given own called i) (sym is) ∙ ends-by (stepOutcome bytes given own called i x) c h high)))
 
     module _ (l : a ≤ x) where
       call : length (s .variables) + (x - a) ≡ getD (stepOrder s) n 0
@@ -203,27 +213,29 @@ module _ {bytes index links orders : List ℕ} {i : ℕ} {own₀ memo₀ : List 
       pub called-room : (x - a) * 32 + 32 ≤ length called
       called-room = let f = number-few in omega (arith, f, r .calledRoom)
 
-      module _ {o : Outcome} {handed' : List ℕ} (h : HandedAll bytes own called i (x - a) o handed') where
-        pub end-hand : {c : Cause} → o ≡ Ends c → Came bytes i given (Ended c count) own
-        end-hand {c} g = ended-came (r .ownRoom) (call-stops bytes i given (e .world .accepted) (e .scope) r inside (x - a) call h c g)
+      module _ {c : ℕ} {handed' : List ℕ} (h : HandedAll bytes own called i (x - a) c handed') where
+        pub end-hand : {d : Cause} → emptyCell ≤ c → d ≡ causeOf c → Came bytes i given (Ended d count) own
+        end-hand {d} high f =
+            rw f
+            (ended-came (r .ownRoom) (r .ownKept) (call-stops bytes i given (e .world .accepted) (e .scope) r inside (x - a) call h high))
 
-        module _ {y : Value} (g : o ≡ Gives y) {j : ℕ} (ji : j ≡ subScopeAt book i (x - a)) {q : Ran} {part : List ℕ} (came : Came bytes j handed' q part) where
+        module _ (below : c < emptyCell) {j : ℕ} (ji : j ≡ subScopeAt book i (x - a)) {q : Ran} {part : List ℕ} (came : Came bytes j handed' q part) where
           came' : Came bytes (getD (s .subScopes) (x - a) 0) handed' q part
           unfolding subScopeAt
           came' = subst (λ (z : ℕ). Came bytes z handed' q part) ji came
 
-          pub few-ended : {c : Cause} {m : ℕ} → q ≡ Ended c m → count + m ≤ 4096
-          few-ended {c} {m} f = ends-few bytes i given (e .world .accepted) (e .scope) r inside (x - a) call h y g came' c m f
+          pub few-ended : {d : Cause} {m : ℕ} → q ≡ Ended d m → count + m ≤ 4096
+          few-ended {d} {m} f = ends-few bytes i given (e .world .accepted) (e .scope) r inside (x - a) call h below came' d m f
 
           pub few-values : {m : ℕ} → q ≡ Values m → count + m ≤ 4096
-          few-values {m} f = values-few bytes i given (e .world .accepted) (e .scope) r inside (x - a) call h y g came' m f
+          few-values {m} f = values-few bytes i given (e .world .accepted) (e .scope) r inside (x - a) call h below came' m f
 
-          pub end-call : {c : Cause} {m : ℕ} → q ≡ Ended c m → Came bytes i given (Ended c (count + m)) own
-          end-call {c} {m} f =
-              ended-came (r .ownRoom) (call-ends bytes i given (e .world .accepted) (e .scope) r inside (x - a) call h y g came' c m f)
+          pub end-call : {d : Cause} {m : ℕ} → q ≡ Ended d m → Came bytes i given (Ended d (count + m)) own
+          end-call {d} {m} f =
+              ended-came (r .ownRoom) (r .ownKept) (call-ends bytes i given (e .world .accepted) (e .scope) r inside (x - a) call h below came' d m f)
 
           pub turn-call : {m : ℕ} (w : ℕ) → w ≡ 32 → q ≡ Values m
               → Running bytes i given own (take ((x - a) * 32) called ++ (part ++ drop w (drop ((x - a) * 32) called))) handed' (count + m) (n + 1)
           turn-call {m} w wide f =
               let z : n + 1 ≡ suc n = omega arith in
-              rw (z, wide) (call-turn bytes i given (e .world .accepted) (e .scope) r inside (x - a) call h y g came' m f)
+              rw (z, wide) (call-turn bytes i given (e .world .accepted) (e .scope) r inside (x - a) call h below came' m f)

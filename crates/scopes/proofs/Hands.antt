@@ -1,7 +1,7 @@
 -- Handing over the variables of a sub-scope.
 --     overrides-over                      the overrides of a call, without what follows them
 --     over-agrees                         they are the same in environments that agree on the override trees
---     hands-none, hands-value, hands-end  one variable
+--     hands-none, hands-tree              one variable
 --     none-passed, pass, halt, end        all of them, in a loop
 -- Assumes nothing.
 use Prim.Native.Nat.{ℕ, zero, suc, _+_, _-_, _<_, _≤_}
@@ -13,16 +13,17 @@ use native.Mathlib.Omega.{arith}
 use lib.ListN.{length, set, length-set}
 use lib.Seq.{getD-set-same, getD-set-other}
 use lib.Dec.{ltb}
-use borrow.Author.Tests.{ltb-true, ltb-false}
+use borrow.Author.Tests.{lt-ltb, le-ltb, ltb-true, ltb-false}
 use Rattle.calculus.specs.Evaluation.{Env, eval}
-use Rattle.calculus.specs.declared.Value.{Value}
 use Rattle.answers.specs.declared.Cause.{Cause}
 use Rattle.calculus.specs.declared.Outcome.{Outcome}
 use Rattle.calculus.specs.declared.Outcome.the-variants.{Gives, Ends}
 use Rattle.calculus.specs.declared.Given.{Given}
 use Rattle.calculus.specs.declared.Given.the-variants.{Absent, Present}
 use Rattle.laws.proofs.Booleans.{decide}
+use Rattle.cells.specs.Codec.{emptyCell, causeOf, Codes, AllKept}
 use Rattle.cells.specs.Cells.{givenOf, givenAt}
+use Rattle.cells.proofs.Variables.{kept-nothing, kept-put}
 use Rattle.book.specs.Syntax.{Scope}
 use Rattle.book.specs.Decode.{scopesOf}
 use Rattle.book.specs.References.{scopeAt}
@@ -31,7 +32,8 @@ use Rattle.book.specs.declared.Variable.{Variable}
 use Rattle.terms.specs.Outcomes as cells
 use Rattle.trees.specs.Chains.{treeOutcome, clauseFor}
 use Rattle.evaluation.specs.Run.{Entered, ended, State, envOf, onValue, overrides}
-use Rattle.scopes.specs.Steps.{Stored, Handed, hands, stops, handOf, override, overrideAt, handView, HandedOne, givensFrom, Over, all, stopped, also, overAll, calledCount, overView, HandedAll}
+use Rattle.scopes.specs.Steps.{hands, stops, handOf, override, overrideAt, handedOf, Hands, givensFrom, Over, all, stopped, also, overAll, calledCount, HandedAll}
+use Rattle.scopes.proofs.Cells.{valued, ends-by}
 
 abbrev pub onOver : Over → ℕ → (List Given → Entered) → Entered
 onOver (all gs) count go = go gs
@@ -100,87 +102,69 @@ less-or-same : (u v : ℕ) → u < v + 1 → (u < v) ⊎ (u ≡ v)
 less-or-same u v l =
     ⊎-elim (λ (q : ltb u v ≡ true). inl (ltb-true u v q)) (λ (q : ltb u v ≡ false). inr (omega (arith, ltb-false u v q))) (decide (ltb u v))
 
--- one more variable
+-- one variable is handed over
+module _ (bytes own called : List ℕ) (i k v : ℕ) where
+  pub hands-none : clauseFor bytes i k v ≡ false → Hands bytes own called i k v 0
+  unfolding overrideAt clauseFor givenOf
+  hands-none q = record { same = rw q refl; kept = λ l. kept-nothing }
+
+  pub hands-tree : (c : ℕ) → clauseFor bytes i k v ≡ true → Codes c (treeOutcome bytes own called i k v) → Hands bytes own called i k v c
+  unfolding overrideAt clauseFor treeOutcome
+  hands-tree c q h = record { same = rw q (handed _ h); kept = λ l. valued _ c h l .kept }
+    where
+      handed : (o : Outcome) → Codes c o → handedOf c ≡ handOf o
+      handed o h =
+          ⊎-elim
+          (λ (t : ltb c emptyCell ≡ true). let w = valued o c h (ltb-true c emptyCell t) in rw (t, w .gives) (ap hands (w .held)))
+          (λ (t : ltb c emptyCell ≡ false). rw (t, ends-by o c h (ltb-false c emptyCell t)))
+          (decide (ltb c emptyCell))
+
+-- the cells hold what the variables below v are handed
 pub record Passed (bytes own called : List ℕ) (i k : ℕ) (handed : List ℕ) (v : ℕ) : Type 0 where
   pub size : length handed ≡ 32
+  pub kept : AllKept handed
   pub at : v ≤ calledCount (scopesOf bytes) i k
   pub done : (u : ℕ) → u < v → override (cells.envOf own called) (scopeAt (scopesOf bytes) i) k u ≡ hands (givenAt handed u)
 
-view-gives : (r : Outcome) (y : Value) (g : Given) (o : Handed) → handView r g ≡ o → r ≡ Gives y → o ≡ hands g
-view-gives r y g o e q = sym e ∙ ap (λ (x : Outcome). handView x g) q
+pub none-passed : {bytes own called : List ℕ} {i k : ℕ} {handed : List ℕ} → length handed ≡ 32 → AllKept handed → Passed bytes own called i k handed 0
+none-passed e h = record { size = e; kept = h; at = omega arith; done = λ u l. absurd (omega arith) }
 
-view-ends : (r : Outcome) (c : Cause) (g : Given) (o : Handed) → handView r g ≡ o → r ≡ Ends c → o ≡ stops c
-view-ends r c g o e q = sym e ∙ ap (λ (x : Outcome). handView x g) q
-
-pub none-passed : {bytes own called : List ℕ} {i k : ℕ} {handed : List ℕ} → length handed ≡ 32 → Passed bytes own called i k handed 0
-none-passed e = record { size = e; at = omega arith; done = λ u l. absurd (omega arith) }
-
--- one variable is handed over
-module _ (bytes own called : List ℕ) (i k v : ℕ) (handed : List ℕ) where
-  pub hands-none : clauseFor bytes i k v ≡ false → v < length handed → (y : Value) → HandedOne bytes own called i k v handed (Gives y) (set handed v 0)
-  unfolding overrideAt clauseFor givenAt
-  hands-none q l y =
+module _ {bytes own called : List ℕ} {i k v : ℕ} {handed : List ℕ} {c : ℕ} (p : Passed bytes own called i k handed v)
+    (l : v < calledCount (scopesOf bytes) i k) (h : Hands bytes own called i k v c) where
+  pub pass : c < emptyCell → v < length handed → Passed bytes own called i k (set handed v c) (v + 1)
+  unfolding overrideAt givenAt
+  pass low room =
+      let here : hands (givenOf c) ≡ override (cells.envOf own called) (scopeAt (scopesOf bytes) i) k v = rw (lt-ltb c emptyCell low) at (h .same) in
       record {
-        size = length-set handed v 0;
-        here = rw (q, getD-set-same handed v 0 0 l) nothing-held;
-        there = λ x ne. ap givenOf (getD-set-other handed v x 0 0 ne);
-      }
-    where
-      nothing-held : hands (givenOf 0) ≡ hands Absent
-      nothing-held = unfold givenOf in refl
-
-  pub hands-value : (o : Outcome) (y : Value) (after : List ℕ) → clauseFor bytes i k v ≡ true → o ≡ treeOutcome bytes own called i k v → o ≡ Gives y
-      → Stored handed v y after → HandedOne bytes own called i k v handed (Gives y) after
-  unfolding overrideAt clauseFor treeOutcome
-  hands-value o y after q e g put =
-      record {
-        size = put .size;
-        here = rw (q, sym e ∙ g) (ap hands (put .here));
-        there = put .there;
-      }
-
-  pub hands-end : (o : Outcome) (c : Cause) → clauseFor bytes i k v ≡ true → o ≡ treeOutcome bytes own called i k v → o ≡ Ends c
-      → HandedOne bytes own called i k v handed o handed
-  unfolding overrideAt clauseFor treeOutcome
-  hands-end o c q e g =
-      record {
-        size = refl;
-        here = ap (λ (z : Outcome). handView z (givenAt handed v)) g ∙ rw (q, sym e ∙ g);
-        there = λ x ne. refl;
-      }
-
-module _ {bytes own called : List ℕ} {i k v : ℕ} {handed after : List ℕ} {r : Outcome} (p : Passed bytes own called i k handed v)
-    (l : v < calledCount (scopesOf bytes) i k) (h : HandedOne bytes own called i k v handed r after) where
-  pub pass : (y : Value) → r ≡ Gives y → Passed bytes own called i k after (v + 1)
-  unfolding overrideAt
-  pass y e =
-      record {
-        size = h .size ∙ p .size;
+        size = length-set handed v c ∙ p .size;
+        kept = kept-put handed v c (h .kept low) (p .kept);
         at = omega arith;
         done = λ u m.
             ⊎-elim
-            (λ (q : u < v). p .done u q ∙ ap hands (sym (h .there u (λ z. omega arith))))
-            (λ (q : u ≡ v). rw q (view-gives r y (givenAt after v) _ (h .here) e))
+            (λ (q : u < v). p .done u q ∙ ap (λ (n : ℕ). hands (givenOf n)) (sym (getD-set-other handed v u c 0 (λ z. omega arith))))
+            (λ (q : u ≡ v). rw q (sym here ∙ ap (λ (n : ℕ). hands (givenOf n)) (sym (getD-set-same handed v c 0 room))))
             (less-or-same u v (omega arith));
       }
 
-  pub halt : (c : Cause) → r ≡ Ends c → HandedAll bytes own called i k r after
+  pub halt : emptyCell ≤ c → HandedAll bytes own called i k c handed
   unfolding overrideAt
-  halt c e =
+  halt high =
       let z : 0 + v ≡ v = omega arith in
       let env = cells.envOf own called in
       let s = scopeAt (scopesOf bytes) i in
-      let stopped-here : override env s k (0 + v) ≡ stops c = ap (override env s k) z ∙ view-ends r c (givenAt after v) _ (h .here) e in
+      let here : stops (causeOf c) ≡ override env s k v = rw (le-ltb c emptyCell high) at (h .same) in
       record {
-        size = h .size ∙ p .size;
-        same = ap (λ (x : Outcome). overView x (givensFrom after 0 (calledCount (scopesOf bytes) i k))) e
-            ∙ sym (over-stopped env s k handed 0 v (calledCount (scopesOf bytes) i k) c l (λ u a b. p .done u (omega arith)) stopped-here);
+        size = p .size;
+        kept = p .kept;
+        same = rw (le-ltb c emptyCell high)
+            (sym (over-stopped env s k handed 0 v (calledCount (scopesOf bytes) i k) (causeOf c) l (λ u a b. p .done u (omega arith)) (ap (override env s k) z ∙ sym here)));
       }
 
 pub end : {bytes own called : List ℕ} {i k v : ℕ} {handed : List ℕ} → Passed bytes own called i k handed v → calledCount (scopesOf bytes) i k ≤ v
-    → (y : Value) → HandedAll bytes own called i k (Gives y) handed
-end {bytes} {own} {called} {i} {k} {v} {handed} p l y =
+    → HandedAll bytes own called i k 0 handed
+end {bytes} {own} {called} {i} {k} {v} {handed} p l =
     record {
       size = p .size;
+      kept = p .kept;
       same = sym (over-all (cells.envOf own called) (scopeAt (scopesOf bytes) i) k handed 0 (calledCount (scopesOf bytes) i k) (λ u a b. p .done u (omega (arith, p .at))));
     }

@@ -3,12 +3,17 @@
 --     nothing-known                       before the first scope
 -- Assumes nothing.
 use Prim.Native.Nat.{ℕ, zero, suc, _+_, _<_}
-use mathlib.Core.Path.{_≡_, refl, sym, _∙_}
-use mathlib.Core.Bool.{Bool, true}
+use mathlib.Core.Path.{_≡_, refl, sym, subst, _∙_}
+use mathlib.Core.Bool.{Bool, true, false}
 use mathlib.Core.List.{List, []}
+use mathlib.Core.Logic.{⊎-elim}
 use native.Mathlib.Omega.{arith}
+use lib.Dec.{eqb}
+use borrow.Author.Tests.{eqb-true, eqb-false}
 use lib.ListN.{length, replicate}
 use Rattle.calculus.specs.declared.Given.the-variants.{Absent}
+use Rattle.laws.proofs.Booleans.{decide}
+use Rattle.cells.specs.Codec.{AllKept}
 use Rattle.cells.specs.Cells.{givenOf, givenAt}
 use Rattle.book.specs.Decode.{scopesOf}
 use Rattle.book.specs.References.{scopeAt}
@@ -40,11 +45,11 @@ entered-none bytes i given h =
 
 came-none : (bytes : List ℕ) (i : ℕ) (given : List ℕ) (r : Ran) (own : List ℕ) → NoneGiven given (length (scopeAt (scopesOf bytes) i .variables))
     → Came bytes i given r own → Came bytes i [] r own
-came-none bytes i given r own h c = record { size = c .size; same = c .same ∙ entered-none bytes i given h; present = c .present; kept = c .kept }
+came-none bytes i given r own h c = record { size = c .size; kept = c .kept; same = c .same ∙ entered-none bytes i given h; present = c .present }
 
 none-came : (bytes : List ℕ) (i : ℕ) (given : List ℕ) (r : Ran) (own : List ℕ) → NoneGiven given (length (scopeAt (scopesOf bytes) i .variables))
     → Came bytes i [] r own → Came bytes i given r own
-none-came bytes i given r own h c = record { size = c .size; same = c .same ∙ sym (entered-none bytes i given h); present = c .present; kept = c .kept }
+none-came bytes i given r own h c = record { size = c .size; kept = c .kept; same = c .same ∙ sym (entered-none bytes i given h); present = c .present }
 
 -- Rows
 
@@ -56,13 +61,19 @@ module _ {bytes index : List ℕ} {i : ℕ} {own memo : List ℕ} (n : Noting by
     bare : b ≡ true → NoneGiven given (length (scopeAt (scopesOf bytes) i .variables))
     bare t x l = u .none t x (omega (arith, v))
 
-    pub recalled : {own' : List ℕ} {r : ℕ} → length own' ≡ 32 → cells.Recalled memo i b own r own' → Recalled bytes i given own r own'
+    pub recalled : {own' : List ℕ} {r : ℕ} → length own' ≡ 32 → cells.Recalled memo i b own r own' → Recalled bytes i given r own'
     recalled {own'} {r} s f =
         record {
           size = s;
-          same = f .kept;
-          found = λ ne. none-came bytes i given (Values r) own' (bare (f .found ne .0)) (kept-found _ (n .known) (n .scope) f ne);
+          kept = ⊎-elim
+              (λ (q : eqb r 0 ≡ true). subst AllKept (sym (f .kept (eqb-true r 0 q))) (n .kept))
+              (λ (q : eqb r 0 ≡ false). came (eqb-false r 0 q) .kept)
+              (decide (eqb r 0));
+          found = came;
         }
+      where
+        came : (r ≡ 0 → ⊥) → Came bytes i given (Values r) own'
+        came ne = none-came bytes i given (Values r) own' (bare (f .found ne .0)) (kept-found _ (n .known) (n .scope) f ne)
 
     pub noted : {memo' : List ℕ} {m : ℕ} → Came bytes i given (Values m) own → length memo' ≡ 1056 → Remembered own m i b memo memo' → Known bytes memo'
     noted {memo'} {m} came s w =

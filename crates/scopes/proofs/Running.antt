@@ -26,7 +26,7 @@ use Rattle.calculus.specs.declared.Given.the-variants.{Absent, Present}
 use Rattle.order.specs.Order.{among}
 use Rattle.laws.proofs.Booleans.{decide, or-cases}
 use Rattle.order.proofs.Among.{among-snoc, among-none}
-use Rattle.cells.specs.Codec.{AllKept}
+use Rattle.cells.specs.Codec.{emptyCell, causeOf, AllKept}
 use Rattle.cells.specs.Cells.{givenAt, held}
 use Rattle.book.specs.Syntax.{Scope}
 use Rattle.book.specs.Decode.{scopesOf}
@@ -49,10 +49,10 @@ use Rattle.evaluation.specs.Run.{Entered, values, ended, State, envOf, onValue,
 use Rattle.evaluation.proofs.Running.{countOf, steps-count}
 use Rattle.evaluation.proofs.Entering.{accepted-entered-steps}
 use Rattle.evaluation.proofs.Counts.{bounded-count, entered-bounded}
-use Rattle.scopes.specs.Steps.{stepOutcome, Stored, givensFrom, overAll, calledCount, overView, HandedAll, enteredAt, ranView, Came}
+use Rattle.scopes.specs.Steps.{stepOutcome, givensFrom, all, stopped, overAll, calledCount, HandedAll, enteredAt, ranView, Came}
 use Rattle.scopes.specs.declared.Ran.{Ran}
 use Rattle.scopes.specs.declared.Ran.the-variants.{Values, Ended}
-use Rattle.scopes.proofs.Cells.{givens-at, values-at, values-held, kept-none, kept-pasted, pasted, pasted-length, pasted-in, pasted-before, pasted-after}
+use Rattle.scopes.proofs.Cells.{Stored, givens-at, values-at, values-held, pasted, pasted-length, pasted-in, pasted-before, pasted-after, kept-pasted, kept-none}
 use Rattle.scopes.proofs.Hands.{onOver, overrides-over, over-agrees}
 
 -- the first n steps are done
@@ -67,10 +67,11 @@ pub record Running (bytes : List ℕ) (i : ℕ) (given own called handed : List 
   pub ownRoom : length own ≡ 32
   pub calledRoom : length called ≡ 256
   pub handedRoom : length handed ≡ 32
-  pub ownLength : length (state .own) ≡ length (scopeAt (scopesOf bytes) i .variables)
-  pub calledLength : length (state .called) ≡ length (scopeAt (scopesOf bytes) i .subScopes)
   pub ownKept : AllKept own
   pub calledKept : AllKept called
+  pub handedKept : AllKept handed
+  pub ownLength : length (state .own) ≡ length (scopeAt (scopesOf bytes) i .variables)
+  pub calledLength : length (state .called) ≡ length (scopeAt (scopesOf bytes) i .subScopes)
   pub rest :
       runSteps (scopesOf bytes) (enter (scopesOf bytes) (reverse (blocks (scopesOf bytes)))) (scopeAt (scopesOf bytes) i)
       (givensFrom given 0 (length (scopeAt (scopesOf bytes) i .variables))) (drop n (stepOrder (scopeAt (scopesOf bytes) i))) state
@@ -127,10 +128,11 @@ module _ (bytes : List ℕ) (i : ℕ) (given : List ℕ) (ok : judge bytes ≡ A
         ownRoom = size;
         calledRoom = refl;
         handedRoom = refl;
-        ownLength = length-map (s .variables) _;
-        calledLength = length-map (s .subScopes) _;
         ownKept = kept;
         calledKept = kept-none 256;
+        handedKept = kept-none 32;
+        ownLength = length-map (s .variables) _;
+        calledLength = length-map (s .subScopes) _;
         rest = sym (accepted-entered-steps bytes (length book) ok i here gs);
         owns = λ x l d. among-none x d;
         calls = λ k x l m d. among-none (vars + k) d;
@@ -188,15 +190,15 @@ module _ (bytes : List ℕ) (i : ℕ) (given : List ℕ) (ok : judge bytes ≡ A
           (λ v. runSteps book all-blocks s gs (drop (suc n) (stepOrder s)) (record { own = set (r .state .own) x (Present v); called = r .state .called; count = r .state .count }))
       whole = sym (r .rest) ∙ ap (λ (xs : List ℕ). runSteps book all-blocks s gs xs (r .state)) next ∙ run
 
-      pub variable-ends : (o : Outcome) (c : Cause) → o ≡ stepOutcome bytes given own called i x → o ≡ Ends c → enteredAt bytes i given ≡ ended c count
-      variable-ends o c e q =
+      pub variable-ends : (c : Cause) → stepOutcome bytes given own called i x ≡ Ends c → enteredAt bytes i given ≡ ended c count
+      variable-ends c q =
           whole
-          ∙ ap (λ (z : Outcome). onValue z (r .state .count) (λ v. runSteps book all-blocks s gs (drop (suc n) (stepOrder s)) (record { own = set (r .state .own) x (Present v); called = r .state .called; count = r .state .count }))) (sym e ∙ q)
+          ∙ ap (λ (z : Outcome). onValue z (r .state .count) (λ v. runSteps book all-blocks s gs (drop (suc n) (stepOrder s)) (record { own = set (r .state .own) x (Present v); called = r .state .called; count = r .state .count }))) q
           ∙ ap (ended c) (r .counted)
 
-      pub variable-turn : (o : Outcome) (v : Value) (own' : List ℕ) → o ≡ stepOutcome bytes given own called i x → o ≡ Gives v → Stored own x v own'
+      pub variable-turn : (v : Value) (own' : List ℕ) → stepOutcome bytes given own called i x ≡ Gives v → Stored own x v own' → AllKept own'
           → Running bytes i given own' called handed count (suc n)
-      variable-turn o v own' e q put =
+      variable-turn v own' q put kept =
           let st = r .state in
           let new : State = record { own = set (st .own) x (Present v); called = st .called; count = st .count } in
           let there : x < length (st .own) = omega (arith, r .ownLength) in
@@ -207,13 +209,14 @@ module _ (bytes : List ℕ) (i : ℕ) (given : List ℕ) (ok : judge bytes ≡ A
             ownRoom = put .size ∙ r .ownRoom;
             calledRoom = r .calledRoom;
             handedRoom = r .handedRoom;
+            ownKept = kept;
+            calledKept = r .calledKept;
+            handedKept = r .handedKept;
             ownLength = length-set (st .own) x (Present v) ∙ r .ownLength;
             calledLength = r .calledLength;
-            ownKept = put .kept (r .ownKept);
-            calledKept = r .calledKept;
             rest = sym
                 (whole
-                ∙ ap (λ (z : Outcome). onValue z (st .count) (λ v. runSteps book all-blocks s gs (drop (suc n) (stepOrder s)) (record { own = set (st .own) x (Present v); called = st .called; count = st .count }))) (sym e ∙ q));
+                ∙ ap (λ (z : Outcome). onValue z (st .count) (λ v. runSteps book all-blocks s gs (drop (suc n) (stepOrder s)) (record { own = set (st .own) x (Present v); called = st .called; count = st .count }))) q);
             owns = λ y l d.
                 ⊎-elim
                 (λ (p : eqb y x ≡ true).
@@ -263,26 +266,26 @@ module _ (bytes : List ℕ) (i : ℕ) (given : List ℕ) (ok : judge bytes ≡ A
       whole-call : enteredAt bytes i given ≡ onOver (overAll (cells.envOf own called) s k 0 (calledCount book i k)) (r .state .count) later
       whole-call = sym (r .rest) ∙ ap (λ (xs : List ℕ). runSteps book all-blocks s gs xs (r .state)) next ∙ run-call
 
-      module _ {o : Outcome} {handed' : List ℕ} (h : HandedAll bytes own called i k o handed') where
-        pub call-stops : (c : Cause) → o ≡ Ends c → enteredAt bytes i given ≡ ended c count
-        call-stops c q =
-            whole-call
-            ∙ ap (λ z. onOver z (r .state .count) later) (sym (h .same) ∙ ap (λ (z : Outcome). overView z (givensFrom handed' 0 (calledCount book i k))) q)
-            ∙ ap (ended c) (r .counted)
+      module _ {o : ℕ} {handed' : List ℕ} (h : HandedAll bytes own called i k o handed') where
+        pub call-stops : emptyCell ≤ o → enteredAt bytes i given ≡ ended (causeOf o) count
+        call-stops high =
+            let q : stopped (causeOf o) ≡ overAll (cells.envOf own called) s k 0 (calledCount book i k) = rw (le-ltb o emptyCell high) at (h .same) in
+            whole-call ∙ ap (λ z. onOver z (r .state .count) later) (sym q) ∙ ap (ended (causeOf o)) (r .counted)
 
-        handed-over : (y : Value) → o ≡ Gives y → enteredAt bytes i given ≡ later (givensFrom handed' 0 (calledCount book i k))
-        handed-over y q =
-            whole-call
-            ∙ ap (λ z. onOver z (r .state .count) later) (sym (h .same) ∙ ap (λ (z : Outcome). overView z (givensFrom handed' 0 (calledCount book i k))) q)
+        handed-over : o < emptyCell → enteredAt bytes i given ≡ later (givensFrom handed' 0 (calledCount book i k))
+        handed-over low =
+            let q : all (givensFrom handed' 0 (calledCount book i k)) ≡ overAll (cells.envOf own called) s k 0 (calledCount book i k) =
+            rw (lt-ltb o emptyCell low) at (h .same) in
+            whole-call ∙ ap (λ z. onOver z (r .state .count) later) (sym q)
 
         -- the scope entered came to q
-        module _ (y : Value) (gave : o ≡ Gives y) {q : Ran} {part : List ℕ} (came : Came bytes j handed' q part) where
+        module _ (low : o < emptyCell) {q : Ran} {part : List ℕ} (came : Came bytes j handed' q part) where
           pub call-came : enteredAt bytes i given
               ≡ onEntered (ranView q part (calledCount book i k)) (r .state .count)
               (λ vs m. runSteps book all-blocks s gs (drop (suc n) (stepOrder s)) (record { own = r .state .own; called = set (r .state .called) k vs; count = m }))
           unfolding enteredAt
           call-came =
-              handed-over y gave
+              handed-over low
               ∙ ap (λ (z : Entered). onEntered z (r .state .count) (λ vs m. runSteps book all-blocks s gs (drop (suc n) (stepOrder s)) (record { own = r .state .own; called = set (r .state .called) k vs; count = m }))) (sym (came .same))
 
           pub call-ends : (c : Cause) (m : ℕ) → q ≡ Ended c m → enteredAt bytes i given ≡ ended c (count + m)
@@ -322,10 +325,11 @@ module _ (bytes : List ℕ) (i : ℕ) (given : List ℕ) (ok : judge bytes ≡ A
                 ownRoom = r .ownRoom;
                 calledRoom = pasted-length called part (k * 32) 32 (came .size) room ∙ r .calledRoom;
                 handedRoom = h .size;
+                ownKept = r .ownKept;
+                calledKept = kept-pasted called (k * 32) 32 part (r .calledKept) (came .kept);
+                handedKept = h .kept;
                 ownLength = r .ownLength;
                 calledLength = length-set (st .called) k (valuesOf part (calledCount book i k)) ∙ r .calledLength;
-                ownKept = r .ownKept;
-                calledKept = kept-pasted called (k * 32) 32 part (r .calledKept) (came .kept m e);
                 rest = sym (call-values m e);
                 owns = λ y l d.
                     ⊎-elim (λ (p : Done bytes i n y). r .owns y l p) (λ (p : y ≡ x). absurd (omega arith)) (done-now y d);
@@ -376,7 +380,7 @@ module _ (bytes : List ℕ) (i : ℕ) (given : List ℕ) (ok : judge bytes ≡ A
       ∙ ap (valuesOf own) (r .ownLength) in
       record {
         size = r .ownRoom;
+        kept = r .ownKept;
         same = sym (λ t. values (vals t) (r .counted t)) ∙ over;
         present = λ m e x h. ap isGiven (held-own x h);
-        kept = λ m e. r .ownKept;
       }

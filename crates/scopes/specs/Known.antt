@@ -20,18 +20,21 @@ pub record Noting (bytes index : List ℕ) (i : ℕ) (own memo : List ℕ) : Typ
   pub laid : Laid bytes index
   pub scope : i < 32
   pub room : length own ≡ 32
+  pub kept : AllKept own
   pub known : Known bytes memo
 
--- where the answer is not 0, it is the count of scopes entered, and the cells hold the values; else they are as they were
-pub record Recalled (bytes : List ℕ) (i : ℕ) (given before : List ℕ) (r : ℕ) (own : List ℕ) : Type 0 where
+-- where the answer is not 0, it is the count of scopes entered, and the cells hold the values
+pub record Recalled (bytes : List ℕ) (i : ℕ) (given : List ℕ) (r : ℕ) (own : List ℕ) : Type 0 where
   pub size : length own ≡ 32
-  pub same : r ≡ 0 → own ≡ before
+  pub kept : AllKept own
   pub found : (r ≡ 0 → ⊥) → Came bytes i given (Values r) own
 
--- scope i can be entered
-pub record Entry (bytes index links orders : List ℕ) (i : ℕ) (own memo : List ℕ) : Type 0 where
+-- scope i can be entered: its variables have cells, with nothing or a value in each
+pub record Entry (bytes index links orders : List ℕ) (i : ℕ) (given own memo : List ℕ) : Type 0 where
   pub world : World bytes index links orders
   pub scope : i < length (scopesOf bytes)
+  pub givenRoom : length given ≡ 32
+  pub givenKept : AllKept given
   pub room : length own ≡ 32
   pub kept : AllKept own
   pub known : Known bytes memo

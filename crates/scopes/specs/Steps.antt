@@ -4,15 +4,15 @@ use mathlib.Core.Path.{_≡_}
 use mathlib.Core.Bool.{true, cond}
 use mathlib.Core.List.{List, [], _∷_, reverse}
 use lib.ListN.{length, getD, take, drop}
+use lib.Dec.{ltb}
 use Rattle.calculus.specs.Evaluation.{Env, eval, step}
-use Rattle.calculus.specs.declared.Value.{Value}
 use Rattle.answers.specs.declared.Cause.{Cause}
 use Rattle.calculus.specs.declared.Outcome.{Outcome}
 use Rattle.calculus.specs.declared.Outcome.the-variants.{Gives, Ends}
 use Rattle.calculus.specs.declared.Given.{Given}
 use Rattle.calculus.specs.declared.Given.the-variants.{Absent, Present}
-use Rattle.cells.specs.Codec.{AllKept}
-use Rattle.cells.specs.Cells.{givenAt}
+use Rattle.cells.specs.Codec.{emptyCell, causeOf, Kept, AllKept}
+use Rattle.cells.specs.Cells.{givenOf, givenAt}
 use Rattle.book.specs.Syntax.{Scope}
 use Rattle.book.specs.Decode.{scopesOf}
 use Rattle.book.specs.References.{scopeAt}
@@ -34,27 +34,11 @@ use Rattle.scopes.specs.declared.Ran.the-variants.{Values, Ended}
 unfoldable pub stepOutcome : List ℕ → List ℕ → List ℕ → List ℕ → ℕ → ℕ → Outcome
 stepOutcome bytes given own called i x = step (givenAt given x) (envOf own called) (tree (scopeAt (scopesOf bytes) i) (ownTarget x))
 
--- a value is in a cell, and the others are as they were
-pub record Stored (before : List ℕ) (at : ℕ) (v : Value) (after : List ℕ) : Type 0 where
-  pub size : length after ≡ length before
-  pub here : givenAt after at ≡ Present v
-  pub there : (x : ℕ) → (x ≡ at → ⊥) → givenAt after x ≡ givenAt before x
-  pub kept : AllKept before → AllKept after
-
--- a tree of scope i can be evaluated, and variable v has a cell
-pub record Filling (bytes index links own called : List ℕ) (i : ℕ) (cells : List ℕ) (v : ℕ) : Type 0 where
+-- own variable x of scope i can be evaluated: it has cells, with nothing or a value in each
+pub record Stepping (bytes index links given own called : List ℕ) (i x : ℕ) : Type 0 where
   pub evaluable : Evaluable bytes index links own called i
-  pub room : v < length cells
-
--- a value is in a cell; where there is none, the cells are as they were
-abbrev pub StoredBy : Outcome → List ℕ → ℕ → List ℕ → Type 0
-StoredBy (Gives v) before at after = Stored before at v after
-StoredBy (Ends c) before at after = after ≡ before
-
--- the answer is what own variable x comes to, and a value is in the variable's cell
-pub record Assigned (bytes given own called : List ℕ) (i x : ℕ) (r : Outcome) (after : List ℕ) : Type 0 where
-  pub outcome : r ≡ stepOutcome bytes given own called i x
-  pub stored : StoredBy r own x after
+  pub givenKept : AllKept given
+  pub room : x < length given
 
 -- what handing over one variable comes to
 pub data Handed : Type 0 where
@@ -72,15 +56,14 @@ override env s k v = cond (hasClause s (calledTarget k v)) (handOf (eval env (tr
 unfoldable pub overrideAt : List ℕ → List ℕ → List ℕ → ℕ → ℕ → ℕ → Handed
 overrideAt bytes own called i k v = override (envOf own called) (scopeAt (scopesOf bytes) i) k v
 
--- the answer, and the cells
-abbrev pub handView : Outcome → Given → Handed
-handView (Gives v) g = hands g
-handView (Ends c) g = stops c
+-- what is handed over, by its cell
+abbrev pub handedOf : ℕ → Handed
+handedOf c = cond (ltb c emptyCell) (hands (givenOf c)) (stops (causeOf c))
 
-pub record HandedOne (bytes own called : List ℕ) (i k v : ℕ) (before : List ℕ) (r : Outcome) (after : List ℕ) : Type 0 where
-  pub size : length after ≡ length before
-  pub here : handView r (givenAt after v) ≡ overrideAt bytes own called i k v
-  pub there : (x : ℕ) → (x ≡ v → ⊥) → givenAt after x ≡ givenAt before x
+-- the cell of what variable v of sub-scope k is handed: nothing, a value, or an end
+pub record Hands (bytes own called : List ℕ) (i k v c : ℕ) : Type 0 where
+  pub same : handedOf c ≡ overrideAt bytes own called i k v
+  pub kept : c < emptyCell → Kept c
 
 -- what the first n cells hold, as what is given
 unfoldable pub givensFrom : List ℕ → ℕ → ℕ → List Given
@@ -106,18 +89,20 @@ overAll env s k v (suc n) = also (override env s k v) (overAll env s k (suc v) n
 abbrev pub calledCount : List Scope → ℕ → ℕ → ℕ
 calledCount book i k = length (scopeAt book (getD (scopeAt book i .subScopes) k 0) .variables)
 
-abbrev pub overView : Outcome → List Given → Over
-overView (Gives v) gs = all gs
-overView (Ends c) gs = stopped c
+-- what handing over all variables comes to, by a cell that is no end's or an end's, and what is handed over
+abbrev pub overOf : ℕ → List Given → Over
+overOf c gs = cond (ltb c emptyCell) (all gs) (stopped (causeOf c))
 
 pub record HandsAll (bytes index links own called : List ℕ) (i k : ℕ) (handed : List ℕ) : Type 0 where
   pub evaluable : Evaluable bytes index links own called i
   pub number : k < 8
   pub room : length handed ≡ 32
+  pub kept : AllKept handed
 
-pub record HandedAll (bytes own called : List ℕ) (i k : ℕ) (r : Outcome) (handed : List ℕ) : Type 0 where
+pub record HandedAll (bytes own called : List ℕ) (i k c : ℕ) (handed : List ℕ) : Type 0 where
   pub size : length handed ≡ 32
-  pub same : overView r (givensFrom handed 0 (calledCount (scopesOf bytes) i k))
+  pub kept : AllKept handed
+  pub same : overOf c (givensFrom handed 0 (calledCount (scopesOf bytes) i k))
       ≡ overAll (envOf own called) (scopeAt (scopesOf bytes) i) k 0 (calledCount (scopesOf bytes) i k)
 
 -- the tables that a run rests on
@@ -137,9 +122,9 @@ abbrev pub ranView : Ran → List ℕ → ℕ → Entered
 ranView (Values m) own n = values (valuesOf own n) m
 ranView (Ended c m) own n = ended c m
 
--- a run ended as it should, and its values are in the cells
+-- a run ended as it should, and its values are in the cells, each of which holds nothing or a value
 pub record Came (bytes : List ℕ) (i : ℕ) (given : List ℕ) (r : Ran) (own : List ℕ) : Type 0 where
   pub size : length own ≡ 32
   pub same : ranView r own (length (scopeAt (scopesOf bytes) i .variables)) ≡ enteredAt bytes i given
+  pub kept : AllKept own
   pub present : (m : ℕ) → r ≡ Values m → (x : ℕ) → x < length (scopeAt (scopesOf bytes) i .variables) → isGiven (givenAt own x) ≡ true
-  pub kept : (m : ℕ) → r ≡ Values m → AllKept own

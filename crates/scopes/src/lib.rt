@@ -1,14 +1,8 @@
 // Entering a scope of a book: its steps are run in their order, each call in cells of its own.
 use answers::Cause;
-use calculus::Given;
-use calculus::Outcome;
-use calculus::Value;
 use cells::EMPTY;
+use cells::NOTHING;
 use cells::cause_of;
-use cells::cell_of;
-use cells::given_at;
-use cells::given_of;
-use cells::value_of;
 use index::sub_scope_at;
 use index::sub_scope_count;
 use index::variable_count;
@@ -19,12 +13,9 @@ use slices::byte_at;
 use slices::part_of;
 use trees::eval_tree;
 use trees::has_clause;
-ghost use mathlib.Core.Path.{_≡_};
-ghost use Prim.Native.Nat.{_<_};
-ghost use lib.ListN.{length};
-ghost use Rattle.cells.specs.Codec.{outcomeOf};
+ghost use Rattle.cells.specs.Codec.{Codes};
 ghost use Rattle.trees.specs.Rows.{Evaluable};
-ghost use Rattle.scopes.specs.Steps.{stepOutcome, Stored, Filling, Assigned, HandedOne, HandsAll, HandedAll, Came};
+ghost use Rattle.scopes.specs.Steps.{stepOutcome, Stepping, Hands, HandsAll, HandedAll, Came};
 ghost use Rattle.scopes.specs.Known.{Known, Noting, Recalled, Entry};
 ghost use Rattle.scopes.specs.declared.Ran.the-variants.{Values};
 
@@ -41,26 +32,8 @@ pub enum Ran {
     Ended(Cause, usize),
 }
 
-// Puts a value into a cell.
-fn put_cell(cells: &mut [u64], at: usize, v: Value)
-    requires { ⌜ at < length (now cells) ⌝ }
-    ensures { λ _. ⌜ Stored (now (cells .entry)) at v (now (cells .exit)) ⌝ }
-{
-    cells[at] = cell_of(v);
-}
-
-// The outcome of a cell.
-fn outcome_of(c: u64) -> Outcome
-    ensures { λ r. ⌜ r ≡ outcomeOf c ⌝ }
-{
-    if c < EMPTY {
-        return Outcome::Gives(value_of(given_of(c)));
-    }
-    Outcome::Ends(cause_of(c))
-}
-
-// The value of own variable x of scope i: what is given, or what its default tree comes to.
-fn step_value(
+// The cell of own variable x of scope i: what is given, or what its default tree comes to.
+fn step_cell(
     book: &[u8],
     index: &[u16],
     links: &[u8],
@@ -69,45 +42,19 @@ fn step_value(
     called: &[u64],
     i: usize,
     x: u8,
-) -> Outcome
-    requires { ⌜ Evaluable (now book) (now index) (now links) (now own) (now called) i ⌝ }
-    ensures { λ r. ⌜ r ≡ stepOutcome (now (book .entry)) (now (given .entry)) (now (own .entry)) (now (called .entry)) i x ⌝ }
+) -> u64
+    requires { ⌜ Stepping (now book) (now index) (now links) (now given) (now own) (now called) i x ⌝ }
+    ensures { λ r. ⌜ Codes r (stepOutcome (now (book .entry)) (now (given .entry)) (now (own .entry)) (now (called .entry)) i x) ⌝ }
 {
-    let g = given_at(given, x as usize);
-    match g {
-        Given::Absent => { outcome_of(eval_tree(book, index, links, own, called, i, 255, x)) }
-        Given::Present(v) => Outcome::Gives(v),
+    let g = given[x as usize];
+    if g != NOTHING {
+        return g;
     }
+    eval_tree(book, index, links, own, called, i, 255, x)
 }
 
-// Sets own variable x of scope i to the value of its step. The cause where it has none.
-fn set_variable(
-    book: &[u8],
-    index: &[u16],
-    links: &[u8],
-    given: &[u64],
-    own: &mut [u64],
-    called: &[u64],
-    i: usize,
-    x: u8,
-) -> Outcome
-    requires { ⌜ Filling (now book) (now index) (now links) (now own) (now called) i (now own) x ⌝ }
-    ensures { λ r.
-        ⌜ Assigned (now (book .entry)) (now (given .entry)) (now (own .entry)) (now (called .entry)) i x r (now (own .exit)) ⌝ }
-{
-    let o = step_value(book, index, links, given, own, called, i, x);
-    match o {
-        Outcome::Gives(v) => {
-            put_cell(own, x as usize, v);
-            o
-        }
-        Outcome::Ends(_) => o,
-    }
-}
-
-// Hands over variable v of sub-scope k of scope i: the value of its override tree, nothing where it has no clauses. The cause where the
-// tree has no value.
-fn hand_one(
+// The cell that variable v of sub-scope k of scope i is handed: what its override tree comes to, nothing where it has no clauses.
+fn override_cell(
     book: &[u8],
     index: &[u16],
     links: &[u8],
@@ -116,27 +63,18 @@ fn hand_one(
     i: usize,
     k: u8,
     v: u8,
-    handed: &mut [u64],
-) -> Outcome
-    requires { ⌜ Filling (now book) (now index) (now links) (now own) (now called) i (now handed) v ⌝ }
-    ensures { λ r.
-        ⌜ HandedOne (now (book .entry)) (now (own .entry)) (now (called .entry)) i k v (now (handed .entry)) r (now (handed .exit)) ⌝ }
+) -> u64
+    requires { ⌜ Evaluable (now book) (now index) (now links) (now own) (now called) i ⌝ }
+    ensures { λ r. ⌜ Hands (now (book .entry)) (now (own .entry)) (now (called .entry)) i k v r ⌝ }
 {
     if !has_clause(book, index, links, i, k, v) {
-        handed[v as usize] = 0;
-        return Outcome::Gives(Value::Truth(true));
+        return NOTHING;
     }
-    let o = outcome_of(eval_tree(book, index, links, own, called, i, k, v));
-    match o {
-        Outcome::Gives(y) => {
-            put_cell(handed, v as usize, y);
-            o
-        }
-        Outcome::Ends(_) => o,
-    }
+    eval_tree(book, index, links, own, called, i, k, v)
 }
 
-// Hands over the variables of sub-scope k of scope i in their order, up to the first whose override tree has no value.
+// Hands over the variables of sub-scope k of scope i in their order, up to the first whose override tree has no value: the end's cell,
+// or nothing where each has one.
 fn hand_over(
     book: &[u8],
     index: &[u16],
@@ -146,7 +84,7 @@ fn hand_over(
     i: usize,
     k: usize,
     handed: &mut [u64],
-) -> Outcome
+) -> u64
     requires { ⌜ HandsAll (now book) (now index) (now links) (now own) (now called) i k (now handed) ⌝ }
     ensures { λ r.
         ⌜ HandedAll (now (book .entry)) (now (own .entry)) (now (called .entry)) i k r (now (handed .exit)) ⌝ }
@@ -155,14 +93,14 @@ fn hand_over(
     let count = variable_count(book, index, j);
     let mut v: usize = 0;
     while v < count {
-        let o = hand_one(book, index, links, own, called, i, k as u8, v as u8, handed);
-        match o {
-            Outcome::Gives(_) => {}
-            Outcome::Ends(_) => return o,
+        let c = override_cell(book, index, links, own, called, i, k as u8, v as u8);
+        if EMPTY <= c {
+            return c;
         }
+        handed[v] = c;
         v += 1;
     }
-    Outcome::Gives(Value::Truth(true))
+    NOTHING
 }
 
 // Where nothing is given and what scope i then comes to is known: puts its values into `own`, and the count of scopes entered; else 0.
@@ -175,7 +113,7 @@ fn recall_scope(
     own: &mut [u64],
 ) -> usize
     requires { ⌜ Noting (now book) (now index) i (now own) (now memo) ⌝ }
-    ensures { λ r. ⌜ Recalled (now (book .entry)) i (now (given .entry)) (now (own .entry)) r (now (own .exit)) ⌝ }
+    ensures { λ r. ⌜ Recalled (now (book .entry)) i (now (given .entry)) r (now (own .exit)) ⌝ }
 {
     let bare = none_given(given, variable_count(book, index, i));
     recall(memo, i, bare, own)
@@ -210,7 +148,7 @@ pub fn enter(
     own: &mut [u64],
     memo: &mut [u64],
 ) -> Ran
-    requires { ⌜ Entry (now book) (now index) (now links) (now orders) i (now own) (now memo) ⌝ }
+    requires { ⌜ Entry (now book) (now index) (now links) (now orders) i (now given) (now own) (now memo) ⌝ }
     ensures { λ r. ⌜ Came (now (book .entry)) i (now (given .entry)) r (now (own .exit)) ⌝ }
     ensures { λ _. ⌜ Known (now (book .entry)) (now (memo .exit)) ⌝ }
 {
@@ -229,15 +167,16 @@ pub fn enter(
         let x = byte_at(orders, i * STEPS + n);
         n += 1;
         if (x as usize) < variables {
-            match set_variable(book, index, row, given, own, &called, i, x) {
-                Outcome::Gives(_) => {}
-                Outcome::Ends(c) => return Ran::Ended(c, count),
+            let c = step_cell(book, index, row, given, own, &called, i, x);
+            if EMPTY <= c {
+                return Ran::Ended(cause_of(c), count);
             }
+            own[x as usize] = c;
         } else {
             let k = (x as usize) - variables;
-            match hand_over(book, index, row, own, &called, i, k, &mut handed) {
-                Outcome::Gives(_) => {}
-                Outcome::Ends(c) => return Ran::Ended(c, count),
+            let c = hand_over(book, index, row, own, &called, i, k, &mut handed);
+            if EMPTY <= c {
+                return Ran::Ended(cause_of(c), count);
             }
             let j = sub_scope_at(book, index, i, k);
             let from = k * VARIABLES;

@@ -18,11 +18,8 @@ slice-aggregate-load-3 c = search needs
 slice-aggregate-load-4 : tie.Need-slice-aggregate-load-4
 slice-aggregate-load-4 c = search needs
 
-slice-aggregate-load-5 : tie.Need-slice-aggregate-load-5
-slice-aggregate-load-5 c = search needs
-
 load-requires : tie.Need-load-requires
-load-requires c κs = (record { noPlaces = refl; noCounts = refl }, record { blockRoom = search needs; weightRoom = search needs; orderRoom = search needs })
+load-requires c κs = (refl, record { blockRoom = search needs; weightRoom = search needs; orderRoom = search needs })
 
 enum-known-judged : tie.Need-enum-known-judged
 enum-known-judged c = search needs
@@ -33,11 +30,8 @@ slice-aggregate-evaluate-accepted c = search needs
 slice-aggregate-evaluate-accepted-2 : tie.Need-slice-aggregate-evaluate-accepted-2
 slice-aggregate-evaluate-accepted-2 c = search needs
 
-slice-aggregate-evaluate-accepted-3 : tie.Need-slice-aggregate-evaluate-accepted-3
-slice-aggregate-evaluate-accepted-3 c = search needs
-
 evaluate-accepted-requires : tie.Need-evaluate-accepted-requires
-evaluate-accepted-requires c κs = let t = c .before .before .before .before .before .before .before .before .before .before .before .before .load .ensures .tables _ (c .before .before .before .before .before .judged .given .1) in record { accepted = sym (c .before .before .before .before .before .before .before .before .before .before .before .before .load .ensures .answer) ∙ c .before .before .before .before .before .judged .given .1; laid = t .laid; stepOrders = t .stepOrders }
+evaluate-accepted-requires c κs = let t = c .before .before .before .before .before .before .before .before .before .before .load .ensures .tables _ (c .before .before .before .before .judged .given .1) in record { accepted = sym (c .before .before .before .before .before .before .before .before .before .before .load .ensures .answer) ∙ c .before .before .before .before .judged .given .1; laid = t .laid; stepOrders = t .stepOrders }
 
 enum-known-judged-2 : tie.Need-enum-known-judged-2
 enum-known-judged-2 c = search needs
@@ -49,7 +43,7 @@ returns : tie.Need-returns
 returns c = c .before .before .evaluate-accepted .ensures
 
 returns-2 : tie.Need-returns-2
-returns-2 c = refused-book _ _ _ (sym (c .before .before .before .before .before .before .before .before .load .ensures .answer) ∙ c .before .judged2 .given .1)
+returns-2 c = refused-book _ _ _ (sym (c .before .before .before .before .before .before .before .load .ensures .answer) ∙ c .before .judged2 .given .1)
 
 pub evaluate-spec : {M : Type 1} → statement M
 evaluate-spec =
@@ -59,12 +53,10 @@ evaluate-spec =
     slice-aggregate-load-2
     slice-aggregate-load-3
     slice-aggregate-load-4
-    slice-aggregate-load-5
     load-requires
     enum-known-judged
     slice-aggregate-evaluate-accepted
     slice-aggregate-evaluate-accepted-2
-    slice-aggregate-evaluate-accepted-3
     evaluate-accepted-requires
     enum-known-judged-2
     same-length

@@ -15,35 +15,35 @@ abbrev μ-loop : tie.MeasureT-loop
 μ-loop book index links own called i k handed₀ j count v₀ handed v = count - v
 
 sub-scope-at-requires : tie.Need-sub-scope-at-requires Inv-loop μ-loop
-sub-scope-at-requires c κs = search needs
+sub-scope-at-requires c κs = c .before .before .before .before .before .before .pre .evaluable .ready .sound .laid
 
 variable-count-requires : tie.Need-variable-count-requires Inv-loop μ-loop
-variable-count-requires c κs = search needs
+variable-count-requires c κs = c .before .before .before .before .before .before .before .pre .evaluable .ready .sound .laid
 
 loop-holds : tie.Need-loop-holds Inv-loop μ-loop
-loop-holds c = none-passed (c .before .before .before .before .before .before .before .before .pre .room)
+loop-holds c = none-passed (c .before .before .before .before .before .before .before .before .pre .room) (c .before .before .before .before .before .before .before .before .pre .kept)
 
-cast-hand-one : tie.Need-cast-hand-one Inv-loop μ-loop
-cast-hand-one c = search needs
+cast-override-cell : tie.Need-cast-override-cell Inv-loop μ-loop
+cast-override-cell c = search needs
 
-cast-hand-one-2 : tie.Need-cast-hand-one-2 Inv-loop μ-loop
-cast-hand-one-2 c = omega (arith, c .loop-test .taken, c .before .before .variable-count .ensures, c .before .before .before .before .before .before .before .before .before .before .pre .evaluable .ready .sound .variables (c .before .before .before .sub-scope-at .result))
+cast-override-cell-2 : tie.Need-cast-override-cell-2 Inv-loop μ-loop
+cast-override-cell-2 c = omega (arith, c .loop-test .taken, c .before .before .variable-count .ensures, c .before .before .before .before .before .before .before .before .before .before .pre .evaluable .ready .sound .variables (c .before .before .before .sub-scope-at .result))
 
-hand-one-requires : tie.Need-hand-one-requires Inv-loop μ-loop
-hand-one-requires c κs = record { evaluable = c .before .before .before .before .before .before .before .before .before .before .before .pre .evaluable; room = omega (arith, c .before .before .loop .inv .size, c .before .loop-test .taken, c .before .before .before .variable-count .ensures, c .before .before .before .before .before .before .before .before .before .before .before .pre .evaluable .ready .sound .variables (c .before .before .before .before .sub-scope-at .result)) }
-
-enum-told : tie.Need-enum-told Inv-loop μ-loop
-enum-told c = search needs
-
-enum-told-2 : tie.Need-enum-told-2 Inv-loop μ-loop
-enum-told-2 c = search needs
+override-cell-requires : tie.Need-override-cell-requires Inv-loop μ-loop
+override-cell-requires c κs = c .before .before .before .before .before .before .before .before .before .before .pre .evaluable
 
 same-length : tie.Need-same-length Inv-loop μ-loop
 same-length c = search needs
 
 returns : tie.Need-returns Inv-loop μ-loop
 unfolding subScopeAt
-returns c = halt (c .before .before .before .before .before .before .before .loop .inv) (rw (← c .before .before .before .before .before .before .before .before .before .sub-scope-at .ensures, ← c .before .before .before .before .before .before .before .before .variable-count .ensures) (c .before .before .before .before .before .before .loop-test .taken)) (c .before .before .before .before .hand-one .ensures) _ (c .enum-told2 .given .1)
+returns c = halt (c .before .before .before .loop .inv) (rw (← c .before .before .before .before .before .sub-scope-at .ensures, ← c .before .before .before .before .variable-count .ensures) (c .before .before .loop-test .taken)) (c .before .override-cell .ensures) (c .if1 .taken)
+
+mul-handed : tie.Need-mul-handed Inv-loop μ-loop
+mul-handed c = omega (arith, c .before .before .loop-test .taken, c .before .before .before .before .variable-count .ensures, c .before .before .before .before .before .before .before .before .before .before .before .before .pre .evaluable .ready .sound .variables (c .before .before .before .before .before .sub-scope-at .result))
+
+slice-write-handed : tie.Need-slice-write-handed Inv-loop μ-loop
+slice-write-handed c = omega (arith, c .before .before .before .loop .inv .size, c .before .before .loop-test .taken, c .before .before .before .before .variable-count .ensures, c .before .before .before .before .before .before .before .before .before .before .before .before .pre .evaluable .ready .sound .variables (c .before .before .before .before .before .sub-scope-at .result))
 
 add-v : tie.Need-add-v Inv-loop μ-loop
 add-v c = search needs
@@ -53,14 +53,14 @@ loop-less c = search needs
 
 loop-again : tie.Need-loop-again Inv-loop μ-loop
 unfolding subScopeAt
-loop-again c = pass (c .before .before .before .before .before .before .before .loop .inv) (rw (← c .before .before .before .before .before .before .before .before .before .sub-scope-at .ensures, ← c .before .before .before .before .before .before .before .before .variable-count .ensures) (c .before .before .before .before .before .before .loop-test .taken)) (c .before .before .before .before .hand-one .ensures) _ (c .enum-told .given .1)
+loop-again c = pass (c .before .before .before .loop .inv) (rw (← c .before .before .before .before .before .sub-scope-at .ensures, ← c .before .before .before .before .variable-count .ensures) (c .before .before .loop-test .taken)) (c .before .override-cell .ensures) (c .if1 .left) (omega (arith, c .before .before .before .loop .inv .size, c .before .before .loop-test .taken, c .before .before .before .before .variable-count .ensures, c .before .before .before .before .before .before .before .before .before .before .before .before .pre .evaluable .ready .sound .variables (c .before .before .before .before .before .sub-scope-at .result)))
 
 same-length-2 : tie.Need-same-length-2 Inv-loop μ-loop
 same-length-2 c = search needs
 
 returns-2 : tie.Need-returns-2 Inv-loop μ-loop
 unfolding subScopeAt
-returns-2 c = end (c .before .loop .inv) (rw (← c .before .before .before .sub-scope-at .ensures, ← c .before .before .variable-count .ensures) (c .loop-test .left)) _
+returns-2 c = end (c .before .loop .inv) (rw (← c .before .before .before .sub-scope-at .ensures, ← c .before .before .variable-count .ensures) (c .loop-test .left))
 
 pub hand-over-spec : {M : Type 1} → statement M
 hand-over-spec =
@@ -71,13 +71,13 @@ hand-over-spec =
     sub-scope-at-requires
     variable-count-requires
     loop-holds
-    cast-hand-one
-    cast-hand-one-2
-    hand-one-requires
-    enum-told
-    enum-told-2
+    cast-override-cell
+    cast-override-cell-2
+    override-cell-requires
     same-length
     returns
+    mul-handed
+    slice-write-handed
     add-v
     loop-less
     loop-again
