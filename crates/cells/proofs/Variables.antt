@@ -4,7 +4,7 @@
 --     kept-nothing ..    cells that are nothing or a value's
 -- Assumes nothing.
 use Prim.Native.Nat.{ℕ, zero, suc, _%_}
-use mathlib.Core.Path.{_≡_, refl, ap, sym, _∙_}
+use mathlib.Core.Path.{_≡_, refl, ap}
 use mathlib.Core.Bool.{Bool, true, false, cond}
 use mathlib.Core.List.{List, [], _∷_}
 use native.Mathlib.Omega.{arith}
@@ -23,7 +23,7 @@ use Rattle.calculus.specs.declared.Given.{Given}
 use Rattle.calculus.specs.declared.Given.the-variants.{Absent, Present}
 use Rattle.cells.specs.Codec.{valueCell, cellOf, payload, valueOf, Codes, Kept, AllKept}
 use Rattle.cells.specs.Cells.{givenOf, held}
-use Rattle.cells.proofs.Codec.{value-decoded, value-high, below}
+use Rattle.cells.proofs.Codec.{value-decoded, value-high}
 
 pub given-cell : (v : Value) → SFits w32 (numberOf v) → givenOf (valueCell v) ≡ Present v
 unfolding givenOf

@@ -1,52 +1,45 @@
 -- What the service answers, by the tests that it makes.
 --     refused-book, refused-scope, refused-input, refused-room      1 to 12, 13, 14, 15
 --     evaluated                           a good list and enough room: what the run comes to
---     blank-links, all-links, entry, typed    what the functions called ask for
---     values-so, ends-so                  the answer of a run
+--     blank-links, all-links, runs-loaded what the functions called ask for
 -- Assumes nothing.
-use Prim.Native.Nat.{ℕ, zero, suc, _+_, _*_, _<_, _≤_}
-use mathlib.Core.Path.{_≡_, refl, sym, ap, subst, _∙_}
-use mathlib.Core.Bool.{true, false≢true}
-use mathlib.Core.List.{List, [], _∷_, reverse}
+use Prim.Native.Nat.{ℕ, _+_, _*_, _<_, _≤_}
+use mathlib.Core.Path.{_≡_, sym, ap, subst, _∙_}
+use mathlib.Core.Bool.{false≢true}
+use mathlib.Core.List.{List, [], reverse}
 use native.Mathlib.Omega.{arith}
-use lib.ListN.{length, getD, replicate, length-replicate, getD-replicate}
+use lib.ListN.{length, replicate, length-replicate, getD-replicate}
 use borrow.Author.Tests.{lt-ltb, le-ltb, le-leb, lt-leb}
-use Rattle.answers.specs.declared.Cause.{Cause}
 use Rattle.calculus.specs.declared.Given.{Given}
-use Rattle.calculus.specs.declared.Given.the-variants.{Absent, Present}
-use Rattle.cells.specs.Codec.{AllKept}
-use Rattle.cells.specs.Cells.{givenAt, held}
-use Rattle.book.specs.Syntax.{sameType}
+use Rattle.cells.specs.Cells.{givenAt}
 use Rattle.book.specs.Decode.{scopesOf}
 use Rattle.book.specs.References.{scopeAt}
 use Rattle.book.specs.Scopes.{blocks}
 use Rattle.book.specs.Judge.{judge}
 use Rattle.book.specs.declared.ValueType.{ValueType}
-use Rattle.book.specs.declared.ValueType.the-variants.{YesNo}
-use Rattle.book.specs.declared.Variable.{Variable}
 use Rattle.answers.specs.declared.Fault.{Fault}
 use Rattle.answers.specs.declared.Judged.{Judged}
 use Rattle.answers.specs.declared.Judged.the-variants as judged
 use Rattle.acceptance.proofs.Acceptance.{accepted-faultless, accepted-count}
 use Rattle.acceptance.proofs.Limits.{accepted-within, accepted-scopes}
-use Rattle.lists.specs.Inputs.{bad, inputs, isGiven}
+use Rattle.lists.specs.Inputs.{bad, inputs}
 use Rattle.lists.specs.Reading.{Taken}
-use Rattle.lists.specs.Results.{resultLength, results}
-use Rattle.lists.specs.Writing.{valuesFrom, valuesOf, valueType, isOf, resultLengthAt, resultMemory}
+use Rattle.lists.specs.Results.{resultLength}
+use Rattle.lists.specs.Writing.{resultLengthAt}
 use Rattle.lists.specs.Writing as writing
 use Rattle.links.specs.Links.{Sound, Blanks, AllLinked}
-use Rattle.evaluation.specs.Run.{values, ended, enter}
-use Rattle.evaluation.specs.Types.{Fitting, ValuesFit}
-use Rattle.evaluation.specs.Evaluate.{replyOf, evaluate, asked, memoryAfter, refuse, onJudged}
+use Rattle.evaluation.specs.Run.{enter}
+use Rattle.evaluation.specs.Types.{Fitting}
+use Rattle.evaluation.specs.Evaluate.{replyOf, evaluate, asked, refuse, onJudged}
 use Rattle.answers.specs.declared.Refusal.the-variants.{Book, NoSuchScope, BadInput, BufferTooSmall}
 use Rattle.answers.specs.declared.Answer.{Answer}
-use Rattle.book.proofs.Same.{same-self}
-use Rattle.answers.specs.declared.Answer.the-variants.{Values, Ended, Refused}
+use Rattle.answers.specs.declared.Answer.the-variants.{Refused}
 use Rattle.evaluation.proofs.Replies.{same-reply, refuses}
-use Rattle.evaluation.proofs.Types.{inputs-fitting, values-typed, values-length}
-use Rattle.scopes.specs.Steps.{givensFrom, enteredAt, ranView, Came}
-use Rattle.scopes.specs.Known.{Known, Entry}
-use Rattle.evaluator.specs.Service.{Asked, Replied, Evaluated}
+use Rattle.evaluation.proofs.Types.{inputs-fitting}
+use Rattle.scopes.specs.Steps.{givensFrom, enteredAt}
+use Rattle.scopes.specs.Known.{Known}
+use Rattle.loaded.specs.Loaded.{RunsLoaded, Replied}
+use Rattle.evaluator.specs.Service.{Asked, Evaluated}
 use Rattle.scopes.specs.declared.Ran.{Ran}
 use Rattle.scopes.specs.declared.Ran.the-variants as ran
 use Rattle.scopes.proofs.Cells.{givens-list}
@@ -106,20 +99,6 @@ module _ (bytes : List ℕ) (n i : ℕ) (ok : judge bytes ≡ judged.Accepted n)
           there : asked (scopesOf bytes) i list (length memory) ≡ replyOf (enter (scopesOf bytes) (reverse (blocks (scopesOf bytes))) i (taken .givens))
           there = rw (lt-ltb i (length (scopesOf bytes)) (omega (arith, count)), taken .list, le-leb (resultLength (scopeAt (scopesOf bytes) i .variables)) (length memory) l)
 
--- values of the variables' types
-is-of : (t : ValueType) (g : Given) → isGiven g ≡ true → valueType (held g) ≡ t → isOf t g ≡ true
-is-of t Absent p e = absurd (false≢true p)
-is-of t (Present v) p e = ap (sameType t) e ∙ same-self t
-
-fits-at : (xs : List Variable) (cells : List ℕ) (k : ℕ) → ValuesFit xs (valuesFrom cells k (length xs)) → (v : ℕ) → v < length xs
-    → valueType (held (givenAt cells (k + v))) ≡ getD xs v (record { holds = YesNo }) .holds
-unfolding valuesFrom
-fits-at [] cells k h v l = absurd (omega arith)
-fits-at (x ∷ xs) cells k h zero l = let e : k + 0 ≡ k = omega arith in ap (λ (n : ℕ). valueType (held (givenAt cells n))) e ∙ h .0
-fits-at (x ∷ xs) cells k h (suc v) l =
-    let e : k + suc v ≡ suc k + v = omega arith in
-    ap (λ (n : ℕ). valueType (held (givenAt cells n))) e ∙ fits-at xs cells (suc k) (h .1) v (omega arith)
-
 module _ {bytes index orders : List ℕ} {n i : ℕ} {given memory : List ℕ} (a : Asked bytes index orders n i given memory) where
   total : n ≡ length (scopesOf bytes)
   total = accepted-count bytes n (a .tabled .accepted)
@@ -147,8 +126,9 @@ module _ {bytes index orders : List ℕ} {n i : ℕ} {given memory : List ℕ} (
   pub all-links : n * 834 ≤ 26688
   all-links = let few = accepted-scopes bytes n (a .tabled .accepted) in omega (arith, few)
 
-  pub entry : {links own memo : List ℕ} → AllLinked bytes n links → length own ≡ 32 → AllKept own → Known bytes memo → Entry bytes index links orders i given own memo
-  entry linked size kept known =
+  -- the book is loaded, once its links are filled
+  pub runs-loaded : {links memo : List ℕ} → AllLinked bytes n links → Known bytes memo → RunsLoaded bytes index links orders i given memo memory
+  runs-loaded linked known =
       record {
         world = record {
           accepted = a .tabled .accepted ∙ ap judged.Accepted total;
@@ -159,42 +139,7 @@ module _ {bytes index orders : List ℕ} {n i : ℕ} {given memory : List ℕ} (
         scope = omega (arith, a .scope, total);
         givenRoom = a .givenRoom;
         givenKept = a .givenKept;
-        room = size;
-        kept = kept;
+        fitting = a .fitting;
         known = known;
+        room = a .room;
       }
-
-  module _ {r : Ran} {own : List ℕ} (came : Came bytes i given r own) where
-    pub ends-so : {c : Cause} {m : ℕ} → r ≡ ran.Ended c m → Replied bytes i given memory (Ended c m) memory
-    unfolding memoryAfter
-    ends-so {c} {m} e =
-        let same : enteredAt bytes i given ≡ ended c m = sym (came .same) ∙ ap (λ (z : Ran). ranView z own (length (scopeAt (scopesOf bytes) i .variables))) e in
-        same-reply (ap replyOf same) (record { answer = refl; memory = refl })
-
-    module _ {m : ℕ} (e : r ≡ ran.Values m) where
-      same : enteredAt bytes i given ≡ values (valuesOf own (length (scopeAt (scopesOf bytes) i .variables))) m
-      same = sym (came .same) ∙ ap (λ (z : Ran). ranView z own (length (scopeAt (scopesOf bytes) i .variables))) e
-
-      fit : ValuesFit (scopeAt (scopesOf bytes) i .variables) (valuesOf own (length (scopeAt (scopesOf bytes) i .variables)))
-      unfolding enteredAt
-      fit = values-typed bytes n (a .tabled .accepted) i (a .scope) _ (a .fitting) _ m same
-
-      size-known : resultLength (scopeAt (scopesOf bytes) i .variables) ≡ length (results (valuesOf own (length (scopeAt (scopesOf bytes) i .variables))))
-      unfolding enteredAt
-      size-known = values-length bytes n (a .tabled .accepted) i (a .scope) _ (a .fitting) _ m same
-
-      pub typed : writing.Typed (scopeAt (scopesOf bytes) i .variables) own
-      unfolding valuesOf
-      typed =
-          record {
-            typed = λ v l.
-                let z : 0 + v ≡ v = omega arith in
-                is-of _ (givenAt own v) (came .present m e v l)
-                (ap (λ (k : ℕ). valueType (held (givenAt own k))) (sym z) ∙ fits-at (scopeAt (scopesOf bytes) i .variables) own 0 fit v l);
-          }
-
-      pub values-so : {size : ℕ} {after : List ℕ} → size ≡ resultLengthAt (scopesOf bytes) i → after ≡ resultMemory (scopesOf bytes) i own memory
-          → Replied bytes i given memory (Values m size) after
-      unfolding resultLengthAt resultMemory memoryAfter
-      values-so {size} {after} s q =
-          same-reply (ap replyOf same) (record { answer = ap (Values m) (s ∙ size-known); memory = q })

@@ -12,9 +12,9 @@ use Rattle.answers.specs.declared.Judged.the-variants.{Accepted}
 use Rattle.cells.specs.Codec.{AllKept}
 use Rattle.lists.specs.Writing.{resultLengthAt}
 use Rattle.evaluation.specs.Types.{Fitting}
-use Rattle.evaluation.specs.Evaluate.{replyOf, evaluate, Replies}
+use Rattle.evaluation.specs.Evaluate.{evaluate, Replies}
 use Rattle.answers.specs.declared.Answer.{Answer}
-use Rattle.scopes.specs.Steps.{givensFrom, enteredAt}
+use Rattle.scopes.specs.Steps.{givensFrom}
 
 -- the tables of an accepted book of n scopes
 pub record Tabled (bytes index orders : List ℕ) (n : ℕ) : Type 0 where
@@ -31,10 +31,6 @@ pub record Asked (bytes index orders : List ℕ) (n i : ℕ) (given memory : Lis
   pub givenKept : AllKept given
   pub fitting : Fitting (scopeAt (scopesOf bytes) i .variables) (givensFrom given 0 (length (scopeAt (scopesOf bytes) i .variables)))
   pub room : resultLengthAt (scopesOf bytes) i ≤ length memory
-
--- the answer and the memory are those of a run with what the cells give
-abbrev pub Replied : List ℕ → ℕ → List ℕ → List ℕ → Answer → List ℕ → Type 0
-Replied bytes i given = Replies (replyOf (enteredAt bytes i given))
 
 -- the answer and the memory are those of evaluating
 abbrev pub Evaluated : List ℕ → ℕ → List ℕ → List ℕ → Answer → List ℕ → Type 0

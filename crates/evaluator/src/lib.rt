@@ -5,12 +5,11 @@ use answers::Refusal;
 use inputs::read_inputs;
 use judge::load;
 use links::fill_all_links;
+use loaded::run_loaded;
 use results::result_length;
-use results::write_results;
-use scopes::Ran;
-use scopes::enter;
 ghost use Rattle.links.specs.Links.{Blanks};
-ghost use Rattle.evaluator.specs.Service.{Tabled, Asked, Replied, Evaluated};
+ghost use Rattle.loaded.specs.Loaded.{Replied};
+ghost use Rattle.evaluator.specs.Service.{Tabled, Asked, Evaluated};
 
 // Runs scope i of an accepted book of n scopes with what is given, and writes the results. No link is set yet.
 fn run_in(
@@ -28,16 +27,8 @@ fn run_in(
     ensures { λ r. ⌜ Replied (now (book .entry)) i (now (given .entry)) (now (results .entry)) r (now (results .exit)) ⌝ }
 {
     fill_all_links(book, index, n, links);
-    let mut own = [0u64; 32];
     let mut memo = [0u64; 1056];
-    match enter(book, index, links, orders, i, given, &mut own, &mut memo) {
-        Ran::Values(count) => {
-            let length = result_length(book, index, i);
-            write_results(book, index, i, &own, results);
-            Answer::Values(count, length)
-        }
-        Ran::Ended(c, count) => Answer::Ended(c, count),
-    }
+    run_loaded(book, index, links, orders, i, given, &mut memo, results)
 }
 
 // Runs scope i of an accepted book of n scopes with what is given, and writes the results: with few links where there are few scopes.

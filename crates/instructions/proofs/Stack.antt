@@ -15,14 +15,12 @@ use lib.Seq.{getD-set-same, getD-set-other}
 use lib.Dec.{ltb}
 use borrow.Author.Tests.{lt-ltb, le-ltb, ne-eqb, not-true, not-false}
 use mir.Syntax.{w32}
-use mir.Val.{SFits, ofZ}
-use mir.Facts.{fits-ofZ}
+use mir.Val.{SFits}
 use lib.ListN.{length-set}
 use Rattle.calculus.specs.Values.{numberOf, truthOf}
 use Rattle.calculus.specs.Operators.{unaryOf, binaryOf}
 use Rattle.calculus.specs.Defaults as defaults
 use Rattle.calculus.specs.declared.Value.{Value}
-use Rattle.calculus.specs.declared.Value.the-variants.{Truth, Number}
 use Rattle.answers.specs.declared.Cause.{Cause}
 use Rattle.answers.specs.declared.Cause.the-variants.{Conflict}
 use Rattle.calculus.specs.declared.Outcome.{Outcome}

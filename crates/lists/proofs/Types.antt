@@ -3,7 +3,7 @@
 --     start, turn, stop        filling in the bytes: at first, one variable more, behind the last
 --     whole, few               what is filled in is so many bytes, 32 at most
 -- Assumes nothing.
-use Prim.Native.Nat.{ℕ, zero, suc, _+_, _-_, _≤_, _<_}
+use Prim.Native.Nat.{ℕ, zero, suc, _+_, _≤_, _<_}
 use mathlib.Core.Path.{_≡_, refl, sym, ap, _∙_}
 use mathlib.Core.List.{List, [], _∷_}
 use native.Mathlib.Omega.{arith}

@@ -3,12 +3,10 @@
 --     decoded-values                cells that hold what a list says have its values
 --     typed-values, typed-length    cells of the variables' types have values of their types, and results of their length
 -- Assumes nothing.
-use Prim.Native.Nat.{_%_, ℕ, suc, _+_, _-_, _<_}
-use mathlib.Core.Bool.{Bool, cond, true, false, false≢true}
-use lib.Dec.{eqb}
-use lib.IntN.{ℤ}
+use Prim.Native.Nat.{ℕ, suc, _+_, _<_}
+use mathlib.Core.Bool.{true, false, false≢true}
 use mir.Syntax.{w32}
-use mir.Val.{SFits, toZ}
+use mir.Val.{SFits}
 use Rattle.calculus.specs.Values.{numberOf}
 use Rattle.cells.specs.Cells.{givenAt, held}
 use Rattle.cells.proofs.Variables.{held-is, value-fits}

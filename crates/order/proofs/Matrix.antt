@@ -5,8 +5,8 @@
 --     edge-true, edge-false        the byte of an edge
 -- Assumes nothing.
 use Rattle.laws.proofs.Zeros.{zeros}
-use Prim.Native.Nat.{ℕ, zero, suc, _<_, _+_, _*_}
-use mathlib.Core.Path.{_≡_, refl, sym}
+use Prim.Native.Nat.{ℕ, _<_, _+_, _*_}
+use mathlib.Core.Path.{_≡_, sym}
 use mathlib.Core.Bool.{true, false, not, _||_, or-true, or-false}
 use mathlib.Core.List.{List}
 use mathlib.Core.Logic.{⊎-elim}

@@ -3,12 +3,12 @@
 --     room-here                             there is a place for the record
 --     next-inside                           its body is whole
 -- Assumes nothing.
-use Prim.Native.Nat.{ℕ, suc, _+_, _-_, _*_, _≤_, _<_}
+use Prim.Native.Nat.{ℕ, suc, _+_, _-_, _≤_, _<_}
 use mathlib.Core.Path.{_≡_, refl, sym, ap, _∙_}
 use mathlib.Core.List.{List, []}
 use native.Mathlib.Omega.{arith}
-use lib.ListN.{length, getD, drop, set, length-set, length-replicate, drop-of-length-le}
-use borrow.Author.Tests.{eqb-false, eq-eqb, not-false}
+use lib.ListN.{length, getD, drop, length-replicate, drop-of-length-le}
+use borrow.Author.Tests.{eqb-false, not-false}
 use Rattle.book.specs.declared.Tally.{Tally}
 use Rattle.answers.specs.declared.Fault.{Fault}
 use Rattle.book.specs.declared.Scanned.the-variants.{Sound}
@@ -25,7 +25,7 @@ use Rattle.scan.specs.declared.Step.the-variants.{Stop, Next}
 use Rattle.scan.specs.declared.Reading.the-variants.{Faulty, Complete}
 use Rattle.scan.proofs.Steps as steps
 use Rattle.scan.proofs.Steps.{Read, read, room, records-at, scan-next, scan-stop, scan-end}
-use Rattle.book.proofs.Sorts.{Sort, variable, subScope, node, clause, number, stage, base, limit, count, itemsOf, from, long, Staged, begins, has, staged, base-below, limit-below, stage-two, count-in-limits, scopes-new, scopes-turn, count-turn, begun, scopes-behind}
+use Rattle.book.proofs.Sorts.{Sort, variable, subScope, node, clause, number, stage, base, limit, count, itemsOf, from, long, Staged, begins, has, staged, base-below, limit-below, stage-two, scopes-new, scopes-turn, begun, scopes-behind}
 use Rattle.book.proofs.Shapes.{stage-below}
 use Rattle.scan.proofs.Positions.{item-here}
 use Rattle.book.proofs.Shapes.{either, in-order}

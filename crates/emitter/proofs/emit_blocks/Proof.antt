@@ -1,6 +1,5 @@
 -- `emitter::emit_blocks` meets its contract. The loop's invariant: the pieces from its number on are written.
 -- Assumes nothing.
-use Prim.Native.Nat.{_-_}
 use borrow.Author.Needs.{needs}
 use lib.ListN.{length}
 use Rattle.book.specs.Decode.{scopesOf}

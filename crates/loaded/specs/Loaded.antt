@@ -1,0 +1,28 @@
+-- Running a scope of a loaded book.
+use Prim.Native.Nat.{ℕ, _<_, _≤_}
+use mathlib.Core.Path.{_≡_}
+use mathlib.Core.List.{List}
+use lib.ListN.{length}
+use Rattle.answers.specs.declared.Answer.{Answer}
+use Rattle.cells.specs.Codec.{AllKept}
+use Rattle.book.specs.Decode.{scopesOf}
+use Rattle.book.specs.References.{scopeAt}
+use Rattle.lists.specs.Writing.{resultLengthAt}
+use Rattle.evaluation.specs.Types.{Fitting}
+use Rattle.evaluation.specs.Evaluate.{replyOf, Replies}
+use Rattle.scopes.specs.Steps.{World, givensFrom, enteredAt}
+use Rattle.scopes.specs.Known.{Known}
+
+-- the book is loaded and has scope i; what is given, in a cell for each variable, fits its variables; its results have room
+pub record RunsLoaded (bytes index links orders : List ℕ) (i : ℕ) (given memo memory : List ℕ) : Type 0 where
+  pub world : World bytes index links orders
+  pub scope : i < length (scopesOf bytes)
+  pub givenRoom : length given ≡ 32
+  pub givenKept : AllKept given
+  pub fitting : Fitting (scopeAt (scopesOf bytes) i .variables) (givensFrom given 0 (length (scopeAt (scopesOf bytes) i .variables)))
+  pub known : Known bytes memo
+  pub room : resultLengthAt (scopesOf bytes) i ≤ length memory
+
+-- the answer and the memory are those of a run with what the cells give
+abbrev pub Replied : List ℕ → ℕ → List ℕ → List ℕ → Answer → List ℕ → Type 0
+Replied bytes i given = Replies (replyOf (enteredAt bytes i given))
