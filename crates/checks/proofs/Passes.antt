@@ -1,4 +1,5 @@
 -- The loops of the pass, over the nodes and over the clauses of a scope: what holds when those below n are passed, and what follows.
+--     leaf-told                      a node that names no node
 --     never                          once something dangles, nothing else is asked
 --     Nodes, Clauses                 the invariants: none below n dangles; what they name is marked; whether one does not fit is known
 --     nodes-start, clauses-start     at the start
@@ -10,7 +11,7 @@
 use Prim.Native.Nat.{ℕ, _+_, _≤_, _<_}
 use mathlib.Core.Path.{_≡_, refl, sym, ap, _∙_}
 use mathlib.Core.Bool.{Bool, true, false, not, _||_, true≢false}
-use mathlib.Core.List.{List}
+use mathlib.Core.List.{List, []}
 use native.Mathlib.Omega.{arith}
 use lib.ListN.{length, set, replicate}
 use borrow.Author.Tests.{not-false}
@@ -22,14 +23,17 @@ use Rattle.book.specs.Typing.{mismatchIn}
 use Rattle.book.specs.Positions.{nodeAt, clauseAt}
 use Rattle.book.specs.declared.Node.{Node}
 use Rattle.book.specs.declared.Clause.{Clause}
+use Rattle.book.specs.declared.ValueType.{ValueType}
 use Rattle.book.proofs.Searches.{Sought, start, turn, found, ended}
 use Rattle.sharing.specs.Marks.{Marking}
-use Rattle.sharing.proofs.Marks.{marked-then, marked-length, marked-repeats, passed, passed-start, passed-more, passed-end}
+use Rattle.sharing.proofs.Marks.{marked-none, marked-then, marked-length, marked-repeats, passed, passed-start, passed-more, passed-end}
 use Rattle.references.specs.Dangling.{subScopeDangles}
-use Rattle.typing.specs.Types.{typeByte, nodeSuits, clauseSuits}
+use Rattle.typing.specs.Types.{clauseSuits}
 use Rattle.checks.specs.declared.Findings.{Findings}
+use Rattle.checks.specs.declared.Step.{Step}
+use Rattle.checks.specs.Findings.{byteOf, typeByte, nodeSuits, leafStep}
 use Rattle.checks.specs.Findings.{onlyDangling, wrongNode, wrongClause, nodeDangles, clauseDangles, nodeNamings, clauseNamings}
-use Rattle.checks.specs.Findings.{sharesIn, misfitNode, misfitClause, nodeMisfits, clauseMisfits, Typed, OfNodes, OfClauses, OfScope}
+use Rattle.checks.specs.Findings.{sharesIn, misfitNode, misfitClause, nodeMisfits, clauseMisfits, Typed, OfNode, OfNodes, OfClauses, OfScope}
 use Rattle.checks.proofs.Gathered.{Gathered, more, whole}
 use Rattle.checks.proofs.Gathered.{start as none}
 use Rattle.checks.proofs.Table.{Table, filled, told, told-clause}
@@ -40,6 +44,21 @@ never e q = true≢false (sym (ap (λ (f : Findings). f .dangles) e) ∙ q)
 
 only : {r : Findings} → r ≡ onlyDangling → r .dangles ≡ true
 only e = ap (λ (f : Findings). f .dangles) e
+
+-- a node that names no node
+pub leaf-told :
+    {book : List Scope} {i n : ℕ} {marks types : List ℕ} {twice : Bool} {r : Step} (x : Node) (names : Bool) (t : ValueType)
+    → r ≡ leafStep names twice t → names ≡ nodeNames book (scopeAt book i) n x → operands x ≡ [] → nodeSuits types x ≡ true
+    → byteOf t ≡ typeByte book i types x → OfNode book i n marks types twice x r marks
+unfolding leafStep
+leaf-told {twice = twice} {r = r} x names t e en eo es et =
+    let same : r .shares ≡ twice = ap (λ (s : Step). s .shares) e in
+    record {
+      named = ap (λ (s : Step). s .names) e ∙ en;
+      shared = rw (eo, same) marked-none;
+      fitting = ap (λ (s : Step). s .suits) e ∙ sym es;
+      typed = ap (λ (s : Step). s .byte) e ∙ et;
+    }
 
 pub record Nodes (book : List Scope) (i : ℕ) (from : List ℕ) (marks types : List ℕ) (shares mismatches : Bool) (n : ℕ) : Type 0 where
   pub names : Sought (wrongNode book i) (scopeAt book i .nodes) n
@@ -67,34 +86,36 @@ module _
         let room = g .typed .room in
         omega arith
 
-    module _ (x : Node) (ex : x ≡ nodeAt book i n) (names : Bool) (en : names ≡ nodeNames book (scopeAt book i) n x) where
-      wrong : wrongNode book i n (nodeAt book i n) ≡ not names
-      wrong = rw (en, ex)
+    module _
+        {x : Node} {r : Step} {after : List ℕ} (ex : x ≡ nodeAt book i n) (step : OfNode book i n marks types shares x r after) where
+      wrong : wrongNode book i n (nodeAt book i n) ≡ not (r .names)
+      wrong = rw (step .named, ex)
 
-      pub node-dangles : not names ≡ true → {r : Findings} → r ≡ onlyDangling → OfNodes book i from r marks types
+      pub step-length : length after ≡ length from
+      step-length = marked-length (step .shared) ∙ marks-length
+
+      pub node-dangles : not (r .names) ≡ true → {f : Findings} → f ≡ onlyDangling → OfNodes book i from f after types
       unfolding nodeDangles nodeAt
-      node-dangles e er =
+      node-dangles e ef =
           record {
-            dangling = only er ∙ found _ _ _ (g .names) noNode within (wrong ∙ e);
-            shared = λ q. absurd (never er q);
-            mismatched = λ q. absurd (never er q);
-            typed = λ q. absurd (never er q);
+            dangling = only ef ∙ found _ _ _ (g .names) noNode within (wrong ∙ e);
+            shared = λ q. absurd (never ef q);
+            mismatched = λ q. absurd (never ef q);
+            typed = λ q. absurd (never ef q);
           }
 
-      pub node-turn :
-          not names ≡ false → Within book → {twice : Bool} {after : List ℕ} → Marking (operands x) marks shares twice after
-          → (suits : Bool) → suits ≡ nodeSuits types x → (b : ℕ) → b ≡ typeByte book i types x
-          → Nodes book i from after (set types n b) twice (mismatches || not suits) (n + 1)
+      pub node-turn : not (r .names) ≡ false → Within book
+          → Nodes book i from after (set types n (r .byte)) (r .shares) (mismatches || not (r .suits)) (n + 1)
       unfolding nodeAt
-      node-turn e w m suits es b eb =
+      node-turn e w =
           let few = w .nodes i in
           record {
             names = turn _ _ _ (g .names) noNode within (wrong ∙ e);
-            marked = passed-more _ _ _ (g .marked) noNode within (rw ex at m);
-            typed = put _ _ _ _ (g .typed) (omega arith) within x b ex eb;
+            marked = passed-more _ _ _ (g .marked) noNode within (rw ex at (step .shared));
+            typed = put _ _ _ _ (g .typed) (omega arith) within x (r .byte) ex (step .typed);
             gathered =
                 more _ _ _ _ _ (g .gathered) noNode within _
-                (told _ _ _ _ (g .typed) within x ex (sym en ∙ not-false names e) suits es);
+                (told _ _ _ _ (g .typed) within x ex (sym (step .named) ∙ not-false (r .names) e) (r .suits) (step .fitting));
           }
 
   pub nodes-end : length (scopeAt book i .nodes) ≤ n

@@ -25,8 +25,8 @@ use Rattle.book.specs.declared.Node.the-variants as node
 use Rattle.book.specs.declared.Clause.{Clause}
 use Rattle.laws.proofs.Booleans.{decide, both, or-cases}
 use Rattle.laws.proofs.Zeros.{zeros}
-use Rattle.typing.specs.Types.{byteOf, typeIn, typeOver, typeByte, nodeSuits, clauseSuits}
-use Rattle.checks.specs.Findings.{Typed, misfitNode, misfitClause}
+use Rattle.typing.specs.Types.{typeIn, clauseSuits}
+use Rattle.checks.specs.Findings.{byteOf, typeByte, nodeSuits, Typed, misfitNode, misfitClause}
 
 blank : (m k : ℕ) → typeIn (replicate m 0) k ≡ YesNo
 unfolding typeIn
@@ -105,9 +105,9 @@ start book i = record { room = length-replicate {A = ℕ} 256 0; within = omega 
 module _ (book : List Scope) (i : ℕ) (types : List ℕ) (n : ℕ) (g : Table book i types n) where
   pub turn : n < 256 → n < length (scopeAt book i .nodes) → (x : Node) (b : ℕ) → x ≡ nodeAt book i n → b ≡ typeByte book i types x
       → Table book i (set types n b) (n + 1)
-  unfolding nodeAt typeOver typeByte
+  unfolding nodeAt typeByte
   turn l h x b ex eb =
-      let t = typeOver book i types x in
+      let t = nodeType book (scopeAt book i) (typeIn types) x in
       let r = g .room in
       record {
         room = length-set types n b ∙ g .room;

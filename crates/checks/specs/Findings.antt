@@ -7,12 +7,58 @@ use Rattle.book.specs.Lists.{any, anyFrom}
 use Rattle.book.specs.Syntax.{Scope}
 use Rattle.book.specs.References.{scopeAt, nodeNames, clauseNames, danglesIn, dangles}
 use Rattle.book.specs.Sharing.{operands, clauseNodes, gathered, namings, repeats, shares}
-use Rattle.book.specs.Typing.{typeOfNode, nodeFits, clauseFits, mismatchIn, mismatches}
+use Rattle.book.specs.Typing.{nodeType, typeOfNode, nodeFits, clauseFits, mismatchIn, mismatches}
+use Rattle.book.specs.declared.ValueType.{ValueType}
+use Rattle.book.specs.declared.ValueType.the-variants.{YesNo, Numeric}
 use Rattle.book.specs.declared.Node.{Node}
+use Rattle.book.specs.declared.Node.the-variants as node
 use Rattle.book.specs.declared.Clause.{Clause}
 use Rattle.sharing.specs.Marks.{Marking}
 use Rattle.typing.specs.Types.{typeIn}
+use Rattle.checks.specs.declared.Step.{Step}
 use Rattle.checks.specs.declared.Findings.{Findings}
+use Rattle.calculus.specs.declared.Unary.{Unary}
+use Rattle.calculus.specs.declared.Binary.{Binary}
+
+-- a type as a byte of the table
+abbrev pub byteOf : ValueType → ℕ
+byteOf YesNo = 0
+byteOf Numeric = 1
+
+-- the byte of a node of scope i, the table having those of lower nodes
+unfoldable pub typeByte : List Scope → ℕ → List ℕ → Node → ℕ
+typeByte book i types x = byteOf (nodeType book (scopeAt book i) (typeIn types) x)
+
+-- a node's operands have the types that it takes
+unfoldable pub nodeSuits : List ℕ → Node → Bool
+nodeSuits types x = nodeFits (typeIn types) x
+
+-- of node n of scope i, with the marks and the table of those below it: what it names is marked
+pub record OfNode (book : List Scope) (i n : ℕ) (marks types : List ℕ) (twice : Bool) (x : Node) (r : Step) (after : List ℕ) : Type 0 where
+  pub named : r .names ≡ nodeNames book (scopeAt book i) n x
+  pub shared : Marking (operands x) marks twice (r .shares) after
+  pub fitting : r .suits ≡ nodeSuits types x
+  pub typed : r .byte ≡ typeByte book i types x
+
+-- of a node that names nodes, whatever the scope
+pub record OfOperands (n : ℕ) (marks types : List ℕ) (twice : Bool) (x : Node) (r : Step) (after : List ℕ) : Type 0 where
+  pub told : (book : List Scope) (i : ℕ) → OfNode book i n marks types twice x r after
+
+abbrev pub OfUnary : ℕ → List ℕ → List ℕ → Bool → Unary → ℕ → Step → List ℕ → Type 0
+OfUnary n marks types twice op a = OfOperands n marks types twice (node.Unary op a)
+
+abbrev pub OfBinary : ℕ → List ℕ → List ℕ → Bool → Binary → ℕ → ℕ → Step → List ℕ → Type 0
+OfBinary n marks types twice op a b = OfOperands n marks types twice (node.Binary op a b)
+
+abbrev pub OfChoice : ℕ → List ℕ → List ℕ → Bool → ℕ → ℕ → ℕ → Step → List ℕ → Type 0
+OfChoice n marks types twice c a b = OfOperands n marks types twice (node.Choice c a b)
+
+abbrev pub OfDefault : ℕ → List ℕ → List ℕ → Bool → ℕ → ℕ → ℕ → ℕ → ℕ → Step → List ℕ → Type 0
+OfDefault n marks types twice x y z j c = OfOperands n marks types twice (node.Default x y z j c)
+
+-- of a node that names none
+unfoldable pub leafStep : Bool → Bool → ValueType → Step
+leafStep names twice t = record { names = names; shares = twice; suits = true; byte = byteOf t }
 
 -- what is found once something dangles
 abbrev pub onlyDangling : Findings

@@ -1,21 +1,37 @@
 // Faults 6, 7 and 8 of a book in one pass: for each scope one loop over its nodes and one over its clauses.
+use book::Node;
+use book::ValueType;
+use calculus::Binary;
+use calculus::Unary;
 use index::clause_at;
 use index::clause_count;
 use index::node_at;
 use index::node_count;
+use index::variable_count;
+use references::below;
+use references::both_below;
 use references::clause_names;
-use references::node_names;
+use references::default_names;
+use references::names_called;
 use references::sub_scope_dangles;
+use sharing::mark;
 use sharing::mark_clause;
-use sharing::mark_operands;
+use sharing::mark_unless;
+use types::operand_type;
+use types::same_type;
+use types::unary_type;
+use typing::called_type;
 use typing::clause_suits;
-use typing::node_suits;
-use typing::type_byte;
+use typing::named_fits;
+use typing::own_type;
+use typing::type_in;
 ghost use mathlib.Core.Path.{_≡_};
 ghost use lib.ListN.{length, replicate};
 ghost use Rattle.book.specs.Decode.{scopesOf};
 ghost use Rattle.book.specs.Limits.{Within};
 ghost use Rattle.index.specs.Index.{Laid};
+ghost use Rattle.book.specs.Typing.{binaryType};
+ghost use Rattle.checks.specs.Findings.{byteOf, leafStep, OfNode, OfUnary, OfBinary, OfChoice, OfDefault};
 ghost use Rattle.checks.specs.Findings.{onlyDangling, Typed, OfNodes, OfClauses, OfScope, OfBook};
 
 // What is found: whether something dangles; where nothing does, whether a node is named more than once, and whether a type does not fit.
@@ -23,6 +39,182 @@ pub struct Findings {
     pub dangles: bool,
     pub shares: bool,
     pub mismatches: bool,
+}
+
+// What is found of one node: whether it names only what it may; whether a node was named twice, so far or by it; whether its operands
+// have the types that it takes; and its type as a byte.
+struct Step {
+    names: bool,
+    shares: bool,
+    suits: bool,
+    byte: u8,
+}
+
+// A type as a byte.
+fn byte_of(t: ValueType) -> u8
+    ensures { λ r. ⌜ r ≡ byteOf t ⌝ }
+{
+    match t {
+        ValueType::YesNo => 0,
+        ValueType::Numeric => 1,
+    }
+}
+
+// What a binary operator gives.
+fn binary_type(op: Binary) -> ValueType
+    ensures { λ r. ⌜ r ≡ binaryType op ⌝ }
+{
+    match op {
+        Binary::And => ValueType::YesNo,
+        Binary::Add => ValueType::Numeric,
+        Binary::Subtract => ValueType::Numeric,
+        Binary::Equal => ValueType::YesNo,
+        Binary::Less => ValueType::YesNo,
+    }
+}
+
+// A node that names no node.
+fn check_leaf(names: bool, twice: bool, t: ValueType) -> Step
+    ensures { λ r. ⌜ r ≡ leafStep names twice t ⌝ }
+{
+    let byte = byte_of(t);
+    Step {
+        names,
+        shares: twice,
+        suits: true,
+        byte,
+    }
+}
+
+// Node n, a unary operator's.
+fn check_unary(n: usize, marks: &mut [u8], types: &[u8], twice: bool, op: Unary, a: u8) -> Step
+    ensures { λ r. ⌜ OfUnary n (now (marks .entry)) (now (types .entry)) twice op a r (now (marks .exit)) ⌝ }
+{
+    let t = unary_type(op);
+    let suits = same_type(type_in(types, a), t);
+    let byte = byte_of(t);
+    let names = below(n, a);
+    let shares = mark(marks, twice, a);
+    Step {
+        names,
+        shares,
+        suits,
+        byte,
+    }
+}
+
+// Node n, a binary operator's.
+fn check_binary(
+    n: usize,
+    marks: &mut [u8],
+    types: &[u8],
+    twice: bool,
+    op: Binary,
+    a: u8,
+    b: u8,
+) -> Step
+    ensures { λ r. ⌜ OfBinary n (now (marks .entry)) (now (types .entry)) twice op a b r (now (marks .exit)) ⌝ }
+{
+    let left = type_in(types, a);
+    let t = operand_type(op, left);
+    let suits = same_type(left, t) & same_type(type_in(types, b), t);
+    let byte = byte_of(binary_type(op));
+    let names = both_below(n, a, b);
+    let first = mark(marks, twice, a);
+    let shares = mark(marks, first, b);
+    Step {
+        names,
+        shares,
+        suits,
+        byte,
+    }
+}
+
+// Node n, an if of condition c and branches a and b.
+fn check_choice(n: usize, marks: &mut [u8], types: &[u8], twice: bool, c: u8, a: u8, b: u8) -> Step
+    ensures { λ r. ⌜ OfChoice n (now (marks .entry)) (now (types .entry)) twice c a b r (now (marks .exit)) ⌝ }
+{
+    let t = type_in(types, a);
+    let suits = same_type(type_in(types, c), ValueType::YesNo) & same_type(type_in(types, b), t);
+    let byte = byte_of(t);
+    let names = below(n, c) & both_below(n, a, b);
+    let first = mark(marks, twice, c);
+    let second = mark(marks, first, a);
+    let shares = mark(marks, second, b);
+    Step {
+        names,
+        shares,
+        suits,
+        byte,
+    }
+}
+
+// Node n, a default of exceptions x, y and z, justification j and consequence c.
+fn check_default(
+    n: usize,
+    marks: &mut [u8],
+    types: &[u8],
+    twice: bool,
+    x: u8,
+    y: u8,
+    z: u8,
+    j: u8,
+    c: u8,
+) -> Step
+    ensures { λ r. ⌜ OfDefault n (now (marks .entry)) (now (types .entry)) twice x y z j c r (now (marks .exit)) ⌝ }
+{
+    let t = type_in(types, c);
+    let justified = same_type(type_in(types, j), ValueType::YesNo);
+    let suits = named_fits(types, t, x)
+        & (named_fits(types, t, y) & (named_fits(types, t, z) & justified));
+    let byte = byte_of(t);
+    let names = default_names(n, x, y, z, j, c);
+    let first = mark_unless(marks, twice, x);
+    let second = mark_unless(marks, first, y);
+    let third = mark_unless(marks, second, z);
+    let fourth = mark(marks, third, j);
+    let shares = mark(marks, fourth, c);
+    Step {
+        names,
+        shares,
+        suits,
+        byte,
+    }
+}
+
+// Node n of scope i: what it names is marked.
+fn check_node(
+    book: &[u8],
+    index: &[u16],
+    i: usize,
+    n: usize,
+    node: Node,
+    marks: &mut [u8],
+    types: &[u8],
+    twice: bool,
+) -> Step
+    requires { ⌜ Laid (now book) (now index) ⌝ }
+    ensures { λ r.
+        ⌜ OfNode (scopesOf (now (book .entry))) i n (now (marks .entry)) (now (types .entry)) twice node r (now (marks .exit)) ⌝ }
+{
+    match node {
+        Node::Constant(_) => check_leaf(true, twice, ValueType::YesNo),
+        Node::Number(_) => check_leaf(true, twice, ValueType::Numeric),
+        Node::Own(v) => {
+            let names = below(variable_count(book, index, i), v);
+            check_leaf(names, twice, own_type(book, index, i, v))
+        }
+        Node::Called(k, v) => {
+            let names = names_called(book, index, i, k, v);
+            check_leaf(names, twice, called_type(book, index, i, k, v))
+        }
+        Node::Empty(t) => check_leaf(true, twice, t),
+        Node::Conflict(t) => check_leaf(true, twice, t),
+        Node::Unary(op, a) => check_unary(n, marks, types, twice, op, a),
+        Node::Binary(op, a, b) => check_binary(n, marks, types, twice, op, a, b),
+        Node::Choice(c, a, b) => check_choice(n, marks, types, twice, c, a, b),
+        Node::Default(x, y, z, j, c) => check_default(n, marks, types, twice, x, y, z, j, c),
+    }
 }
 
 // What is found once something dangles: nothing else matters.
@@ -50,12 +242,13 @@ fn check_nodes(book: &[u8], index: &[u16], i: usize, marks: &mut [u8], types: &m
     let mut n = 0;
     while n < count {
         let node = node_at(book, index, i, n);
-        if !node_names(book, index, i, n, node) {
+        let step = check_node(book, index, i, n, node, marks, types, shares);
+        if !step.names {
             return dangling();
         }
-        shares = mark_operands(marks, shares, node);
-        mismatches = mismatches | !node_suits(types, node);
-        types[n] = type_byte(book, index, i, types, node);
+        shares = step.shares;
+        mismatches = mismatches | !step.suits;
+        types[n] = step.byte;
         n += 1;
     }
     Findings {
@@ -116,7 +309,7 @@ fn check_scope(book: &[u8], index: &[u16], scopes: usize, i: usize) -> Findings
     check_clauses(book, index, i, &mut marks, &types, found)
 }
 
-// Faults 6, 7 and 8 of a book of so many scopes, by the tables of the book, up to the first scope in which something dangles.
+// Faults 6, 7 and 8 of a book of so many scopes, by its index, up to the first scope in which something dangles.
 pub fn find_faults(book: &[u8], index: &[u16], scopes: usize) -> Findings
     requires { ⌜ Laid (now book) (now index) ⌝
         ∗ ⌜ scopes ≡ length (scopesOf (now book)) ⌝

@@ -1,7 +1,6 @@
-// Fault 6, a number that names nothing or what it may not: of one node, of one clause, and of a scope's sub-scopes.
+// Fault 6, a number that names nothing or what it may not: numbers by themselves, one clause, and a scope's sub-scopes.
 use book::Clause;
 use book::Consequence;
-use book::Node;
 use book::Target;
 use index::clause_at;
 use index::node_count;
@@ -13,26 +12,26 @@ ghost use lib.ListN.{length};
 ghost use lib.Dec.{ltb};
 ghost use Rattle.book.specs.Syntax.{sameTarget};
 ghost use Rattle.book.specs.Decode.{scopesOf};
-ghost use Rattle.book.specs.References.{scopeAt, namesCalled, namesException, nodeNames, namesTarget, clauseNames};
+ghost use Rattle.book.specs.References.{scopeAt, namesCalled, namesException, namesTarget, clauseNames};
 ghost use Rattle.index.specs.Index.{Laid};
 ghost use Rattle.references.specs.Dangling.{bothBelow, defaultNames, parentNames, consequenceNames, subScopeDangles};
 
 // Whether a number is below n.
-fn below(n: usize, a: u8) -> bool
+pub fn below(n: usize, a: u8) -> bool
     ensures { λ r. ⌜ r ≡ ltb a n ⌝ }
 {
     (a as usize) < n
 }
 
 // Whether two numbers are below n.
-fn both_below(n: usize, a: u8, b: u8) -> bool
+pub fn both_below(n: usize, a: u8, b: u8) -> bool
     ensures { λ r. ⌜ r ≡ bothBelow n a b ⌝ }
 {
     below(n, a) & below(n, b)
 }
 
 // Whether scope i has sub-scope k, and the scope that it names has variable v.
-fn names_called(book: &[u8], index: &[u16], i: usize, k: u8, v: u8) -> bool
+pub fn names_called(book: &[u8], index: &[u16], i: usize, k: u8, v: u8) -> bool
     requires { ⌜ Laid (now book) (now index) ⌝ }
     ensures { λ r. ⌜ r ≡ namesCalled (scopesOf (now (book .entry))) (scopeAt (scopesOf (now (book .entry))) i) k v ⌝ }
 {
@@ -52,29 +51,10 @@ fn none_or_below(n: usize, e: u8) -> bool
 }
 
 // Whether default n names only nodes of lower number.
-fn default_names(n: usize, x: u8, y: u8, z: u8, j: u8, c: u8) -> bool
+pub fn default_names(n: usize, x: u8, y: u8, z: u8, j: u8, c: u8) -> bool
     ensures { λ r. ⌜ r ≡ defaultNames n x y z j c ⌝ }
 {
     none_or_below(n, x) & (none_or_below(n, y) & (none_or_below(n, z) & both_below(n, j, c)))
-}
-
-// Whether node n of scope i names only what it may.
-pub fn node_names(book: &[u8], index: &[u16], i: usize, n: usize, node: Node) -> bool
-    requires { ⌜ Laid (now book) (now index) ⌝ }
-    ensures { λ r. ⌜ r ≡ nodeNames (scopesOf (now (book .entry))) (scopeAt (scopesOf (now (book .entry))) i) n node ⌝ }
-{
-    match node {
-        Node::Constant(_) => true,
-        Node::Number(_) => true,
-        Node::Own(v) => below(variable_count(book, index, i), v),
-        Node::Called(k, v) => names_called(book, index, i, k, v),
-        Node::Empty(_) => true,
-        Node::Conflict(_) => true,
-        Node::Unary(_, a) => below(n, a),
-        Node::Binary(_, a, b) => both_below(n, a, b),
-        Node::Choice(c, a, b) => below(n, c) & both_below(n, a, b),
-        Node::Default(x, y, z, j, c) => default_names(n, x, y, z, j, c),
-    }
 }
 
 // Whether two targets are one.

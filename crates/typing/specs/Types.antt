@@ -1,4 +1,4 @@
--- The types of a scope's nodes as a table of bytes, and what is asked of nodes and clauses by that table.
+-- The types of a scope's nodes as a table of bytes, and what is asked by that table.
 use Prim.Native.Nat.{ℕ}
 use mathlib.Core.Bool.{Bool, cond}
 use mathlib.Core.List.{List}
@@ -6,18 +6,12 @@ use lib.ListN.{getD}
 use lib.Dec.{eqb}
 use Rattle.book.specs.Syntax.{Scope}
 use Rattle.book.specs.References.{scopeAt}
-use Rattle.book.specs.Typing.{typeAt, calledTypeAt, targetType, nodeType, exceptionFits, nodeFits, consequenceType, clauseFits}
+use Rattle.book.specs.Typing.{typeAt, calledTypeAt, targetType, exceptionFits, consequenceType, clauseFits}
 use Rattle.book.specs.declared.ValueType.{ValueType}
 use Rattle.book.specs.declared.ValueType.the-variants.{YesNo, Numeric}
-use Rattle.book.specs.declared.Node.{Node}
 use Rattle.book.specs.declared.Consequence.{Consequence}
 use Rattle.book.specs.declared.Target.{Target}
 use Rattle.book.specs.declared.Clause.{Clause}
-
--- a type as a byte
-abbrev pub byteOf : ValueType → ℕ
-byteOf YesNo = 0
-byteOf Numeric = 1
 
 -- the type that a table has for node n; yes/no for a node that it does not have
 unfoldable pub typeIn : List ℕ → ℕ → ValueType
@@ -35,14 +29,6 @@ calledType book i k v = calledTypeAt book (scopeAt book i) k v
 unfoldable pub typeOfTarget : List Scope → ℕ → Target → ValueType
 typeOfTarget book i t = targetType book (scopeAt book i) t
 
--- the type of a node of scope i, the table having those of lower nodes
-unfoldable pub typeOver : List Scope → ℕ → List ℕ → Node → ValueType
-typeOver book i types x = nodeType book (scopeAt book i) (typeIn types) x
-
--- the byte of such a node in the table
-unfoldable pub typeByte : List Scope → ℕ → List ℕ → Node → ℕ
-typeByte book i types x = byteOf (typeOver book i types x)
-
 -- "255: none", or a node of this type
 unfoldable pub namedFits : List ℕ → ValueType → ℕ → Bool
 namedFits types t n = exceptionFits (typeIn types) t n
@@ -50,10 +36,6 @@ namedFits types t n = exceptionFits (typeIn types) t n
 -- the type of a clause's consequence
 unfoldable pub typeOfConsequence : List ℕ → Consequence → ValueType
 typeOfConsequence types q = consequenceType (typeIn types) q
-
--- a node's operands have the types that it takes
-unfoldable pub nodeSuits : List ℕ → Node → Bool
-nodeSuits types x = nodeFits (typeIn types) x
 
 -- a clause of scope i has a yes/no condition and a consequence of its target's type
 unfoldable pub clauseSuits : List Scope → ℕ → List ℕ → Clause → Bool

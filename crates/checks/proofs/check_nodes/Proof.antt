@@ -4,7 +4,7 @@ use Prim.Native.Nat.{_-_}
 use native.Mathlib.Omega.{arith}
 use borrow.Author.Needs.{needs}
 use Rattle.book.specs.Decode.{scopesOf}
-use Rattle.checks.proofs.Passes.{Nodes, nodes-start, marks-length, types-length, in-table, node-dangles, node-turn, nodes-end}
+use Rattle.checks.proofs.Passes.{Nodes, nodes-start, marks-length, types-length, in-table, step-length, node-dangles, node-turn, nodes-end}
 use Rattle.checks.proofs.check_nodes.Statement.{statement}
 use Rattle.checks.proofs.check_nodes.Tie as tie
 
@@ -24,37 +24,25 @@ loop-holds c = nodes-start _ _ _ _ (c .before .before .before .before .before .p
 node-at-requires : tie.Need-node-at-requires Inv-loop μ-loop
 node-at-requires c κs = search needs
 
-node-names-requires : tie.Need-node-names-requires Inv-loop μ-loop
-node-names-requires c κs = search needs
+check-node-requires : tie.Need-check-node-requires Inv-loop μ-loop
+check-node-requires c κs = search needs
 
 dangling-requires : tie.Need-dangling-requires Inv-loop μ-loop
 dangling-requires c κs = search needs
 
 same-length : tie.Need-same-length Inv-loop μ-loop
-same-length c = marks-length (c .before .before .before .before .before .loop .inv)
+same-length c = step-length (c .before .before .before .before .before .before .before .before .before .before .loop .inv) (rw (← c .before .before .before .before .before .before .before .before .before .before .before .node-count .ensures) (c .before .before .before .before .before .before .before .before .before .loop-test .taken)) (c .before .before .before .before .before .before .before .before .node-at .ensures) (c .before .before .before .before .before .check-node .ensures)
 
 same-length-2 : tie.Need-same-length-2 Inv-loop μ-loop
-same-length-2 c = types-length (c .before .before .before .before .before .loop .inv) (c .before .before .before .before .before .before .before .before .before .before .before .pre .1 .1)
+same-length-2 c = types-length (c .before .before .before .before .before .before .before .before .before .before .loop .inv) (c .before .before .before .before .before .before .before .before .before .before .before .before .before .before .before .before .pre .1 .1)
 
 returns : tie.Need-returns Inv-loop μ-loop
 returns c =
-    let l = c .before .before .before .before in
-    node-dangles (l .before .loop .inv) (rw (← l .before .before .node-count .ensures) (l .loop-test .taken)) _ (c .before .before .before .node-at .ensures) _
-    (c .before .before .node-names .ensures) (c .before .if1 .taken) (c .dangling .ensures)
-
-mark-operands-requires : tie.Need-mark-operands-requires Inv-loop μ-loop
-mark-operands-requires c κs = search needs
-
-node-suits-requires : tie.Need-node-suits-requires Inv-loop μ-loop
-node-suits-requires c κs = search needs
-
-type-byte-requires : tie.Need-type-byte-requires Inv-loop μ-loop
-type-byte-requires c κs = search needs
+    node-dangles (c .before .before .before .before .before .before .before .before .before .before .loop .inv) (rw (← c .before .before .before .before .before .before .before .before .before .before .before .node-count .ensures) (c .before .before .before .before .before .before .before .before .before .loop-test .taken)) (c .before .before .before .before .before .before .before .before .node-at .ensures) (c .before .before .before .before .before .check-node .ensures) (c .before .if1 .taken)
+    (c .dangling .ensures)
 
 slice-write-types : tie.Need-slice-write-types Inv-loop μ-loop
-slice-write-types c =
-    let l = c .before .before .before .before .before .before .before .before .before .before .before in
-    in-table (l .before .loop .inv) (rw (← l .before .before .node-count .ensures) (l .loop-test .taken)) (l .before .before .before .before .before .before .before .pre .1 .0)
+slice-write-types c = in-table (c .before .before .before .before .before .before .before .before .before .before .loop .inv) (rw (← c .before .before .before .before .before .before .before .before .before .before .before .node-count .ensures) (c .before .before .before .before .before .before .before .before .before .loop-test .taken)) (c .before .before .before .before .before .before .before .before .before .before .before .before .before .before .before .before .pre .1 .0)
 
 add-n : tie.Need-add-n Inv-loop μ-loop
 add-n c = omega arith
@@ -64,10 +52,8 @@ loop-less c = omega arith
 
 loop-again : tie.Need-loop-again Inv-loop μ-loop
 loop-again c =
-    let m = c .before .before .before .before .before .before .before .before in
-    let l = m .before .before .before in
-    node-turn (l .before .loop .inv) (rw (← l .before .before .node-count .ensures) (l .loop-test .taken)) _ (m .before .before .node-at .ensures) _
-    (m .before .node-names .ensures) (m .if1 .left) (l .before .before .before .before .before .before .before .pre .1 .0) (c .before .before .before .before .before .before .mark-operands .ensures) _ (c .before .before .node-suits .ensures) _ (c .type-byte .ensures)
+    node-turn (c .before .before .before .before .before .before .before .before .before .before .loop .inv) (rw (← c .before .before .before .before .before .before .before .before .before .before .before .node-count .ensures) (c .before .before .before .before .before .before .before .before .before .loop-test .taken)) (c .before .before .before .before .before .before .before .before .node-at .ensures) (c .before .before .before .before .before .check-node .ensures) (c .before .if1 .left)
+    (c .before .before .before .before .before .before .before .before .before .before .before .before .before .before .before .before .pre .1 .0)
 
 same-length-3 : tie.Need-same-length-3 Inv-loop μ-loop
 same-length-3 c = marks-length (c .before .loop .inv)
@@ -87,14 +73,11 @@ check-nodes-spec =
     node-count-requires
     loop-holds
     node-at-requires
-    node-names-requires
+    check-node-requires
     dangling-requires
     same-length
     same-length-2
     returns
-    mark-operands-requires
-    node-suits-requires
-    type-byte-requires
     slice-write-types
     add-n
     loop-less
