@@ -17,7 +17,7 @@ use Rattle.blocks.specs.declared.Ran.{Ran}
 use Rattle.blocks.specs.declared.Ran.the-variants.{Values, Ended, Stuck, NoRoom}
 use Rattle.instructions.specs.Views.{givensAt, valuesIn, memory}
 use Rattle.heads.specs.Heads.{variablesIn, subScopesIn}
-use Rattle.memo.specs.Rows.{Kept}
+use Rattle.memo.specs.Rows.{Memo}
 
 -- n cells from v on are not 0
 unfoldable pub nonzero : List ℕ → ℕ → ℕ → Bool
@@ -85,4 +85,4 @@ pub record CameTo (code : List ℕ) (p : ℕ) (given : List ℕ) (r : Ran) (own 
 
 -- every row that has a count is what entering its block with nothing given comes to
 abbrev pub Known : List ℕ → List ℕ → Type 0
-Known code memo = Kept (λ q count cells. CameTo code q [] (Values count) cells) memo
+Known code memo = Memo (λ q count cells. CameTo code q [] (Values count) cells) memo

@@ -60,6 +60,10 @@ fn compile_accepted(
     requires { ⌜ Tabled (now book) (now index) (now blocks) (now orders) n ⌝ }
     ensures { λ r. ⌜ Compiles (now (book .entry)) (now (code .entry)) r (now (code .exit)) ⌝ }
 {
+    if book.len() < 192 {
+        let mut room = [0u8; 1024];
+        return compile_through(book, index, blocks, orders, n, &mut room, code);
+    }
     if book.len() < 1536 {
         let mut room = [0u8; 8192];
         return compile_through(book, index, blocks, orders, n, &mut room, code);

@@ -19,7 +19,7 @@ use Rattle.calculus.specs.declared.Given.{Given}
 use Rattle.calculus.specs.declared.Given.the-variants.{Absent, Present}
 use Rattle.calculus.specs.declared.Value.{Value}
 use Rattle.cells.specs.Cells.{givenAt}
-use Rattle.memo.specs.Rows.{Copying, Copied, NoneGiven, Ungiven, rowCount, rowCells, RowRoom, Recalled, Remembered, Kept}
+use Rattle.memo.specs.Rows.{Copying, Copied, NoneGiven, Ungiven, rowCount, rowCells, RowRoom, Recalled, Remembered, Memo}
 
 decide : (a : Bool) → (a ≡ true) ⊎ (a ≡ false)
 decide true = inl refl
@@ -163,7 +163,7 @@ module _ {i : ℕ} {own memo : List ℕ} (n : RowRoom i own memo) where
 -- Tables of rows
 
 module _ (Right : ℕ → ℕ → List ℕ → Type 0) where
-  pub nothing-kept : Kept Right (replicate 1056 0)
+  pub nothing-kept : Memo Right (replicate 1056 0)
   unfolding rowCount
   nothing-kept =
       record {
@@ -171,7 +171,7 @@ module _ (Right : ℕ → ℕ → List ℕ → Type 0) where
         rows = λ i l ne. absurd (ne (getD-replicate {A = ℕ} 1056 (i * 33) 0 0 (omega arith)));
       }
 
-  module _ {i : ℕ} {memo : List ℕ} {asked : Bool} (k : Kept Right memo) (l : i < 32) where
+  module _ {i : ℕ} {memo : List ℕ} {asked : Bool} (k : Memo Right memo) (l : i < 32) where
     pub kept-found : {own own' : List ℕ} {r : ℕ} → Recalled memo i asked own r own' → (r ≡ 0 → ⊥) → Right i r own'
     kept-found {own} {own'} {r} f ne =
         let here = f .found ne in
@@ -179,10 +179,10 @@ module _ (Right : ℕ → ℕ → List ℕ → Type 0) where
         rw (count, here .1) (k .rows i l (λ z. ne (count ∙ z)))
 
     pub kept-noted : {own memo' : List ℕ} {count : ℕ} → Remembered own count i asked memo memo' → length memo' ≡ 1056
-        → (asked ≡ true → Right i count own) → Kept Right memo'
+        → (asked ≡ true → Right i count own) → Memo Right memo'
     kept-noted {own} {memo'} {count} m s right = ⊎-elim added (λ (e : asked ≡ false). rw (m .kept e) k) (decide asked)
       where
-        added : asked ≡ true → Kept Right memo'
+        added : asked ≡ true → Memo Right memo'
         added e =
             let w = m .noted e in
             record {

@@ -58,6 +58,6 @@ pub record Remembered (own : List ℕ) (count i : ℕ) (asked : Bool) (memo memo
   pub noted : asked ≡ true → Noted own count i memo memo'
 
 -- every row that has a count is as it must be, by its number, its count and its cells
-pub record Kept (Right : ℕ → ℕ → List ℕ → Type 0) (memo : List ℕ) : Type 0 where
+pub record Memo (Right : ℕ → ℕ → List ℕ → Type 0) (memo : List ℕ) : Type 0 where
   pub size : length memo ≡ 1056
   pub rows : (i : ℕ) → i < 32 → (rowCount memo i ≡ 0 → ⊥) → Right i (rowCount memo i) (rowCells memo i)

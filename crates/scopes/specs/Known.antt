@@ -5,7 +5,7 @@ use mathlib.Core.Path.{_≡_}
 use mathlib.Core.List.{List, []}
 use lib.ListN.{length}
 use Rattle.cells.specs.Codec.{AllKept}
-use Rattle.memo.specs.Rows.{Kept}
+use Rattle.memo.specs.Rows.{Memo}
 use Rattle.book.specs.Decode.{scopesOf}
 use Rattle.index.specs.Index.{Laid}
 use Rattle.scopes.specs.Steps.{World, Came}
@@ -13,7 +13,7 @@ use Rattle.scopes.specs.declared.Ran.the-variants.{Values}
 
 -- every row that has a count is what entering its scope with nothing given comes to
 abbrev pub Known : List ℕ → List ℕ → Type 0
-Known bytes memo = Kept (λ i count cells. Came bytes i [] (Values count) cells) memo
+Known bytes memo = Memo (λ i count cells. Came bytes i [] (Values count) cells) memo
 
 -- the row of scope i can be read and written
 pub record Noting (bytes index : List ℕ) (i : ℕ) (own memo : List ℕ) : Type 0 where
