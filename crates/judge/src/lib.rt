@@ -1,4 +1,4 @@
-// Loads a book: the first fault in the order written, or the number of its scopes; and the tables of an accepted book.
+// Judging a book: the first fault in the order written, or the number of its scopes; and the tables of an accepted book.
 use answers::Fault;
 use answers::Judged;
 use checks::find_faults;

@@ -67,7 +67,7 @@ pub record Room (links : List ℕ) (n : ℕ) (c : Clause) : Type 0 where
   pub number : n < 128
   pub head : headOf c < 417
 
--- what links rest on: the tables are those of the book, its scopes are within the limits, and nothing in it dangles
+-- what links rest on: the index is that of the book, its scopes are within the limits, and nothing in it dangles
 pub record Sound (bytes index : List ℕ) : Type 0 where
   pub laid : Laid bytes index
   pub variables : (i : ℕ) → length (scopeAt (scopesOf bytes) i .variables) ≤ 32
