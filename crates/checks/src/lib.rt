@@ -28,7 +28,6 @@ use typing::type_in;
 ghost use mathlib.Core.Path.{_≡_};
 ghost use lib.ListN.{length, replicate};
 ghost use Rattle.book.specs.Decode.{scopesOf};
-ghost use Rattle.book.specs.Limits.{Within};
 ghost use Rattle.index.specs.Index.{Laid};
 ghost use Rattle.book.specs.Typing.{binaryType};
 ghost use Rattle.checks.specs.Findings.{byteOf, leafStep, OfNode, OfUnary, OfBinary, OfChoice, OfDefault};
@@ -232,7 +231,6 @@ fn dangling() -> Findings
 // names only lower ones, so the table so far tells whether it fits.
 fn check_nodes(book: &[u8], index: &[u16], i: usize, marks: &mut [u8], types: &mut [u8]) -> Findings
     requires { ⌜ Laid (now book) (now index) ⌝
-        ∗ ⌜ Within (scopesOf (now book)) ⌝
         ∗ ⌜ now types ≡ replicate 256 0 ⌝ }
     ensures { λ r. ⌜ OfNodes (scopesOf (now (book .entry))) i (now (marks .entry)) r (now (marks .exit)) (now (types .exit)) ⌝ }
 {
@@ -293,8 +291,7 @@ fn check_clauses(
 // Scope i.
 fn check_scope(book: &[u8], index: &[u16], scopes: usize, i: usize) -> Findings
     requires { ⌜ Laid (now book) (now index) ⌝
-        ∗ ⌜ scopes ≡ length (scopesOf (now book)) ⌝
-        ∗ ⌜ Within (scopesOf (now book)) ⌝ }
+        ∗ ⌜ scopes ≡ length (scopesOf (now book)) ⌝ }
     ensures { λ r. ⌜ OfScope (scopesOf (now (book .entry))) i r ⌝ }
 {
     if sub_scope_dangles(book, index, scopes, i) {
@@ -312,8 +309,7 @@ fn check_scope(book: &[u8], index: &[u16], scopes: usize, i: usize) -> Findings
 // Faults 6, 7 and 8 of a book of so many scopes, by its index, up to the first scope in which something dangles.
 pub fn find_faults(book: &[u8], index: &[u16], scopes: usize) -> Findings
     requires { ⌜ Laid (now book) (now index) ⌝
-        ∗ ⌜ scopes ≡ length (scopesOf (now book)) ⌝
-        ∗ ⌜ Within (scopesOf (now book)) ⌝ }
+        ∗ ⌜ scopes ≡ length (scopesOf (now book)) ⌝ }
     ensures { λ r. ⌜ OfBook (scopesOf (now (book .entry))) r ⌝ }
 {
     let mut shares = false;

@@ -41,6 +41,15 @@ ghost use Rattle.emitter.specs.Pieces.{variablePiece, variableSize, over
 ghost use Rattle.emitter.specs.Pieces.{stepsPiece, stepsSize, headCount, headByte, headsPiece, headsSize};
 ghost use Rattle.emitter.specs.Pieces.{blockPiece, blockSize, bookPiece, bookSize, Ordered, Called, Block, Tabled};
 
+// A default: three exceptions (255: none), justification, consequence.
+struct DefaultNode {
+    pub first: u8,
+    pub second: u8,
+    pub third: u8,
+    pub justification: u8,
+    pub consequence: u8,
+}
+
 // The most steps of a scope.
 const STEPS: usize = 40;
 
@@ -202,7 +211,16 @@ fn emit_below(
             let p = emit_below(book, index, i, n, b as usize, out, at);
             emit_branches(book, index, i, n, c, a, p - at, out, p)
         }
-        Node::Default(x, y, z, j, c) => { emit_default(book, index, i, n, x, y, z, j, c, out, at) }
+        Node::Default(x, y, z, j, c) => {
+            let d = DefaultNode {
+                first: x,
+                second: y,
+                third: z,
+                justification: j,
+                consequence: c,
+            };
+            emit_default(book, index, i, n, d, out, at)
+        }
     }
 }
 
@@ -249,32 +267,39 @@ fn emit_exception(
     put_far(out, q, 36, q - p + 4)
 }
 
-// A default of nodes below a limit: exceptions x, y and z, justification j, consequence c.
+// A default of nodes below a limit.
 fn emit_default(
     book: &[u8],
     index: &[u16],
     i: usize,
     limit: usize,
-    x: u8,
-    y: u8,
-    z: u8,
-    j: u8,
-    c: u8,
+    d: DefaultNode,
     out: &mut [u8],
     at: usize,
 ) -> usize
-    requires { ⌜ Laid (now book) (now index) × Room at (size (defaultBelow (now book) i limit x y z j c)) ⌝ }
-    ensures { λ r. ⌜ Emitted (now (out .entry)) at (defaultBelow (now (book .entry)) i limit x y z j c) r (now (out .exit)) ⌝ }
+    requires { ⌜ Laid (now book) (now index) × Room at (size (defaultBelow (now book) i limit (d .first) (d .second) (d .third) (d .justification) (d .consequence))) ⌝ }
+    ensures { λ r.
+        ⌜ Emitted (now (out .entry)) at (defaultBelow (now (book .entry)) i limit (d .first) (d .second) (d .third) (d .justification) (d .consequence)) r (now (out .exit)) ⌝ }
 {
     let p = put_one(out, at, 32);
-    let q = emit_branches(book, index, i, limit, j, c, 1, out, p);
-    if no_exception(x, y, z) {
+    let q = emit_branches(
+        book,
+        index,
+        i,
+        limit,
+        d.justification,
+        d.consequence,
+        1,
+        out,
+        p,
+    );
+    if no_exception(d.first, d.second, d.third) {
         return q;
     }
     let r = put_far(out, q, 40, q - at);
-    let s = emit_exception(book, index, i, limit, z, out, r);
-    let t = emit_exception(book, index, i, limit, y, out, s);
-    let u = emit_exception(book, index, i, limit, x, out, t);
+    let s = emit_exception(book, index, i, limit, d.third, out, r);
+    let t = emit_exception(book, index, i, limit, d.second, out, s);
+    let u = emit_exception(book, index, i, limit, d.first, out, t);
     put_one(out, u, 38)
 }
 

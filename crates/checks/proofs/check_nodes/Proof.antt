@@ -19,7 +19,7 @@ node-count-requires : tie.Need-node-count-requires Inv-loop μ-loop
 node-count-requires c κs = search needs
 
 loop-holds : tie.Need-loop-holds Inv-loop μ-loop
-loop-holds c = nodes-start _ _ _ _ (c .before .before .before .before .before .pre .1 .1)
+loop-holds c = nodes-start _ _ _ _ (c .before .before .before .before .before .pre .1)
 
 node-at-requires : tie.Need-node-at-requires Inv-loop μ-loop
 node-at-requires c κs = search needs
@@ -34,7 +34,7 @@ same-length : tie.Need-same-length Inv-loop μ-loop
 same-length c = step-length (c .before .before .before .before .before .before .before .before .before .before .loop .inv) (rw (← c .before .before .before .before .before .before .before .before .before .before .before .node-count .ensures) (c .before .before .before .before .before .before .before .before .before .loop-test .taken)) (c .before .before .before .before .before .before .before .before .node-at .ensures) (c .before .before .before .before .before .check-node .ensures)
 
 same-length-2 : tie.Need-same-length-2 Inv-loop μ-loop
-same-length-2 c = types-length (c .before .before .before .before .before .before .before .before .before .before .loop .inv) (c .before .before .before .before .before .before .before .before .before .before .before .before .before .before .before .before .pre .1 .1)
+same-length-2 c = types-length (c .before .before .before .before .before .before .before .before .before .before .loop .inv) (c .before .before .before .before .before .before .before .before .before .before .before .before .before .before .before .before .pre .1)
 
 returns : tie.Need-returns Inv-loop μ-loop
 returns c =
@@ -42,7 +42,7 @@ returns c =
     (c .dangling .ensures)
 
 slice-write-types : tie.Need-slice-write-types Inv-loop μ-loop
-slice-write-types c = in-table (c .before .before .before .before .before .before .before .before .before .before .loop .inv) (rw (← c .before .before .before .before .before .before .before .before .before .before .before .node-count .ensures) (c .before .before .before .before .before .before .before .before .before .loop-test .taken)) (c .before .before .before .before .before .before .before .before .before .before .before .before .before .before .before .before .pre .1 .0)
+slice-write-types c = in-table (c .before .before .before .before .before .before .before .before .before .before .loop .inv) (rw (← c .before .before .before .before .before .before .before .before .before .before .before .node-count .ensures) (c .before .before .before .before .before .before .before .before .before .loop-test .taken)) (c .before .before .before .before .before .before .before .before .before .before .before .before .before .before .before .before .pre .0 .within)
 
 add-n : tie.Need-add-n Inv-loop μ-loop
 add-n c = omega arith
@@ -53,13 +53,13 @@ loop-less c = omega arith
 loop-again : tie.Need-loop-again Inv-loop μ-loop
 loop-again c =
     node-turn (c .before .before .before .before .before .before .before .before .before .before .loop .inv) (rw (← c .before .before .before .before .before .before .before .before .before .before .before .node-count .ensures) (c .before .before .before .before .before .before .before .before .before .loop-test .taken)) (c .before .before .before .before .before .before .before .before .node-at .ensures) (c .before .before .before .before .before .check-node .ensures) (c .before .if1 .left)
-    (c .before .before .before .before .before .before .before .before .before .before .before .before .before .before .before .before .pre .1 .0)
+    (c .before .before .before .before .before .before .before .before .before .before .before .before .before .before .before .before .pre .0 .within)
 
 same-length-3 : tie.Need-same-length-3 Inv-loop μ-loop
 same-length-3 c = marks-length (c .before .loop .inv)
 
 same-length-4 : tie.Need-same-length-4 Inv-loop μ-loop
-same-length-4 c = types-length (c .before .loop .inv) (c .before .before .before .before .before .before .before .pre .1 .1)
+same-length-4 c = types-length (c .before .loop .inv) (c .before .before .before .before .before .before .before .pre .1)
 
 returns-2 : tie.Need-returns-2 Inv-loop μ-loop
 returns-2 c = nodes-end (c .before .loop .inv) (rw (← c .before .before .node-count .ensures) (c .loop-test .left))

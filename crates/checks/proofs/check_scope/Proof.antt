@@ -22,7 +22,7 @@ slice-aggregate-check-nodes-2 : tie.Need-slice-aggregate-check-nodes-2
 slice-aggregate-check-nodes-2 c = search needs
 
 check-nodes-requires : tie.Need-check-nodes-requires
-check-nodes-requires c κs = (c .before .before .before .before .before .before .pre .0, (c .before .before .before .before .before .before .pre .1 .1, refl))
+check-nodes-requires c κs = (c .before .before .before .before .before .before .pre .0, refl)
 
 returns-2 : tie.Need-returns-2
 returns-2 c = node-wrong _ (c .before .before .before .before .before .before .before .sub-scope-dangles .ensures) (c .before .before .before .before .before .before .if1 .left) (c .before .before .before .check-nodes .ensures) (c .if2 .taken)

@@ -38,7 +38,7 @@ returns : tie.Need-returns Inv-loop μ-loop
 unfolding dangles
 returns c =
     record {
-      dangling = c .if1 .taken ∙ stopped _ _ (c .before .before .before .before .before .before .pre .1 .0) (c .before .before .before .loop .inv .0) _ (c .before .before .loop-test .taken) (c .before .check-scope .ensures .dangling) (c .if1 .taken);
+      dangling = c .if1 .taken ∙ stopped _ _ (c .before .before .before .before .before .before .pre .1) (c .before .before .before .loop .inv .0) _ (c .before .before .loop-test .taken) (c .before .check-scope .ensures .dangling) (c .if1 .taken);
       shared = λ e. absurd (true≢false (sym (c .if1 .taken) ∙ e));
       mismatched = λ e. absurd (true≢false (sym (c .if1 .taken) ∙ e));
     }
@@ -51,8 +51,8 @@ loop-less c = omega arith
 
 loop-again : tie.Need-loop-again Inv-loop μ-loop
 loop-again c =
-    let below = rw (c .before .before .before .before .before .before .before .before .pre .1 .0) at (c .before .before .before .before .loop-test .taken) in (
-      next _ _ (c .before .before .before .before .before .before .before .before .pre .1 .0) (c .before .before .before .before .before .loop .inv .0) _ (c .before .before .before .before .loop-test .taken) (c .before .before .before .check-scope .ensures .dangling) (c .before .before .if1 .left),
+    let below = rw (c .before .before .before .before .before .before .before .before .pre .1) at (c .before .before .before .before .loop-test .taken) in (
+      next _ _ (c .before .before .before .before .before .before .before .before .pre .1) (c .before .before .before .before .before .loop .inv .0) _ (c .before .before .before .before .loop-test .taken) (c .before .before .before .check-scope .ensures .dangling) (c .before .before .if1 .left),
       more _ _ _ _ _ (c .before .before .before .before .before .loop .inv .1) emptyScope below _ (c .before .before .before .check-scope .ensures .shared (c .before .before .if1 .left)),
       more _ _ _ _ _ (c .before .before .before .before .before .loop .inv .2) emptyScope below _ (c .before .before .before .check-scope .ensures .mismatched (c .before .before .if1 .left)),
     )
@@ -60,9 +60,9 @@ loop-again c =
 returns-2 : tie.Need-returns-2 Inv-loop μ-loop
 unfolding dangles shares sharesIn mismatches
 returns-2 c =
-    let all = rw (c .before .before .before .before .pre .1 .0) at (c .loop-test .left) in
+    let all = rw (c .before .before .before .before .pre .1) at (c .loop-test .left) in
     record {
-      dangling = finished _ _ (c .before .before .before .before .pre .1 .0) (c .before .loop .inv .0) (c .loop-test .left);
+      dangling = finished _ _ (c .before .before .before .before .pre .1) (c .before .loop .inv .0) (c .loop-test .left);
       shared = λ e. whole _ _ _ _ _ (c .before .loop .inv .1) all;
       mismatched = λ e. whole _ _ _ _ _ (c .before .loop .inv .2) all;
     }

@@ -372,11 +372,11 @@ emit-branches-returns t c =
 
 emit-default-put-one-requires : (t : ℕ) → emit-default-lts.Need-put-one-requires (R-emit-default t) (emit-default-at t) emit-default.Post
 emit-default-put-one-requires t c κs =
-    omega (arith, default-size (now (c .before .before .before .before .args .book)) (c .before .before .before .before .args .i) (c .before .before .before .before .args .limit) (c .before .before .before .before .args .x) (c .before .before .before .before .args .y) (c .before .before .before .before .args .z) (c .before .before .before .before .args .j) (c .before .before .before .before .args .c), c .before .before .before .before .pre .1 .1)
+    omega (arith, default-size (now (c .before .before .before .before .args .book)) (c .before .before .before .before .args .i) (c .before .before .before .before .args .limit) (c .before .before .before .before .args .d .first) (c .before .before .before .before .args .d .second) (c .before .before .before .before .args .d .third) (c .before .before .before .before .args .d .justification) (c .before .before .before .before .args .d .consequence), c .before .before .before .before .pre .1 .1)
 
 emit-default-emit-branches-requires : (t : ℕ) → emit-default-lts.Need-emit-branches-requires (R-emit-default t) (emit-default-at t) emit-default.Post
 emit-default-emit-branches-requires t c κs =
-    (omega (arith, c .before .before .before .before .before .before .before .before .pre .0), (c .before .before .before .before .before .before .before .before .pre .1 .0, omega (arith, default-size (now (c .before .before .before .before .before .before .before .before .args .book)) (c .before .before .before .before .before .before .before .before .args .i) (c .before .before .before .before .before .before .before .before .args .limit) (c .before .before .before .before .before .before .before .before .args .x) (c .before .before .before .before .before .before .before .before .args .y) (c .before .before .before .before .before .before .before .before .args .z) (c .before .before .before .before .before .before .before .before .args .j) (c .before .before .before .before .before .before .before .before .args .c), c .before .before .before .before .before .before .before .before .pre .1 .1, c .before .before .before .put-one .ensures .next)))
+    (omega (arith, c .before .before .before .before .before .before .before .before .pre .0), (c .before .before .before .before .before .before .before .before .pre .1 .0, omega (arith, default-size (now (c .before .before .before .before .before .before .before .before .args .book)) (c .before .before .before .before .before .before .before .before .args .i) (c .before .before .before .before .before .before .before .before .args .limit) (c .before .before .before .before .before .before .before .before .args .d .first) (c .before .before .before .before .before .before .before .before .args .d .second) (c .before .before .before .before .before .before .before .before .args .d .third) (c .before .before .before .before .before .before .before .before .args .d .justification) (c .before .before .before .before .before .before .before .before .args .d .consequence), c .before .before .before .before .before .before .before .before .pre .1 .1, c .before .before .before .put-one .ensures .next)))
 
 emit-default-no-exception-requires : (t : ℕ) → emit-default-lts.Need-no-exception-requires (R-emit-default t) (emit-default-at t) emit-default.Post
 emit-default-no-exception-requires t c κs = search needs
@@ -395,23 +395,23 @@ emit-default-sub-put-far t c =
 
 emit-default-put-far-requires : (t : ℕ) → emit-default-lts.Need-put-far-requires (R-emit-default t) (emit-default-at t) emit-default.Post
 emit-default-put-far-requires t c κs =
-    omega (arith, default-sizes (now (c .before .before .before .before .before .before .before .before .before .before .before .before .before .before .args .book)) (c .before .before .before .before .before .before .before .before .before .before .before .before .before .before .args .i) (c .before .before .before .before .before .before .before .before .before .before .before .before .before .before .args .limit) (c .before .before .before .before .before .before .before .before .before .before .before .before .before .before .args .x) (c .before .before .before .before .before .before .before .before .before .before .before .before .before .before .args .y) (c .before .before .before .before .before .before .before .before .before .before .before .before .before .before .args .z) (c .before .before .before .before .before .before .before .before .before .before .before .before .before .before .args .j) (c .before .before .before .before .before .before .before .before .before .before .before .before .before .before .args .c) (sym (c .before .before .no-exception .ensures) ∙ c .before .if1 .left), c .before .before .before .before .before .before .before .before .before .before .before .before .before .before .pre .1 .1, c .before .before .before .before .before .before .before .before .before .put-one .ensures .next, c .before .before .before .before .before .emit-branches .ensures .next)
+    omega (arith, default-sizes (now (c .before .before .before .before .before .before .before .before .before .before .before .before .before .before .args .book)) (c .before .before .before .before .before .before .before .before .before .before .before .before .before .before .args .i) (c .before .before .before .before .before .before .before .before .before .before .before .before .before .before .args .limit) (c .before .before .before .before .before .before .before .before .before .before .before .before .before .before .args .d .first) (c .before .before .before .before .before .before .before .before .before .before .before .before .before .before .args .d .second) (c .before .before .before .before .before .before .before .before .before .before .before .before .before .before .args .d .third) (c .before .before .before .before .before .before .before .before .before .before .before .before .before .before .args .d .justification) (c .before .before .before .before .before .before .before .before .before .before .before .before .before .before .args .d .consequence) (sym (c .before .before .no-exception .ensures) ∙ c .before .if1 .left), c .before .before .before .before .before .before .before .before .before .before .before .before .before .before .pre .1 .1, c .before .before .before .before .before .before .before .before .before .put-one .ensures .next, c .before .before .before .before .before .emit-branches .ensures .next)
 
 emit-default-emit-exception-requires : (t : ℕ) → emit-default-lts.Need-emit-exception-requires (R-emit-default t) (emit-default-at t) emit-default.Post
 emit-default-emit-exception-requires t c κs =
-    (omega (arith, c .before .before .before .before .before .before .before .before .before .before .before .before .before .before .before .before .before .before .pre .0), (c .before .before .before .before .before .before .before .before .before .before .before .before .before .before .before .before .before .before .pre .1 .0, omega (arith, default-sizes (now (c .before .before .before .before .before .before .before .before .before .before .before .before .before .before .before .before .before .before .args .book)) (c .before .before .before .before .before .before .before .before .before .before .before .before .before .before .before .before .before .before .args .i) (c .before .before .before .before .before .before .before .before .before .before .before .before .before .before .before .before .before .before .args .limit) (c .before .before .before .before .before .before .before .before .before .before .before .before .before .before .before .before .before .before .args .x) (c .before .before .before .before .before .before .before .before .before .before .before .before .before .before .before .before .before .before .args .y) (c .before .before .before .before .before .before .before .before .before .before .before .before .before .before .before .before .before .before .args .z) (c .before .before .before .before .before .before .before .before .before .before .before .before .before .before .before .before .before .before .args .j) (c .before .before .before .before .before .before .before .before .before .before .before .before .before .before .before .before .before .before .args .c) (sym (c .before .before .before .before .before .before .no-exception .ensures) ∙ c .before .before .before .before .before .if1 .left), c .before .before .before .before .before .before .before .before .before .before .before .before .before .before .before .before .before .before .pre .1 .1, c .before .before .before .before .before .before .before .before .before .before .before .before .before .put-one .ensures .next, c .before .before .before .before .before .before .before .before .before .emit-branches .ensures .next, c .before .before .before .put-far .ensures .next)))
+    (omega (arith, c .before .before .before .before .before .before .before .before .before .before .before .before .before .before .before .before .before .before .pre .0), (c .before .before .before .before .before .before .before .before .before .before .before .before .before .before .before .before .before .before .pre .1 .0, omega (arith, default-sizes (now (c .before .before .before .before .before .before .before .before .before .before .before .before .before .before .before .before .before .before .args .book)) (c .before .before .before .before .before .before .before .before .before .before .before .before .before .before .before .before .before .before .args .i) (c .before .before .before .before .before .before .before .before .before .before .before .before .before .before .before .before .before .before .args .limit) (c .before .before .before .before .before .before .before .before .before .before .before .before .before .before .before .before .before .before .args .d .first) (c .before .before .before .before .before .before .before .before .before .before .before .before .before .before .before .before .before .before .args .d .second) (c .before .before .before .before .before .before .before .before .before .before .before .before .before .before .before .before .before .before .args .d .third) (c .before .before .before .before .before .before .before .before .before .before .before .before .before .before .before .before .before .before .args .d .justification) (c .before .before .before .before .before .before .before .before .before .before .before .before .before .before .before .before .before .before .args .d .consequence) (sym (c .before .before .before .before .before .before .no-exception .ensures) ∙ c .before .before .before .before .before .if1 .left), c .before .before .before .before .before .before .before .before .before .before .before .before .before .before .before .before .before .before .pre .1 .1, c .before .before .before .before .before .before .before .before .before .before .before .before .before .put-one .ensures .next, c .before .before .before .before .before .before .before .before .before .emit-branches .ensures .next, c .before .before .before .put-far .ensures .next)))
 
 emit-default-emit-exception-requires-2 : (t : ℕ) → emit-default-lts.Need-emit-exception-requires-2 (R-emit-default t) (emit-default-at t) emit-default.Post
 emit-default-emit-exception-requires-2 t c κs =
-    (omega (arith, c .before .before .before .before .before .before .before .before .before .before .before .before .before .before .before .before .before .before .before .before .before .before .pre .0), (c .before .before .before .before .before .before .before .before .before .before .before .before .before .before .before .before .before .before .before .before .before .before .pre .1 .0, omega (arith, default-sizes (now (c .before .before .before .before .before .before .before .before .before .before .before .before .before .before .before .before .before .before .before .before .before .before .args .book)) (c .before .before .before .before .before .before .before .before .before .before .before .before .before .before .before .before .before .before .before .before .before .before .args .i) (c .before .before .before .before .before .before .before .before .before .before .before .before .before .before .before .before .before .before .before .before .before .before .args .limit) (c .before .before .before .before .before .before .before .before .before .before .before .before .before .before .before .before .before .before .before .before .before .before .args .x) (c .before .before .before .before .before .before .before .before .before .before .before .before .before .before .before .before .before .before .before .before .before .before .args .y) (c .before .before .before .before .before .before .before .before .before .before .before .before .before .before .before .before .before .before .before .before .before .before .args .z) (c .before .before .before .before .before .before .before .before .before .before .before .before .before .before .before .before .before .before .before .before .before .before .args .j) (c .before .before .before .before .before .before .before .before .before .before .before .before .before .before .before .before .before .before .before .before .before .before .args .c) (sym (c .before .before .before .before .before .before .before .before .before .before .no-exception .ensures) ∙ c .before .before .before .before .before .before .before .before .before .if1 .left), c .before .before .before .before .before .before .before .before .before .before .before .before .before .before .before .before .before .before .before .before .before .before .pre .1 .1, c .before .before .before .before .before .before .before .before .before .before .before .before .before .before .before .before .before .put-one .ensures .next, c .before .before .before .before .before .before .before .before .before .before .before .before .before .emit-branches .ensures .next, c .before .before .before .before .before .before .before .put-far .ensures .next, c .before .before .before .emit-exception .ensures .next)))
+    (omega (arith, c .before .before .before .before .before .before .before .before .before .before .before .before .before .before .before .before .before .before .before .before .before .before .pre .0), (c .before .before .before .before .before .before .before .before .before .before .before .before .before .before .before .before .before .before .before .before .before .before .pre .1 .0, omega (arith, default-sizes (now (c .before .before .before .before .before .before .before .before .before .before .before .before .before .before .before .before .before .before .before .before .before .before .args .book)) (c .before .before .before .before .before .before .before .before .before .before .before .before .before .before .before .before .before .before .before .before .before .before .args .i) (c .before .before .before .before .before .before .before .before .before .before .before .before .before .before .before .before .before .before .before .before .before .before .args .limit) (c .before .before .before .before .before .before .before .before .before .before .before .before .before .before .before .before .before .before .before .before .before .before .args .d .first) (c .before .before .before .before .before .before .before .before .before .before .before .before .before .before .before .before .before .before .before .before .before .before .args .d .second) (c .before .before .before .before .before .before .before .before .before .before .before .before .before .before .before .before .before .before .before .before .before .before .args .d .third) (c .before .before .before .before .before .before .before .before .before .before .before .before .before .before .before .before .before .before .before .before .before .before .args .d .justification) (c .before .before .before .before .before .before .before .before .before .before .before .before .before .before .before .before .before .before .before .before .before .before .args .d .consequence) (sym (c .before .before .before .before .before .before .before .before .before .before .no-exception .ensures) ∙ c .before .before .before .before .before .before .before .before .before .if1 .left), c .before .before .before .before .before .before .before .before .before .before .before .before .before .before .before .before .before .before .before .before .before .before .pre .1 .1, c .before .before .before .before .before .before .before .before .before .before .before .before .before .before .before .before .before .put-one .ensures .next, c .before .before .before .before .before .before .before .before .before .before .before .before .before .emit-branches .ensures .next, c .before .before .before .before .before .before .before .put-far .ensures .next, c .before .before .before .emit-exception .ensures .next)))
 
 emit-default-emit-exception-requires-3 : (t : ℕ) → emit-default-lts.Need-emit-exception-requires-3 (R-emit-default t) (emit-default-at t) emit-default.Post
 emit-default-emit-exception-requires-3 t c κs =
-    (omega (arith, c .before .before .before .before .before .before .before .before .before .before .before .before .before .before .before .before .before .before .before .before .before .before .before .before .before .before .pre .0), (c .before .before .before .before .before .before .before .before .before .before .before .before .before .before .before .before .before .before .before .before .before .before .before .before .before .before .pre .1 .0, omega (arith, default-sizes (now (c .before .before .before .before .before .before .before .before .before .before .before .before .before .before .before .before .before .before .before .before .before .before .before .before .before .before .args .book)) (c .before .before .before .before .before .before .before .before .before .before .before .before .before .before .before .before .before .before .before .before .before .before .before .before .before .before .args .i) (c .before .before .before .before .before .before .before .before .before .before .before .before .before .before .before .before .before .before .before .before .before .before .before .before .before .before .args .limit) (c .before .before .before .before .before .before .before .before .before .before .before .before .before .before .before .before .before .before .before .before .before .before .before .before .before .before .args .x) (c .before .before .before .before .before .before .before .before .before .before .before .before .before .before .before .before .before .before .before .before .before .before .before .before .before .before .args .y) (c .before .before .before .before .before .before .before .before .before .before .before .before .before .before .before .before .before .before .before .before .before .before .before .before .before .before .args .z) (c .before .before .before .before .before .before .before .before .before .before .before .before .before .before .before .before .before .before .before .before .before .before .before .before .before .before .args .j) (c .before .before .before .before .before .before .before .before .before .before .before .before .before .before .before .before .before .before .before .before .before .before .before .before .before .before .args .c) (sym (c .before .before .before .before .before .before .before .before .before .before .before .before .before .before .no-exception .ensures) ∙ c .before .before .before .before .before .before .before .before .before .before .before .before .before .if1 .left), c .before .before .before .before .before .before .before .before .before .before .before .before .before .before .before .before .before .before .before .before .before .before .before .before .before .before .pre .1 .1, c .before .before .before .before .before .before .before .before .before .before .before .before .before .before .before .before .before .before .before .before .before .put-one .ensures .next, c .before .before .before .before .before .before .before .before .before .before .before .before .before .before .before .before .before .emit-branches .ensures .next, c .before .before .before .before .before .before .before .before .before .before .before .put-far .ensures .next, c .before .before .before .before .before .before .before .emit-exception .ensures .next, c .before .before .before .emit-exception2 .ensures .next)))
+    (omega (arith, c .before .before .before .before .before .before .before .before .before .before .before .before .before .before .before .before .before .before .before .before .before .before .before .before .before .before .pre .0), (c .before .before .before .before .before .before .before .before .before .before .before .before .before .before .before .before .before .before .before .before .before .before .before .before .before .before .pre .1 .0, omega (arith, default-sizes (now (c .before .before .before .before .before .before .before .before .before .before .before .before .before .before .before .before .before .before .before .before .before .before .before .before .before .before .args .book)) (c .before .before .before .before .before .before .before .before .before .before .before .before .before .before .before .before .before .before .before .before .before .before .before .before .before .before .args .i) (c .before .before .before .before .before .before .before .before .before .before .before .before .before .before .before .before .before .before .before .before .before .before .before .before .before .before .args .limit) (c .before .before .before .before .before .before .before .before .before .before .before .before .before .before .before .before .before .before .before .before .before .before .before .before .before .before .args .d .first) (c .before .before .before .before .before .before .before .before .before .before .before .before .before .before .before .before .before .before .before .before .before .before .before .before .before .before .args .d .second) (c .before .before .before .before .before .before .before .before .before .before .before .before .before .before .before .before .before .before .before .before .before .before .before .before .before .before .args .d .third) (c .before .before .before .before .before .before .before .before .before .before .before .before .before .before .before .before .before .before .before .before .before .before .before .before .before .before .args .d .justification) (c .before .before .before .before .before .before .before .before .before .before .before .before .before .before .before .before .before .before .before .before .before .before .before .before .before .before .args .d .consequence) (sym (c .before .before .before .before .before .before .before .before .before .before .before .before .before .before .no-exception .ensures) ∙ c .before .before .before .before .before .before .before .before .before .before .before .before .before .if1 .left), c .before .before .before .before .before .before .before .before .before .before .before .before .before .before .before .before .before .before .before .before .before .before .before .before .before .before .pre .1 .1, c .before .before .before .before .before .before .before .before .before .before .before .before .before .before .before .before .before .before .before .before .before .put-one .ensures .next, c .before .before .before .before .before .before .before .before .before .before .before .before .before .before .before .before .before .emit-branches .ensures .next, c .before .before .before .before .before .before .before .before .before .before .before .put-far .ensures .next, c .before .before .before .before .before .before .before .emit-exception .ensures .next, c .before .before .before .emit-exception2 .ensures .next)))
 
 emit-default-put-one-requires-2 : (t : ℕ) → emit-default-lts.Need-put-one-requires-2 (R-emit-default t) (emit-default-at t) emit-default.Post
 emit-default-put-one-requires-2 t c κs =
-    omega (arith, default-sizes (now (c .before .before .before .before .before .before .before .before .before .before .before .before .before .before .before .before .before .before .before .before .before .before .before .before .before .before .before .before .before .before .args .book)) (c .before .before .before .before .before .before .before .before .before .before .before .before .before .before .before .before .before .before .before .before .before .before .before .before .before .before .before .before .before .before .args .i) (c .before .before .before .before .before .before .before .before .before .before .before .before .before .before .before .before .before .before .before .before .before .before .before .before .before .before .before .before .before .before .args .limit) (c .before .before .before .before .before .before .before .before .before .before .before .before .before .before .before .before .before .before .before .before .before .before .before .before .before .before .before .before .before .before .args .x) (c .before .before .before .before .before .before .before .before .before .before .before .before .before .before .before .before .before .before .before .before .before .before .before .before .before .before .before .before .before .before .args .y) (c .before .before .before .before .before .before .before .before .before .before .before .before .before .before .before .before .before .before .before .before .before .before .before .before .before .before .before .before .before .before .args .z) (c .before .before .before .before .before .before .before .before .before .before .before .before .before .before .before .before .before .before .before .before .before .before .before .before .before .before .before .before .before .before .args .j) (c .before .before .before .before .before .before .before .before .before .before .before .before .before .before .before .before .before .before .before .before .before .before .before .before .before .before .before .before .before .before .args .c) (sym (c .before .before .before .before .before .before .before .before .before .before .before .before .before .before .before .before .before .before .no-exception .ensures) ∙ c .before .before .before .before .before .before .before .before .before .before .before .before .before .before .before .before .before .if1 .left), c .before .before .before .before .before .before .before .before .before .before .before .before .before .before .before .before .before .before .before .before .before .before .before .before .before .before .before .before .before .before .pre .1 .1, c .before .before .before .before .before .before .before .before .before .before .before .before .before .before .before .before .before .before .before .before .before .before .before .before .before .put-one .ensures .next, c .before .before .before .before .before .before .before .before .before .before .before .before .before .before .before .before .before .before .before .before .before .emit-branches .ensures .next, c .before .before .before .before .before .before .before .before .before .before .before .before .before .before .before .put-far .ensures .next, c .before .before .before .before .before .before .before .before .before .before .before .emit-exception .ensures .next, c .before .before .before .before .before .before .before .emit-exception2 .ensures .next, c .before .before .before .emit-exception3 .ensures .next)
+    omega (arith, default-sizes (now (c .before .before .before .before .before .before .before .before .before .before .before .before .before .before .before .before .before .before .before .before .before .before .before .before .before .before .before .before .before .before .args .book)) (c .before .before .before .before .before .before .before .before .before .before .before .before .before .before .before .before .before .before .before .before .before .before .before .before .before .before .before .before .before .before .args .i) (c .before .before .before .before .before .before .before .before .before .before .before .before .before .before .before .before .before .before .before .before .before .before .before .before .before .before .before .before .before .before .args .limit) (c .before .before .before .before .before .before .before .before .before .before .before .before .before .before .before .before .before .before .before .before .before .before .before .before .before .before .before .before .before .before .args .d .first) (c .before .before .before .before .before .before .before .before .before .before .before .before .before .before .before .before .before .before .before .before .before .before .before .before .before .before .before .before .before .before .args .d .second) (c .before .before .before .before .before .before .before .before .before .before .before .before .before .before .before .before .before .before .before .before .before .before .before .before .before .before .before .before .before .before .args .d .third) (c .before .before .before .before .before .before .before .before .before .before .before .before .before .before .before .before .before .before .before .before .before .before .before .before .before .before .before .before .before .before .args .d .justification) (c .before .before .before .before .before .before .before .before .before .before .before .before .before .before .before .before .before .before .before .before .before .before .before .before .before .before .before .before .before .before .args .d .consequence) (sym (c .before .before .before .before .before .before .before .before .before .before .before .before .before .before .before .before .before .before .no-exception .ensures) ∙ c .before .before .before .before .before .before .before .before .before .before .before .before .before .before .before .before .before .if1 .left), c .before .before .before .before .before .before .before .before .before .before .before .before .before .before .before .before .before .before .before .before .before .before .before .before .before .before .before .before .before .before .pre .1 .1, c .before .before .before .before .before .before .before .before .before .before .before .before .before .before .before .before .before .before .before .before .before .before .before .before .before .put-one .ensures .next, c .before .before .before .before .before .before .before .before .before .before .before .before .before .before .before .before .before .before .before .before .before .emit-branches .ensures .next, c .before .before .before .before .before .before .before .before .before .before .before .before .before .before .before .put-far .ensures .next, c .before .before .before .before .before .before .before .before .before .before .before .emit-exception .ensures .next, c .before .before .before .before .before .before .before .emit-exception2 .ensures .next, c .before .before .before .emit-exception3 .ensures .next)
 
 emit-default-same-length-2 : (t : ℕ) → emit-default-lts.Need-same-length-2 (R-emit-default t) (emit-default-at t) emit-default.Post
 emit-default-same-length-2 t c =

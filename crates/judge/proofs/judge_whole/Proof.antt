@@ -1,7 +1,6 @@
 -- `judge::judge_whole` meets its contract.
 -- Assumes nothing.
 use Rattle.judge.proofs.Faults.{refused, dangling, shared, mismatched, mixed, orders-left}
-use Rattle.book.proofs.Limits.{within}
 use Rattle.book.specs.Decode.{scopesOf}
 use denote.Ref.{now}
 use mathlib.Core.Path.{sym, _∙_}
@@ -10,7 +9,7 @@ use Rattle.judge.proofs.judge_whole.Statement.{statement}
 use Rattle.judge.proofs.judge_whole.Tie as tie
 
 find-faults-requires : tie.Need-find-faults-requires
-find-faults-requires c κs = (c .before .before .before .before .before .pre .0 .filled .laid, (c .before .before .before .before .before .pre .0 .filled .scopes, c .before .before .before .before .before .pre .0 .filled .laid .within))
+find-faults-requires c κs = (c .before .before .before .before .before .pre .0 .filled .laid, c .before .before .before .before .before .pre .0 .filled .scopes)
 
 returns : tie.Need-returns
 returns c = refused (dangling (scopesOf (now (c .before .before .before .before .before .before .before .args .book))) (sym (c .before .find-faults .ensures .dangling) ∙ c .if1 .taken))
@@ -29,7 +28,7 @@ returns-3 c =
 
 has-mixed-requires : tie.Need-has-mixed-requires
 has-mixed-requires c κs =
-    (c .before .before .before .before .before .before .before .before .before .pre .0 .filled .laid, (c .before .before .before .before .before .before .before .before .before .pre .0 .filled .scopes, (sym (c .before .before .before .find-faults .ensures .dangling) ∙ c .before .before .if1 .left, within (now (c .before .before .before .before .before .before .before .before .before .args .book)) (c .before .before .before .before .before .before .before .before .before .pre .0 .sound))))
+    (c .before .before .before .before .before .before .before .before .before .pre .0 .filled .laid, (c .before .before .before .before .before .before .before .before .before .pre .0 .filled .scopes, (sym (c .before .before .before .find-faults .ensures .dangling) ∙ c .before .before .if1 .left, c .before .before .before .before .before .before .before .before .before .pre .0 .filled .laid .within)))
 
 returns-4 : tie.Need-returns-4
 returns-4 c =
