@@ -8,6 +8,21 @@ use book::Variable;
 use calculus::Binary;
 use calculus::Unary;
 use integers::number_at;
+use record::KIND_ADD;
+use record::KIND_AND;
+use record::KIND_CALLED;
+use record::KIND_CHOICE;
+use record::KIND_CONFLICT;
+use record::KIND_CONSTANT;
+use record::KIND_DEFINITION;
+use record::KIND_EMPTY;
+use record::KIND_EQUAL;
+use record::KIND_LESS;
+use record::KIND_NEGATE;
+use record::KIND_NOT;
+use record::KIND_NUMBER;
+use record::KIND_OWN;
+use record::KIND_SUBTRACT;
 use types::type_of;
 ghost use mathlib.Core.Path.{_≡_};
 ghost use Prim.Native.Nat.{_+_, _<_};
@@ -37,20 +52,20 @@ fn node_of(book: &[u8], at: usize) -> Node
 {
     let a = book[at + 1];
     match book[at] {
-        4 => Node::Constant(a == 1),
-        5 => Node::Number(number_at(book, at + 1)),
-        6 => Node::Own(a),
-        7 => Node::Called(a, book[at + 2]),
-        8 => Node::Empty(type_of(a)),
-        9 => Node::Conflict(type_of(a)),
-        10 => Node::Unary(Unary::Not, a),
-        11 => Node::Unary(Unary::Negate, a),
-        12 => Node::Binary(Binary::And, a, book[at + 2]),
-        13 => Node::Binary(Binary::Add, a, book[at + 2]),
-        14 => Node::Binary(Binary::Subtract, a, book[at + 2]),
-        15 => Node::Binary(Binary::Equal, a, book[at + 2]),
-        16 => Node::Binary(Binary::Less, a, book[at + 2]),
-        17 => Node::Choice(a, book[at + 2], book[at + 3]),
+        KIND_CONSTANT => Node::Constant(a == 1),
+        KIND_NUMBER => Node::Number(number_at(book, at + 1)),
+        KIND_OWN => Node::Own(a),
+        KIND_CALLED => Node::Called(a, book[at + 2]),
+        KIND_EMPTY => Node::Empty(type_of(a)),
+        KIND_CONFLICT => Node::Conflict(type_of(a)),
+        KIND_NOT => Node::Unary(Unary::Not, a),
+        KIND_NEGATE => Node::Unary(Unary::Negate, a),
+        KIND_AND => Node::Binary(Binary::And, a, book[at + 2]),
+        KIND_ADD => Node::Binary(Binary::Add, a, book[at + 2]),
+        KIND_SUBTRACT => Node::Binary(Binary::Subtract, a, book[at + 2]),
+        KIND_EQUAL => Node::Binary(Binary::Equal, a, book[at + 2]),
+        KIND_LESS => Node::Binary(Binary::Less, a, book[at + 2]),
+        KIND_CHOICE => Node::Choice(a, book[at + 2], book[at + 3]),
         _ => Node::Default(a, book[at + 2], book[at + 3], book[at + 4], book[at + 5]),
     }
 }
@@ -67,7 +82,7 @@ fn clause_of(book: &[u8], at: usize) -> Clause
     };
     let parent = book[at + 3];
     let condition = book[at + 4];
-    let consequence = if book[at] == 19 {
+    let consequence = if book[at] == KIND_DEFINITION {
         Consequence::Of(last)
     } else {
         Consequence::Fixed(last == 1)

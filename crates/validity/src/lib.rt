@@ -1,4 +1,9 @@
 // Whether a record stands where it may, and whether its bytes have values that they may have: faults 3 and 5, for book and code.
+use record::KIND_CONFLICT;
+use record::KIND_CONSTANT;
+use record::KIND_EMPTY;
+use record::KIND_RULE;
+use record::KIND_VARIABLE;
 use slices::byte_at;
 ghost use mathlib.Core.Path.{_≡_};
 ghost use mathlib.Core.Bool.{_||_};
@@ -18,17 +23,17 @@ pub fn may_follow(last: usize, stage: usize) -> bool
     last <= stage
 }
 
-// Whether the first byte of the body is a type: 2 variable, 8 empty, 9 conflict.
+// Whether the first byte of the body is a type: a variable's, empty's or conflict's.
 fn has_type(kind: u8) -> bool
     ensures { λ r. ⌜ r ≡ (eqb kind 2 || (eqb kind 8 || eqb kind 9)) ⌝ }
 {
-    if kind == 2 {
+    if kind == KIND_VARIABLE {
         return true;
     }
-    if kind == 8 {
+    if kind == KIND_EMPTY {
         return true;
     }
-    kind == 9
+    kind == KIND_CONFLICT
 }
 
 // "type: 1 yes/no, 2 number"
@@ -49,10 +54,10 @@ pub fn is_invalid(kind: u8, body: &[u8]) -> bool
     if has_type(kind) {
         return !is_type(first);
     }
-    if kind == 4 {
+    if kind == KIND_CONSTANT {
         return 1 < first;
     }
-    if kind == 20 {
+    if kind == KIND_RULE {
         return 1 < byte_at(body, 4);
     }
     false
