@@ -151,6 +151,16 @@ fn evaluated_and_run(book: &[u8], scope: usize) -> (f64, f64) {
     times(evaluate, run)
 }
 
+/// The engine's time of evaluating a book less that of judging it, the two in turns: what
+/// an evaluation takes of a book that is judged already.
+fn once_judged(book: &[u8], scope: usize) -> f64 {
+    let mut memory = [0; 192];
+    let evaluate = || _ = black_box(engine::evaluate(black_box(book), scope, &[], &mut memory));
+    let judge = || _ = black_box(engine::judge(black_box(book)));
+    let (evaluated, judged) = times(evaluate, judge);
+    evaluated - judged
+}
+
 /// The book's program in OCaml: its time, once its answer is found to be the engine's.
 fn in_ocaml(name: &str, book: &[u8], scope: usize) -> Option<f64> {
     let (shown, time) = match ocaml::measured(book, scope) {
@@ -180,16 +190,19 @@ fn side_by_side(books: &[Book]) {
         Some(version) => println!("\nOCaml is ocamlopt {version}.\n"),
         None => println!("\nOCaml is not installed (no ocamlopt).\n"),
     }
-    println!("| book | ends in | evaluate us | run us | run/evaluate | OCaml us | run/OCaml |");
-    println!("|---|---|---|---|---|---|---|");
+    println!(
+        "| book | ends in | evaluate us | once judged us | run us | run/evaluate | OCaml us | once judged/OCaml | run/OCaml |"
+    );
+    println!("|---|---|---|---|---|---|---|---|---|");
     for Book { name, bytes, scope } in books {
         let (evaluated, ran) = evaluated_and_run(bytes, *scope);
         let (ending, ratio) = (ending(bytes, *scope), ran / evaluated);
-        print!("| {name} | {ending} | {evaluated:.2} | {ran:.2} | {ratio:.2} |");
+        let judged = once_judged(bytes, *scope);
+        print!("| {name} | {ending} | {evaluated:.2} | {judged:.2} | {ran:.2} | {ratio:.2} |");
         let ocaml = ocaml::version().and_then(|_| in_ocaml(name, bytes, *scope));
         match ocaml {
-            Some(time) => println!(" {time:.2} | {:.1} |", ran / time),
-            None => println!(" - | - |"),
+            Some(time) => println!(" {time:.2} | {:.2} | {:.1} |", judged / time, ran / time),
+            None => println!(" - | - | - |"),
         }
     }
 }
