@@ -6,7 +6,7 @@ use crate::evaluating::outcome;
 use crate::family;
 use crate::ocaml;
 use crate::stack;
-use second::cases::{self, draft::Draft};
+use second::cases::{self, draft::Draft, heavy};
 use second::Outcome;
 use std::hint::black_box;
 use std::time::Instant;
@@ -119,8 +119,33 @@ pub fn compiled(book: &[u8]) -> Vec<u8> {
 /// A scope that is in no code: it is refused once the code is judged.
 const ABSENT: usize = 32;
 
-/// Judging, evaluating and compiling a book, judging its code (a run that is refused for
-/// an absent scope) and running it.
+/// Judging code (a run that is refused for an absent scope) and running it.
+fn of_code(name: &str, code: &[u8], scope: usize) {
+    let judge = || _ = black_box(engine::run(black_box(code), ABSENT, &[], &mut []));
+    let other = || _ = black_box(second::run(black_box(code), ABSENT, &[], &mut []));
+    compare("judge code", name, judge, other);
+    let (mut ours, mut theirs) = ([0; 192], [0; 192]);
+    let run = || _ = black_box(engine::run(black_box(code), scope, &[], &mut ours));
+    let other = || _ = black_box(second::run(black_box(code), scope, &[], &mut theirs));
+    compare("run", name, run, other);
+}
+
+/// Code that no compiler wrote: of weight 4,096 and this length, nearly all of it in the
+/// block that is entered most. It must end in the second program's values.
+const HEAVY: &str = "65,536 bytes of code that no compiler wrote";
+
+fn heavy() {
+    let (code, scope) = (heavy::code(65_536), heavy::SCOPE);
+    let (mut ours, mut theirs) = ([0; 192], [0; 192]);
+    let answer = engine::run(&code, scope, &[], &mut ours);
+    let second = second::run(&code, scope, &[], &mut theirs);
+    assert_eq!((second, theirs), (answer, ours), "{HEAVY}: second program");
+    let entered = answer.map(|answer| (answer.outcome, answer.count));
+    assert_eq!(entered, Ok((Outcome::Values, 4_096)), "{HEAVY}: run");
+    of_code(HEAVY, &code, scope);
+}
+
+/// Judging, evaluating and compiling a book, and the same of its code.
 fn services(name: &str, book: &[u8], scope: usize) {
     let judge = || _ = black_box(engine::judge(black_box(book)));
     let other = || _ = black_box(second::judge(black_box(book)));
@@ -134,13 +159,7 @@ fn services(name: &str, book: &[u8], scope: usize) {
     let compile = || _ = black_box(engine::compile(black_box(book), &mut ours));
     let other = || _ = black_box(second::compile(black_box(book), &mut theirs));
     compare("compile", name, compile, other);
-    let judge = || _ = black_box(engine::run(black_box(&code), ABSENT, &[], &mut []));
-    let other = || _ = black_box(second::run(black_box(&code), ABSENT, &[], &mut []));
-    compare("judge code", name, judge, other);
-    let (mut ours, mut theirs) = ([0; 192], [0; 192]);
-    let run = || _ = black_box(engine::run(black_box(&code), scope, &[], &mut ours));
-    let other = || _ = black_box(second::run(black_box(&code), scope, &[], &mut theirs));
-    compare("run", name, run, other);
+    of_code(name, &code, scope);
 }
 
 /// The engine's times of evaluating a book and of running its code, in turns.
@@ -224,7 +243,7 @@ fn stacks(books: &[Book]) {
 pub fn run(part: &str) -> bool {
     let mut books = books();
     books.retain(|book| book.name.contains(part));
-    if books.is_empty() {
+    if books.is_empty() && !HEAVY.contains(part) {
         eprintln!("no book has {part:?} in its name");
         return false;
     }
@@ -233,7 +252,12 @@ pub fn run(part: &str) -> bool {
     for Book { name, bytes, scope } in &books {
         services(name, bytes, *scope);
     }
-    side_by_side(&books);
-    stacks(&books);
+    if HEAVY.contains(part) {
+        heavy();
+    }
+    if !books.is_empty() {
+        side_by_side(&books);
+        stacks(&books);
+    }
     true
 }

@@ -6,8 +6,9 @@ use super::draft::{results_length, Draft, DraftScope, CLAUSES, NODES, NUMBER, YE
 use super::faults::{fault, two_faults, WAYS};
 use super::mix::{evaluate_term, run_directed};
 use super::random::Random;
-use super::{badcode, inputs, shapes, stuck, terms};
+use super::{badcode, deepest, heavy, inputs, shapes, stuck, terms};
 use super::{Case, Expected, Service};
+use crate::answer::Outcome;
 use crate::code_of;
 
 /// All fixed cases, always the same.
@@ -117,6 +118,17 @@ fn extreme_shapes(cases: &mut Vec<Case>) {
         accepted(cases, "32 nested scopes", &draft, outermost);
         accepted(cases, "32 nested scopes", &draft, 16);
     }
+    for of in deepest::CHAINS {
+        accepted(cases, "deepest nesting", &deepest::book(of), 31);
+    }
+    for entries in [1, 1_024] {
+        let case = Case::new("nested blocks", Service::Run, deepest::code(entries));
+        let ends = Expected::Ends(Outcome::Values);
+        cases.push(case.expecting(ends).asking(31, Vec::new(), 3));
+    }
+    let heavy = Case::new("heavy code", Service::Run, heavy::code(1_000));
+    let ends = Expected::Ends(Outcome::Values);
+    cases.push(heavy.expecting(ends).asking(heavy::SCOPE, Vec::new(), 6));
     accepted(cases, "wide scope", &shapes::wide(), 0);
     for holding in [0, 1, 2, 128] {
         accepted(cases, "128 bases", &shapes::many_bases(holding), 0);
