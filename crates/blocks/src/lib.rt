@@ -332,8 +332,8 @@ fn run_given(
     run_block(code, spans, heads, places, p, st, tr, own, &mut memo)
 }
 
-// Runs block p with a stack and tries that always suffice. It calls itself first, `again` times: a function that does is not made part of its
-// caller, where these arrays would take their room on the stack in every run.
+// Runs block p with a stack and tries that always suffice. It calls itself first, `again` times, which is 0 for each of the at most 32 blocks: a
+// function that may call itself is not made part of its caller, where these arrays would take their room on the stack in every run.
 fn run_large(
     code: &[u8],
     spans: &[usize],
@@ -374,7 +374,7 @@ fn run_within(
         Ran::Values(n) => Ran::Values(n),
         Ran::Ended(c, n) => Ran::Ended(c, n),
         Ran::Stuck => Ran::Stuck,
-        Ran::NoRoom => run_large(code, spans, heads, places, p, given, own, 1),
+        Ran::NoRoom => run_large(code, spans, heads, places, p, given, own, p / 32),
     }
 }
 

@@ -20,6 +20,9 @@ ghost use Rattle.verifier.specs.Instructions.{farthest};
 ghost use Rattle.verifier.specs.Pass.{faultyAt, exceedsWith, Limited, calledAt, aheadIf, Landed, RingRoom, Passed, nothingRead, Reading};
 ghost use Rattle.verifier.specs.Pass.{Stepped, Instructing, Instructed, Leaving, Left, Beginning, opening, VariableRoom, VariableNoted, AtHeading, SubRoom, SubRead, Empty, Judged};
 
+// No memory has this many bytes.
+const UNREACHED: usize = 9223372036854775808;
+
 // Code is refused, or accepted with the number of its blocks.
 pub enum Verdict {
     Refused,
@@ -505,8 +508,8 @@ fn judge_code(
     }
 }
 
-// Judges code of any length, with a ring of 65,536 marks. It calls itself first, `again` times: a function that does is not made part of its
-// caller, where the ring would take its room on the stack for short code, too.
+// Judges code of any length, with a ring of 65,536 marks. It calls itself first, `again` times, which is 0: a function that may call itself is not
+// made part of its caller, where the ring would take its room on the stack for short code, too.
 fn judge_long(
     code: &[u8],
     spans: &mut [usize],
@@ -531,7 +534,7 @@ pub fn verify(code: &[u8], spans: &mut [usize], heads: &mut [u8], places: &mut [
     ensures { λ r. ⌜ Judged (now (code .entry)) (now (spans .exit)) (now (heads .exit)) (now (places .exit)) r ⌝ }
 {
     if 8191 < code.len() {
-        return judge_long(code, spans, heads, places, 1);
+        return judge_long(code, spans, heads, places, code.len() / UNREACHED);
     }
     let mut sizes = [0usize; 64];
     if 1023 < code.len() {
