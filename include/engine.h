@@ -1,11 +1,14 @@
 /*
  * The proved rule engine, for programs in C. The functions are those of the static library target/staticlib/libcapi.a, which
  * `rt staticlib capi` proves and writes; their contracts stand in crates/capi/src/lib.rt, the bytes of books, inputs, results and code in
- * docs/FORMAT.md.
+ * docs/FORMAT.md. docs/SEALING.md is a page for those who build the library into a device: stack, times, and how each figure was found.
  *
- * Bytes are lent as a pointer and a length. No caller has to check them: whatever they hold, each call ends and answers. A pointer is never
- * null, not even with length 0, and memory that a call may write to overlaps nothing else that is lent to it. Nothing is kept from one call
- * to the next, and there is no heap. The gate runs the deepest nesting, 32 scopes, with 1,024 kilobytes of stack (examples/nested).
+ * Bytes are lent as a pointer and a length. No caller has to check them: whatever they hold, each call ends and answers. With length 0 a
+ * pointer may be null. A caller must not lend memory that is shorter than the length says, nor let memory that a call writes to overlap
+ * anything else that is lent to it, nor change what is lent while a call runs. No contract can state these.
+ *
+ * Nothing is kept from one call to the next: there is no heap and no global, so calls may be made from several threads at once, each with
+ * memory of its own. The library is for x86-64 with SSE and needs memcpy and memset alone.
  *
  * An answer is one number of 64 bits; the functions at the end take it apart. A refusal writes nothing.
  */
@@ -19,6 +22,18 @@
 extern "C" {
 #endif
 
+#define ENGINE_VERSION "1.0.0"
+
+/* The most bytes of a book that is not refused, and of the results of a scope. */
+#define ENGINE_BOOK_MAX 32768
+#define ENGINE_RESULTS_MAX 192
+
+/* Bytes of stack that a call takes at most, rounded up from the deepest books and code that were found (docs/SEALING.md). */
+#define ENGINE_STACK_JUDGE 32768
+#define ENGINE_STACK_EVALUATE 327680
+#define ENGINE_STACK_COMPILE 262144
+#define ENGINE_STACK_RUN 786432
+
 /* Judges a book. Refusal 1 to 12, or 0 and, as the length, the number of scopes. */
 uint64_t engine_judge(const uint8_t *book, size_t book_len);
 
@@ -31,7 +46,7 @@ uint64_t engine_compile(const uint8_t *book, size_t book_len, uint8_t *code, siz
 /*
  * Evaluates a scope of a book with a list of inputs. Refusal 1 to 12 (the book), 13 (no such scope), 14 (bad input), 15 (the results are
  * longer than the memory); or 0, the outcome, the count of scopes entered and the length of the results, which are written, from the first
- * byte on, where the outcome is 0 (values). 192 bytes of memory are enough for every scope.
+ * byte on, where the outcome is 0 (values). ENGINE_RESULTS_MAX bytes of memory are enough for every scope.
  */
 uint64_t engine_evaluate(const uint8_t *book, size_t book_len, size_t scope, const uint8_t *inputs, size_t inputs_len,
                          uint8_t *results, size_t results_len);
@@ -42,6 +57,28 @@ uint64_t engine_evaluate(const uint8_t *book, size_t book_len, size_t scope, con
  */
 uint64_t engine_run(const uint8_t *code, size_t code_len, size_t scope, const uint8_t *inputs, size_t inputs_len, uint8_t *results,
                     size_t results_len);
+
+/* The refusals. */
+enum {
+    ENGINE_NOT_REFUSED = 0,
+    ENGINE_TRUNCATED = 1,          /* a body passes the end of the book */
+    ENGINE_UNKNOWN_KIND = 2,       /* a record of a kind that there is not */
+    ENGINE_OUT_OF_ORDER = 3,       /* a record out of its order, or before the first scope */
+    ENGINE_LIMIT_EXCEEDED = 4,     /* too many bytes, scopes, variables, sub-scopes, nodes or clauses */
+    ENGINE_INVALID_BYTE = 5,       /* a type, constant or rule byte outside its values */
+    ENGINE_DANGLING_REFERENCE = 6, /* a number that names nothing, or nothing that may be named there */
+    ENGINE_SHARED_NODE = 7,        /* a node that is named twice */
+    ENGINE_TYPE_MISMATCH = 8,      /* a type that does not fit */
+    ENGINE_MIXED_CLAUSES = 9,      /* rule and definition on one target */
+    ENGINE_SCOPE_CYCLE = 10,       /* a scope that reaches itself through sub-scopes */
+    ENGINE_WEIGHT_EXCEEDED = 11,   /* a scope that would enter more than 4,096 scopes */
+    ENGINE_DEPENDENCY_CYCLE = 12,  /* a step that depends on itself */
+    ENGINE_NO_SUCH_SCOPE = 13,     /* the scope asked for is absent */
+    ENGINE_BAD_INPUT = 14,         /* the list of inputs */
+    ENGINE_BUFFER_TOO_SMALL = 15,  /* the memory lent for code or results */
+    ENGINE_BAD_CODE = 16,          /* code that is not accepted */
+    ENGINE_STUCK = 17              /* code that is accepted and cannot go on: never code that engine_compile wrote */
+};
 
 /* The outcomes of an evaluation or a run that is not refused. */
 enum { ENGINE_VALUES = 0, ENGINE_EMPTY = 1, ENGINE_CONFLICT = 2, ENGINE_OUT_OF_RANGE = 3 };
@@ -58,6 +95,12 @@ static inline unsigned engine_outcome(uint64_t answer)
     return (unsigned)(answer >> 48 & 0xff);
 }
 
+/* Whether an evaluation or a run was not refused and ended in values: then, and only then, results are written. */
+static inline int engine_has_values(uint64_t answer)
+{
+    return engine_refusal(answer) == ENGINE_NOT_REFUSED && engine_outcome(answer) == ENGINE_VALUES;
+}
+
 /* The count of scopes that an evaluation or a run entered, at most 4,096. */
 static inline unsigned engine_count(uint64_t answer)
 {
@@ -69,6 +112,73 @@ static inline size_t engine_length(uint64_t answer)
 {
     return (size_t)(answer & 0xffffffff);
 }
+
+/* Writes the input record of a yes/no variable, three bytes, and gives their number. */
+static inline size_t engine_put_yes_no(uint8_t *to, uint8_t variable, int yes)
+{
+    to[0] = 1;
+    to[1] = variable;
+    to[2] = yes ? 1 : 0;
+    return 3;
+}
+
+/* Writes the input record of a number variable, six bytes, and gives their number. */
+static inline size_t engine_put_number(uint8_t *to, uint8_t variable, int32_t number)
+{
+    uint32_t bits = (uint32_t)number;
+    to[0] = 2;
+    to[1] = variable;
+    to[2] = (uint8_t)(bits >> 24);
+    to[3] = (uint8_t)(bits >> 16);
+    to[4] = (uint8_t)(bits >> 8);
+    to[5] = (uint8_t)bits;
+    return 6;
+}
+
+/* A variable of the results: yes/no as 0 or 1, or a number. */
+struct engine_value {
+    uint8_t variable;
+    uint8_t is_number;
+    int32_t value;
+};
+
+/* Reads the result record at the beginning of some bytes, and gives its length; 0 where there is none. */
+static inline size_t engine_read_value(const uint8_t *from, size_t len, struct engine_value *to)
+{
+    if (len >= 3 && from[0] == 1) {
+        to->variable = from[1];
+        to->is_number = 0;
+        to->value = from[2];
+        return 3;
+    }
+    if (len >= 6 && from[0] == 2) {
+        uint32_t bits = (uint32_t)from[2] << 24 | (uint32_t)from[3] << 16 | (uint32_t)from[4] << 8 | from[5];
+        to->variable = from[1];
+        to->is_number = 1;
+        to->value = bits < UINT32_C(0x80000000) ? (int32_t)bits : (int32_t)(bits - UINT32_C(0x80000000)) + INT32_MIN;
+        return 6;
+    }
+    return 0;
+}
+
+/* The library wants pointers that are not null, even to no bytes: a call with a null pointer lends this byte, of which length 0 reads nothing. */
+static inline const uint8_t *engine_lent(const uint8_t *bytes)
+{
+    static const uint8_t none[1] = { 0 };
+    return bytes != NULL ? bytes : none;
+}
+static inline uint8_t *engine_lent_to_write(uint8_t *bytes)
+{
+    static uint8_t none[1];
+    return bytes != NULL ? bytes : none;
+}
+#define engine_judge(book, book_len) engine_judge(engine_lent(book), book_len)
+#define engine_compile(book, book_len, code, code_len) \
+    engine_compile(engine_lent(book), book_len, engine_lent_to_write(code), code_len)
+#define engine_evaluate(book, book_len, scope, inputs, inputs_len, results, results_len) \
+    engine_evaluate(engine_lent(book), book_len, scope, engine_lent(inputs), inputs_len, engine_lent_to_write(results), results_len)
+#define engine_run(code, code_len, scope, inputs, inputs_len, results, results_len) \
+    engine_run(engine_lent(code), code_len, scope, engine_lent(inputs), inputs_len, engine_lent_to_write(results), results_len)
 
 #ifdef __cplusplus
 }

@@ -15,7 +15,7 @@ mod tally;
 
 use std::process::ExitCode;
 
-const USAGE: &str = "compare judge CASES | compare evaluate CASES | compare compile CASES | compare run CASES | compare runs PROGRAM STACK_KIB FILE | compare ocaml CASES | compare bench [PART_OF_A_BOOKS_NAME]";
+const USAGE: &str = "compare judge CASES | compare evaluate CASES | compare compile CASES | compare run CASES | compare runs PROGRAM STACK_KIB FILE | compare stack | compare ocaml CASES | compare bench [PART_OF_A_BOOKS_NAME]";
 
 fn main() -> ExitCode {
     let words: Vec<String> = std::env::args().skip(1).collect();
@@ -26,6 +26,7 @@ fn main() -> ExitCode {
         ["compile", cases] => compiling::run(cases.parse().expect(USAGE)),
         ["run", cases] => running::run(cases.parse().expect(USAGE)),
         ["runs", program, stack, file] => runs::run(program, stack.parse().expect(USAGE), file),
+        ["stack"] => stack::run(),
         ["ocaml", cases] => ocaml::run(cases.parse().expect(USAGE)),
         ["bench"] => bench::run(""),
         ["bench", part] => bench::run(part),

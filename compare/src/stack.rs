@@ -3,6 +3,7 @@
 
 use crate::bench::compiled;
 use crate::engine;
+use second::cases::deepest;
 use std::thread;
 
 /// Bytes of the stack of a thread that measures.
@@ -59,6 +60,45 @@ pub fn of_services(book: &[u8], scope: usize) -> [usize; 4] {
         taken(|| _ = engine::compile(book, &mut room).expect(accepted)),
         taken(|| _ = engine::run(&code, scope, &[], &mut results).expect(accepted)),
     ]
+}
+
+/// The most that each service may take, by the header for C.
+const HEADER: &str = include_str!("../../include/engine.h");
+
+/// The number that the header gives a name.
+fn defined(name: &str) -> usize {
+    let line = format!("#define {name} ");
+    let value = HEADER.lines().find_map(|of| of.strip_prefix(&line));
+    let number = value.and_then(|value| value.trim().parse().ok());
+    number.unwrap_or_else(|| panic!("no number {name} in the header"))
+}
+
+const SERVICES: [&str; 4] = ["JUDGE", "EVALUATE", "COMPILE", "RUN"];
+
+/// Bytes of stack that each service takes at most, on what goes deepest.
+fn deepest_of_services() -> [usize; 4] {
+    let books = deepest::CHAINS.map(|of| deepest::book(of).bytes());
+    let mut most = [0; 4];
+    for book in books {
+        let taken = of_services(&book, 31);
+        most = std::array::from_fn(|service| most[service].max(taken[service]));
+    }
+    let (code, mut results) = (deepest::code(1_024), [0; 192]);
+    let ran = taken(|| _ = engine::run(&code, 31, &[], &mut results).expect("accepted code"));
+    most[3] = most[3].max(ran);
+    most
+}
+
+/// Holds the stack of each service to the header.
+pub fn run() -> bool {
+    let mut failed = 0;
+    for (name, taken) in SERVICES.iter().zip(deepest_of_services()) {
+        let most = defined(&format!("ENGINE_STACK_{name}"));
+        println!("{name}: {taken} bytes of stack, at most {most}");
+        failed += usize::from(most < taken);
+    }
+    println!("{} passed, {failed} failed", SERVICES.len() - failed);
+    failed == 0
 }
 
 #[cfg(test)]

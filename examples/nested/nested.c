@@ -35,7 +35,6 @@ int main(void)
     static uint8_t code[SCOPES * 64];
     uint8_t evaluated[6] = { 0 };
     uint8_t ran[6] = { 0 };
-    const uint8_t no_inputs[1] = { 0 };
     size_t length = 0;
 
     for (uint8_t scope = 0; scope + 1 < SCOPES; scope++) {
@@ -48,7 +47,7 @@ int main(void)
 
     uint64_t compiled = engine_compile(book, length, code, sizeof code);
     printf("refusal %u, %zu bytes of code\n", engine_refusal(compiled), engine_length(compiled));
-    show("evaluated", engine_evaluate(book, length, 0, no_inputs, 0, evaluated, sizeof evaluated), evaluated);
-    show("ran", engine_run(code, engine_length(compiled), 0, no_inputs, 0, ran, sizeof ran), ran);
+    show("evaluated", engine_evaluate(book, length, 0, NULL, 0, evaluated, sizeof evaluated), evaluated);
+    show("ran", engine_run(code, engine_length(compiled), 0, NULL, 0, ran, sizeof ran), ran);
     return 0;
 }

@@ -9,7 +9,7 @@
 
 #include "engine.h"
 
-enum { SCOPE = 0, SPEED = 0, SHRUNKEN = 1, CODE_ROOM = 256, RESULT_ROOM = 9 };
+enum { SCOPE = 0, SPEED = 0, SHRUNKEN = 1, UNKNOWN = 2, CODE_ROOM = 256, RESULT_ROOM = 9 };
 
 static const uint8_t book[] = {
     0x01,                               /* scope 0 */
@@ -22,26 +22,27 @@ static const uint8_t book[] = {
     0x13, 0xFF, 0x00, 0x00, 0x01, 0x02, /* clause 1, an exception to it: if node 1, the speed is node 2 */
 };
 
-/* A number of four bytes, high byte first, in two's complement. */
-static int64_t number_at(const uint8_t *bytes)
+/* The results: a record for the speed, one for shrunken. */
+static void show_values(const uint8_t *results, size_t length)
 {
-    int64_t n = 0;
-    for (int i = 0; i < 4; i++) {
-        n = n * 256 + bytes[i];
+    struct engine_value speed, shrunken;
+    size_t first = engine_read_value(results, length, &speed);
+    if (first == 0 || engine_read_value(results + first, length - first, &shrunken) == 0) {
+        printf("no results\n");
+        return;
     }
-    return n < INT64_C(2147483648) ? n : n - INT64_C(4294967296);
+    printf("speed %" PRId32 " shrunken %s\n", speed.value, shrunken.value == 1 ? "yes" : "no");
 }
 
-/* The results: a record of six bytes for the speed, one of three for shrunken. */
 static void show(uint64_t answer, const uint8_t *results)
 {
     static const char *const outcomes[] = { "values", "empty", "conflict", "out of range" };
-    if (engine_refusal(answer) != 0) {
+    if (engine_has_values(answer)) {
+        show_values(results, engine_length(answer));
+    } else if (engine_refusal(answer) != ENGINE_NOT_REFUSED) {
         printf("refused %u\n", engine_refusal(answer));
-    } else if (engine_outcome(answer) != ENGINE_VALUES) {
-        printf("no speed: %s\n", outcomes[engine_outcome(answer)]);
     } else {
-        printf("speed %" PRId64 " shrunken %s\n", number_at(results + 2), results[8] == 1 ? "yes" : "no");
+        printf("no speed: %s\n", outcomes[engine_outcome(answer)]);
     }
 }
 
@@ -64,10 +65,7 @@ static void mistake(void)
 int main(void)
 {
     static uint8_t code[CODE_ROOM];
-    const uint8_t shrunken[] = { 1, SHRUNKEN, 1 };
-    const uint8_t not_shrunken[] = { 1, SHRUNKEN, 0 };
-    const uint8_t speed_given[] = { 1, SHRUNKEN, 1, 2, SPEED, 0x00, 0x00, 0x03, 0xE8 };
-    const uint8_t unknown[] = { 1, 2, 1 };
+    uint8_t inputs[9];
 
     uint64_t judged = engine_judge(book, sizeof book);
     if (engine_refusal(judged) != 0) {
@@ -82,11 +80,12 @@ int main(void)
     size_t length = engine_length(compiled);
     printf("%zu scope, %zu bytes of code\n", engine_length(judged), length);
 
-    scan(code, length, shrunken, sizeof shrunken);
-    scan(code, length, not_shrunken, sizeof not_shrunken);
-    scan(code, length, speed_given, sizeof speed_given);
-    scan(code, length, shrunken, 0);
-    scan(code, length, unknown, sizeof unknown);
+    scan(code, length, inputs, engine_put_yes_no(inputs, SHRUNKEN, 1));
+    scan(code, length, inputs, engine_put_yes_no(inputs, SHRUNKEN, 0));
+    size_t given = engine_put_yes_no(inputs, SHRUNKEN, 1);
+    scan(code, length, inputs, given + engine_put_number(inputs + given, SPEED, 1000));
+    scan(code, length, NULL, 0);
+    scan(code, length, inputs, engine_put_yes_no(inputs, UNKNOWN, 1));
     mistake();
     return 0;
 }
