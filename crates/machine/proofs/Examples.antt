@@ -93,6 +93,14 @@ runs =
     ∷ row (asking (1 ∷ 0 ∷ 2 ∷ 1 ∷ 4 ∷ 1 ∷ 41 ∷ 0 ∷ 1 ∷ 1 ∷ 2 ∷ 1 ∷ 3 ∷ 0 ∷ 7 ∷ 0 ∷ 0 ∷ 41 ∷ 0 ∷ []) 1 []) (refuse Stuck)
     -- a second store
     ∷ row (asking (1 ∷ 0 ∷ 2 ∷ 1 ∷ 4 ∷ 1 ∷ 41 ∷ 0 ∷ 4 ∷ 1 ∷ 41 ∷ 0 ∷ []) 0 []) (refuse Stuck)
+    -- a store to what is given
+    ∷ row (asking (1 ∷ 0 ∷ 2 ∷ 1 ∷ 4 ∷ 1 ∷ 41 ∷ 0 ∷ []) 0 (1 ∷ 0 ∷ 1 ∷ [])) (refuse Stuck)
+    -- a second store to a variable of a sub-scope
+    ∷ row (asking (1 ∷ 0 ∷ 2 ∷ 1 ∷ 1 ∷ 1 ∷ 3 ∷ 0 ∷ 4 ∷ 1 ∷ 42 ∷ 0 ∷ 0 ∷ 4 ∷ 1 ∷ 42 ∷ 0 ∷ 0 ∷ 43 ∷ 0 ∷ []) 1 []) (refuse Stuck)
+    -- a second entry
+    ∷ row (asking (1 ∷ 0 ∷ 1 ∷ 1 ∷ 3 ∷ 0 ∷ 43 ∷ 0 ∷ 43 ∷ 0 ∷ []) 1 []) (refuse Stuck)
+    -- an override after the entry
+    ∷ row (asking (1 ∷ 0 ∷ 2 ∷ 1 ∷ 4 ∷ 1 ∷ 41 ∷ 0 ∷ 1 ∷ 1 ∷ 3 ∷ 0 ∷ 43 ∷ 0 ∷ 4 ∷ 1 ∷ 42 ∷ 0 ∷ 0 ∷ []) 1 []) (refuse Stuck)
     -- a block's end with a variable neither given nor stored
     ∷ row (asking (1 ∷ 0 ∷ 2 ∷ 1 ∷ []) 0 []) (refuse Stuck)
     -- a block's end with a sub-scope not entered

@@ -76,7 +76,7 @@ badCodes =
     ∷ (1 ∷ 0 ∷ 34 ∷ 0 ∷ 2 ∷ 1 ∷ 1 ∷ 33 ∷ [])
     ∷ (1 ∷ 0 ∷ 34 ∷ 0 ∷ 1 ∷ 4 ∷ 1 ∷ [])
     ∷ (1 ∷ 0 ∷ 34 ∷ 0 ∷ 4 ∷ 5 ∷ 0 ∷ 0 ∷ 0 ∷ 33 ∷ [])
-    -- overweight: 1 + 8 * 585 scopes, none of them entered
+    -- a weight above 4,096: 1 + 8 * 585 scopes, none of them entered
     ∷ heavy (eight 4 3 [])
     ∷ []
 
