@@ -1,4 +1,4 @@
-// The operators, over values and over outcomes. Each result equals a definition of the calculus.
+// The operators on values. Each result equals a definition of the calculus.
 use answers::Cause;
 use calculus::Binary;
 use calculus::Outcome;
@@ -9,7 +9,6 @@ ghost use lib.IntN.{natAbs};
 ghost use Rattle.calculus.specs.Values.{truthOf, numberOf, ranged};
 ghost use Rattle.calculus.specs.Values.{equal as Values·equal};
 ghost use Rattle.calculus.specs.Operators.{unaryOf, binaryOf};
-ghost use Rattle.calculus.specs.Outcomes.{unaryOn, binaryOn};
 
 // A yes/no itself; of a number, no.
 pub fn truth_of(v: Value) -> bool
@@ -52,7 +51,7 @@ fn in_range(z: i64) -> Outcome
     Outcome::Gives(Value::Number(z as i32))
 }
 
-// The operators on values: the one place that applies them.
+// An operator on values.
 pub fn apply_unary(op: Unary, v: Value) -> Outcome
     ensures { λ r. ⌜ r ≡ unaryOf op v ⌝ }
 {
@@ -89,27 +88,5 @@ fn equal(v: Value, w: Value) -> bool
             Value::Truth(_) => false,
             Value::Number(n) => m == n,
         },
-    }
-}
-
-// An operator on outcomes: an operand without a value is the result, the left one first.
-pub fn eval_unary(op: Unary, a: Outcome) -> Outcome
-    ensures { λ r. ⌜ r ≡ unaryOn op a ⌝ }
-{
-    match a {
-        Outcome::Gives(v) => apply_unary(op, v),
-        Outcome::Ends(c) => Outcome::Ends(c),
-    }
-}
-
-pub fn eval_binary(op: Binary, a: Outcome, b: Outcome) -> Outcome
-    ensures { λ r. ⌜ r ≡ binaryOn op a b ⌝ }
-{
-    match a {
-        Outcome::Gives(v) => match b {
-            Outcome::Gives(w) => apply_binary(op, v, w),
-            Outcome::Ends(c) => Outcome::Ends(c),
-        },
-        Outcome::Ends(c) => Outcome::Ends(c),
     }
 }
