@@ -4,7 +4,7 @@
     python3 docs/check.py      from the project's root; counts what passed and failed in its last line
 
 Runs the scripts that know the list of files to believe, the table of promises and the picture of the layers; and looks whether each file that
-a document names is there, and each theorem in its file.
+a document names is there, each theorem in its file, and each that a row cites in the table of theorems.
 """
 import glob
 import os
@@ -50,8 +50,28 @@ def theorems():
     return missing
 
 
+def declared(folder):
+    """The public names that the files of every crate's folder declare."""
+    found = [re.findall(r"^\s*(?:\w+ )*pub ([\w-]+) :", read(path), re.M) for path in glob.glob(f"crates/*/{folder}/*.antt")]
+    return set(sum(found, []))
+
+
+def citations():
+    """The theorems that a row of docs/CLAIMS.md or docs/READING.md cites and the table of theorems does not list. A theorem is declared in proofs
+    and is no definition's name, or has a hyphen."""
+    claims, table = read("docs/CLAIMS.md").split("\n## Theorems\n")
+    listed = set(re.findall(r"`([\w-]+)`", " ".join(re.findall(r"^\| (`.*?`) \|", table, re.M))))
+    laws = declared("proofs") - declared("specs")
+    missing = ""
+    for document, text in [("docs/CLAIMS.md", claims), ("docs/READING.md", read("docs/READING.md"))]:
+        for name in sorted(set(re.findall(r"`([a-z][\w-]*)`", " ".join(re.findall(r"^\|.*", text, re.M)))) - listed):
+            if name in laws or "-" in name:
+                missing += f"{document}: {name} is not in the table of theorems\n"
+    return missing
+
+
 def main():
-    checks = [(" ".join(words), script(words)) for words in SCRIPTS] + [("files", files()), ("theorems", theorems())]
+    checks = [(" ".join(words), script(words)) for words in SCRIPTS] + [("files", files()), ("theorems", theorems() + citations())]
     failed = [f"{name}:\n{said}" for name, said in checks if said]
     print("\n".join(failed + [f"{len(checks) - len(failed)} passed, {len(failed)} failed"]))
     sys.exit(bool(failed))
