@@ -64,6 +64,7 @@ fn write_results(results: &[u8], length: usize) {
     let mut at: usize = 0;
     while at < length {
         write_result(results, at);
+        // Never met: results have at most 192 bytes.
         if 200 < at {
             return;
         }

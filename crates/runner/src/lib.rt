@@ -35,6 +35,7 @@ fn run_block(
         }
         Ran::Ended(c, count) => Answer::Ended(c, count),
         Ran::Stuck => Answer::Refused(Refusal::Stuck),
+        // Never met: a run that has no room is made again with room that always suffices.
         Ran::NoRoom => Answer::Refused(Refusal::Stuck),
     }
 }

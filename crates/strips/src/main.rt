@@ -152,6 +152,7 @@ fn write_answer(a: Answer, results: &[u8]) {
     match a {
         Answer::Values(_, _) => write_number(number_at(results, 2)),
         Answer::Ended(c, _) => write_cause(c),
+        // Never met: each book is accepted.
         Answer::Refused(r) => {
             write(b"refused ");
             io::print_decimal(STDOUT_FILENO, refusal_number(r) as u64);

@@ -107,6 +107,7 @@ fn binary(kind: u8, x: u64, y: u64) -> u64
         KIND_ADD => ranged(signed(x) + signed(y)),
         KIND_SUBTRACT => ranged(signed(x) - signed(y)),
         KIND_EQUAL => truth(x == y),
+        // Less: a node with two operands has no other kind.
         _ => truth(signed(x) < signed(y)),
     }
 }
@@ -127,7 +128,7 @@ pub fn gather(g: u64, o: u64) -> u64
     if g == NOTHING { o } else { MANY }
 }
 
-// A variable's cell where it is read; one that is not set holds no.
+// A variable's cell where it is read. One that is not set would hold no, but no step of an accepted book reads one.
 fn held_cell(c: u64) -> u64
     ensures { λ r. ⌜ r ≡ heldCell c ⌝ }
 {
@@ -171,6 +172,7 @@ fn eval_below(book: &[u8], row: &[u16], own: &[u64], called: &[u64], n: usize) -
             let taken = if t == YES { book[at + 2] } else { book[at + 3] };
             eval_below(book, row, own, called, taken as usize)
         }
+        // Default: a node has no other kind.
         _ => eval_default(book, row, own, called, n),
     }
 }
