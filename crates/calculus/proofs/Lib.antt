@@ -4,3 +4,4 @@ pub mod Exceptions
 mod ReductionExceptions
 mod ReductionHalts
 pub mod Reduction
+pub mod Overriding

@@ -6,3 +6,4 @@ pub mod Terms
 pub mod Evaluation
 pub mod Strips
 pub mod Reduction
+pub mod Overriding

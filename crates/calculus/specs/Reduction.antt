@@ -1,4 +1,15 @@
--- Reduction: figures 5 and 6 of the source paper, on the terms of the calculus. What is marked "ours" is not in the figures.
+-- Reduction: figures 5 and 6 of the source paper, on the terms of the calculus.
+--
+-- It departs from the figures in five places, each marked by its number where it stands, as the text of the source paper's 4.1 and 4.2 has it:
+--     1  Application and D-BETA are absent: scopes need them there, "replacing defs and calls with regular λ-abstractions and applications", and are
+--        not replaced here. What stands in for them: a variable is read from the environment; operators and "if" apply to values, in regular contexts.
+--     2  An empty exception stays in its place. The figures have no rule for it, so that strip g would be stuck; but "such an ∅-error can be caught,
+--        as long as it appears in the exception list of an enclosing default expression".
+--     3  The values in contexts are not errors: an error that is there propagates like one just raised. With the errors among the values strip h
+--        would be out of range; but "the reduction aborts, under any context".
+--     4  Conflict waits until every exception is a value: "Each of the exceptions .. is evaluated; if two or more are valid .., a conflict error .. is raised".
+--     5  Justification and consequence are reduced only once every exception is empty: else "we evaluate neither the justification or the consequence".
+-- Out of range is ours, a third error: it is like conflict.
 use Prim.Native.Nat.{ℕ, zero, suc}
 use mathlib.Core.Path.{_≡_}
 use mathlib.Core.Bool.{Bool, true, false, cond}
@@ -17,7 +28,7 @@ use Rattle.calculus.specs.declared.Outcome.the-variants.{Gives, Ends}
 use Rattle.calculus.specs.declared.Unary.{Unary}
 use Rattle.calculus.specs.declared.Binary.{Binary}
 
--- figure 5, "Values": literals and errors; each is what some outcome is as a term
+-- figure 5, "Values": literals and errors, no functions (1); each is what some outcome is as a term
 abbrev pub result : Outcome → Term
 result (Gives v) = literal v
 result (Ends c) = error c
@@ -33,7 +44,7 @@ isError which (binary op a b) = false
 isError which (choice c a b) = false
 isError which (default es j c) = false
 
--- a cause that ends a default wherever it arises; ours: out of range, like conflict
+-- a cause that ends a default wherever it arises: conflict, and out of range like it
 abbrev pub fatal : Cause → Bool
 fatal Empty = false
 fatal Conflict = true
@@ -43,11 +54,11 @@ fatal OutOfRange = true
 abbrev pub regular : (Term → Term) → Term → Term
 regular context t = cond (isError (λ x. true) t) t (context t)
 
--- a default in which an exception has become t: D-CONTEXTCONFLICTERROR, else D-CONTEXT; an empty exception stays in its place
+-- a default in which an exception has become t: D-CONTEXTCONFLICTERROR, else D-CONTEXT, which also holds of an empty one (2)
 abbrev pub amongExceptions : (Term → Term) → Term → Term
 amongExceptions context t = cond (isError fatal t) t (context t)
 
--- an exception that is a value and does not end the whole: empty, or a literal
+-- v, among exceptions: empty, or a literal, but no other error (3)
 abbrev pub settledTerm : Option Value → Term
 settledTerm option.none = error Empty
 settledTerm (some v) = literal v
@@ -64,13 +75,13 @@ empties (suc n) es = also (error Empty) (empties n es)
 
 -- e → e′, in an environment
 pub data Reduces (e : Env) : Term → Term → Type 0 where
-  -- ours: a variable is read from the environment
+  -- in place of D-BETA (1): a variable is read from the environment
   read-own : (x : ℕ) → Reduces e (own x) (literal (e .own x))
   read-called : (k x : ℕ) → Reduces e (called k x) (literal (e .called k x))
-  -- ours: operators on values
+  -- in place of D-BETA (1): operators on values
   apply-unary : (op : Unary) (v : Value) → Reduces e (unary op (literal v)) (result (unaryOf op v))
   apply-binary : (op : Binary) (v w : Value) → Reduces e (binary op (literal v) (literal w)) (result (binaryOf op v w))
-  -- ours: "'if' takes one branch"
+  -- in place of D-BETA (1): "'if' takes one branch"
   take-branch : (v : Value) (a b : Term) → Reduces e (choice (literal v) a b) (cond (truthOf v) a b)
   -- D-DEFAULTTRUENOEXCEPTIONS
   default-true : (n : ℕ) (w : Value) (o : Outcome) → truthOf w ≡ true
@@ -79,24 +90,24 @@ pub data Reduces (e : Env) : Term → Term → Type 0 where
   default-false : (n : ℕ) (w : Value) (c : Term) → truthOf w ≡ false → Reduces e (default (empties n none) (literal w) c) (error Empty)
   -- D-DEFAULTONEEXCEPTION
   one-exception : (m n : ℕ) (v : Value) (j c : Term) → Reduces e (default (empties m (also (literal v) (empties n none))) j c) (literal v)
-  -- D-DEFAULTEXCEPTIONSCONFLICT; ours: only once every exception is a value, as 4.1 has it: "Each of the exceptions .. is evaluated"
+  -- D-DEFAULTEXCEPTIONSCONFLICT, only once every exception is a value (4)
   two-exceptions : (us vs ws : List (Option Value)) (v w : Value) (j c : Term)
       → Reduces e (default (behind us (also (literal v) (behind vs (also (literal w) (behind ws none))))) j c) (error Conflict)
-  -- the regular contexts of figure 5; ours: those of operators and of "if", as of application
+  -- the regular contexts of figure 5: in place of those of application (1) those of operators and of "if", where v is no error (3)
   in-operand : (op : Unary) {a a′ : Term} → Reduces e a a′ → Reduces e (unary op a) (regular (unary op) a′)
   in-left : (op : Binary) (b : Term) {a a′ : Term} → Reduces e a a′ → Reduces e (binary op a b) (regular (λ x. binary op x b) a′)
   in-right : (op : Binary) (v : Value) {b b′ : Term} → Reduces e b b′
       → Reduces e (binary op (literal v) b) (regular (binary op (literal v)) b′)
   in-condition : (a b : Term) {c c′ : Term} → Reduces e c c′ → Reduces e (choice c a b) (regular (λ x. choice x a b) c′)
-  -- ours: only once every exception is empty, since else "we evaluate neither the justification or the consequence"
+  -- those of justification and consequence, only once every exception is empty (5)
   in-justification : (n : ℕ) (c : Term) {j j′ : Term} → Reduces e j j′
       → Reduces e (default (empties n none) j c) (regular (λ x. default (empties n none) x c) j′)
   in-consequence : (n : ℕ) (w : Value) {c c′ : Term} → truthOf w ≡ true → Reduces e c c′
       → Reduces e (default (empties n none) (literal w) c) (regular (default (empties n none) (literal w)) c′)
-  -- figure 5, "default exceptions evaluation"
+  -- figure 5, "default exceptions evaluation", where v⃗ has no error but empty (3)
   in-exception : (vs : List (Option Value)) (es : Terms) (j c : Term) {a a′ : Term} → Reduces e a a′
       → Reduces e (default (behind vs (also a es)) j c) (amongExceptions (λ x. default (behind vs (also x es)) j c) a′)
-  -- ours: an error already there propagates like one just raised
+  -- an error that is there propagates like one just raised (3)
   operand-error : (op : Unary) (x : Cause) → Reduces e (unary op (error x)) (error x)
   left-error : (op : Binary) (x : Cause) (b : Term) → Reduces e (binary op (error x) b) (error x)
   right-error : (op : Binary) (v : Value) (x : Cause) → Reduces e (binary op (literal v) (error x)) (error x)
