@@ -32,9 +32,9 @@ use Rattle.book.specs.declared.Variable.{Variable}
 use Rattle.book.specs.declared.Target.{Target}
 use Rattle.answers.specs.declared.Judged.the-variants.{Accepted}
 use Rattle.acceptance.proofs.Orders.{accepted-book}
-use Rattle.evaluation.specs.Run.{Entered, values, ended, State, envOf, runSteps, runScope}
+use Rattle.evaluation.specs.Run.{Entered, values, ended, State, envOf, Handing, handed, failed, inFront, evaluated, handing, runSteps, runScope}
 use Rattle.evaluation.specs.Types.{HasType, Fitting, OutcomeFits}
-use Rattle.evaluation.specs.Readiness.{Handing, handed, failed, inFront, evaluated, handing, calleeOf, handsOver, withVariable, withCall, Reached, TermReady, TreesReady, Done, Progress}
+use Rattle.evaluation.specs.Readiness.{calleeOf, handsOver, withVariable, withCall, Reached, TermReady, TreesReady, Done, Progress}
 use Rattle.evaluation.proofs.Running.{variable-turn, variable-end, call-turn, call-failed, call-end, call-number}
 use Rattle.evaluation.proofs.Soundness.{ready-typed}
 use Rattle.evaluation.proofs.Readiness.{accepted-progress, accepted-new, accepted-trees, accepted-handed}
@@ -156,12 +156,12 @@ module _ (book : List Scope) (enter : ℕ → List Given → Entered) (s : Scope
     evaluated-run v xs front r h e more (Ends d) fits = refl
 
     overrides-run : (v : ℕ) (xs : List Variable) (front : List Given) → length front ≡ v
-        → exec env (overridesCode s c v xs (43 ∷ c ∷ k)) 0 [] [] (handing-over (front ++ absent xs)) ≡ after-handing (handing s st c v xs) front
+        → exec env (overridesCode s c v xs (43 ∷ c ∷ k)) 0 [] [] (handing-over (front ++ absent xs)) ≡ after-handing (handing (envOf st) s c v xs) front
     unfolding overridesCode handing
     overrides-run v [] front e = refl
     overrides-run v (x ∷ xs) front e =
         let o = eval (envOf st) (tree s (calledTarget c v)) in
-        let h = handing s st c (suc v) xs in
+        let h = handing (envOf st) s c (suc v) xs in
         let r = overridesCode s c (suc v) xs (43 ∷ c ∷ k) in
         let more : (g : Given) → exec env r 0 [] [] (handing-over ((front ++ g ∷ []) ++ absent xs)) ≡ after-handing h (front ++ g ∷ []) =
         λ g. overrides-run (suc v) xs (front ++ g ∷ []) (omega (arith, length-append front (g ∷ []))) in
@@ -190,7 +190,7 @@ module _ (book : List Scope) (enter : ℕ → List Given → Entered) (s : Scope
     enter-run hs (ended d n) e = step-enter env [] [] (handing-over hs) c k ∙ rw (held-here hs, e)
 
     call-run : exec env (callCode book s c k) 0 [] [] m
-        ≡ after-handing (handing s st c 0 (scopeAt book (getD (s .subScopes) c 0) .variables)) []
+        ≡ after-handing (handing (envOf st) s c 0 (scopeAt book (getD (s .subScopes) c 0) .variables)) []
     unfolding callCode
     call-run =
         let xs = scopeAt book (getD (s .subScopes) c 0) .variables in

@@ -1,6 +1,7 @@
 -- The count of scopes entered: "in a run that ends with values it equals the weight".
 --     steps-bounded       the count of a run from some step on, by the weights of the sub-scopes still to be called
 --     entered-bounded     the count of entering a scope: at most its weight, and equal to it where the run ends in values
+--     order-bounded       so it is of a run of the scope's steps in any order that is complete
 --     values-count        of an accepted book: a run that ends in values has entered as many scopes as the weight says
 --     ended-count         one that ends with a cause, at least one and at most as many
 --     entered-small, reached-small    the count is 4,096 at most, and so it is in each state that the run reaches
@@ -36,7 +37,7 @@ use Rattle.acceptance.proofs.Orders.{accepted-book}
 use Rattle.evaluation.specs.Run.{Entered, values, ended, State, begin, runSteps, runScope}
 use Rattle.evaluation.specs.Readiness.{Reached, withVariable, withCall}
 use Rattle.evaluation.proofs.Running.{Steps, call-number, countOf, by-step, steps-count, reached-same}
-use Rattle.evaluation.proofs.Entering.{steps-of, accepted-complete, accepted-entered-steps, accepted-entered-count, accepted-by-blocks}
+use Rattle.evaluation.proofs.Entering.{accepted-complete, accepted-entered-steps, accepted-entered-count, accepted-by-blocks}
 
 -- Sums
 
@@ -186,11 +187,11 @@ module _ (book : List Scope) (enter : ℕ → List Given → Entered) (s : Scope
       omega (arith, added-call x l, w))
 
   -- each sub-scope is called once
-  pub added-sum : CompleteOrder (dependsOn s) (stepCount s) (stepOrder s) → sum added (stepOrder s) ≡ sum weigh (s .subScopes)
+  pub added-sum : (xs : List ℕ) → CompleteOrder (dependsOn s) (stepCount s) xs → sum added xs ≡ sum weigh (s .subScopes)
   unfolding stepCount
-  added-sum c =
+  added-sum xs c =
       let v = length (s .variables) in
-      order-sum added (dependsOn s) (stepCount s) (stepOrder s) c
+      order-sum added (dependsOn s) (stepCount s) xs c
       ∙ range-split added 0 v (length (s .subScopes))
       ∙ own-sum
     where
@@ -205,30 +206,45 @@ module _ (book : List Scope) (enter : ℕ → List Given → Entered) (s : Scope
           rw (z, none, all) (omega arith)
 
 module _ (bytes : List ℕ) (n : ℕ) (accepted : judge bytes ≡ Accepted n) where
+  -- what entering the scopes that the sub-scopes of scope i name comes to
+  abbrev CallsBounded : ℕ → Type 0
+  CallsBounded i = (k : ℕ) → k < length (scopeAt (scopesOf bytes) i .subScopes) → (given : List Given)
+      → Bounded (weight (scopesOf bytes) (getD (scopeAt (scopesOf bytes) i .subScopes) k 0))
+      (runScope (scopesOf bytes) (getD (scopeAt (scopesOf bytes) i .subScopes) k 0) given)
+
+  scope-bounded : (i : ℕ) → i < n → CallsBounded i → (given : List Given) (xs : List ℕ)
+      → CompleteOrder (dependsOn (scopeAt (scopesOf bytes) i)) (stepCount (scopeAt (scopesOf bytes) i)) xs
+      → Bounded (weight (scopesOf bytes) i)
+      (runSteps (scopesOf bytes) (runScope (scopesOf bytes)) (scopeAt (scopesOf bytes) i) given xs (begin (scopeAt (scopesOf bytes) i)))
+  scope-bounded i l earlier given xs orders =
+      let book = scopesOf bytes in
+      let s = scopeAt book i in
+      let all = runScope book in
+      let a = accepted-book bytes n accepted in
+      let complete = accepted-complete bytes n accepted in
+      let w : weight book i ≡ 1 + sum (added book all s given (weight book) earlier) xs =
+      weight-sum book (complete .count) (accepted-faultless bytes n accepted .named) i (omega (arith, a .count))
+      ∙ ap suc (sym (added-sum book all s given (weight book) earlier xs orders))
+      ∙ omega arith in
+      rw w (steps-bounded book all s given (weight book) earlier xs (orders .below) (begin s))
+
   pub entered-bounded : (i : ℕ) → i < n → (given : List Given)
       → Bounded (weight (scopesOf bytes) i) (runScope (scopesOf bytes) i given)
   entered-bounded =
       accepted-by-blocks bytes n accepted
       (λ i. (given : List Given) → Bounded (weight (scopesOf bytes) i) (runScope (scopesOf bytes) i given))
-      turn
-    where
-      turn : (i : ℕ) → i < n
-          → ((k : ℕ) → k < length (scopeAt (scopesOf bytes) i .subScopes) → (given : List Given)
-          → Bounded (weight (scopesOf bytes) (getD (scopeAt (scopesOf bytes) i .subScopes) k 0))
-          (runScope (scopesOf bytes) (getD (scopeAt (scopesOf bytes) i .subScopes) k 0) given))
-          → (given : List Given) → Bounded (weight (scopesOf bytes) i) (runScope (scopesOf bytes) i given)
-      turn i l earlier given =
-          let book = scopesOf bytes in
-          let s = scopeAt book i in
-          let all = runScope book in
-          let a = accepted-book bytes n accepted in
-          let complete = accepted-complete bytes n accepted in
-          let w : weight book i ≡ 1 + sum (added book all s given (weight book) earlier) (stepOrder s) =
-          weight-sum book (complete .count) (accepted-faultless bytes n accepted .named) i (omega (arith, a .count))
-          ∙ ap suc (sym (added-sum book all s given (weight book) earlier (a .stepOrders i l)))
-          ∙ omega arith in
-          rw (accepted-entered-steps bytes n accepted i l given, w)
-          (steps-bounded book all s given (weight book) earlier (stepOrder s) (steps-of s) (begin s))
+      (λ i l earlier given.
+      rw (accepted-entered-steps bytes n accepted i l given)
+      (scope-bounded i l earlier given (stepOrder (scopeAt (scopesOf bytes) i)) (accepted-book bytes n accepted .stepOrders i l)))
+
+  pub order-bounded : (i : ℕ) → i < n → (given : List Given) (xs : List ℕ)
+      → CompleteOrder (dependsOn (scopeAt (scopesOf bytes) i)) (stepCount (scopeAt (scopesOf bytes) i)) xs
+      → Bounded (weight (scopesOf bytes) i)
+      (runSteps (scopesOf bytes) (runScope (scopesOf bytes)) (scopeAt (scopesOf bytes) i) given xs (begin (scopeAt (scopesOf bytes) i)))
+  order-bounded i l =
+      let a = accepted-book bytes n accepted in
+      scope-bounded i l (λ k h. entered-bounded (getD (scopeAt (scopesOf bytes) i .subScopes) k 0)
+      (omega (arith, a .count, a .formed i l .subScopesNamed k h)))
 
   pub values-count : (i : ℕ) → i < n → (given : List Given) (vs : List Value) (c : ℕ)
       → runScope (scopesOf bytes) i given ≡ values vs c → c ≡ weight (scopesOf bytes) i

@@ -1,9 +1,12 @@
+mod Next
 pub mod Running
 pub mod Entering
 pub mod Counts
 pub mod Soundness
 pub mod Trees
+mod Environments
 pub mod Readiness
 pub mod Types
+pub mod Meaning
 pub mod Replies
 pub mod Answers

@@ -11,30 +11,30 @@
 -- Assumes nothing.
 use Prim.Native.Nat.{ℕ, zero, suc, _<_, _≤_, _+_, _-_}
 use mathlib.Core.Path.{_≡_, refl, sym, ap, subst, _∙_}
-use mathlib.Core.Bool.{Bool, true, false, _||_, or-true, or-false, false≢true}
+use mathlib.Core.Bool.{Bool, true, false, false≢true}
 use mathlib.Core.List.{List, [], _∷_, _++_, map}
 use mathlib.Core.Logic.{⊎-elim}
 use native.Mathlib.Omega.{arith}
-use lib.ListN.{length, getD, set, take, length-set, length-map, length-append, List·getD-append, List·getD-map}
-use lib.Seq.{getD-set-same, getD-set-other, take-append-seam, getD-append-seam}
+use lib.ListN.{length, getD, set, length-set, length-map, List·getD-map}
+use lib.Seq.{getD-set-same, getD-set-other}
 use lib.Dec.{eqb}
-use borrow.Author.Tests.{eqb-true, eqb-false, eq-eqb, ne-eqb}
+use borrow.Author.Tests.{eqb-true, eqb-false, ne-eqb}
 use Rattle.calculus.specs.Terms.{Term}
-use Rattle.calculus.specs.Evaluation.{eval, step, takes}
+use Rattle.calculus.specs.Evaluation.{Env, eval, step, takes}
 use Rattle.calculus.specs.declared.Value.{Value}
 use Rattle.calculus.specs.declared.Outcome.{Outcome}
-use Rattle.calculus.specs.declared.Outcome.the-variants.{Gives, Ends}
+use Rattle.calculus.specs.declared.Outcome.the-variants.{Gives}
 use Rattle.calculus.specs.declared.Given.{Given}
 use Rattle.calculus.specs.declared.Given.the-variants.{Absent, Present}
 use Rattle.cells.specs.Cells.{held}
 use Rattle.order.specs.Order.{among}
+use Rattle.calculus.proofs.Overriding.{step-default}
 use Rattle.laws.proofs.Booleans.{decide}
-use Rattle.order.proofs.Among.{among-snoc, among-place}
 use Rattle.book.specs.Syntax.{Scope}
 use Rattle.book.specs.Decode.{scopesOf}
 use Rattle.book.specs.References.{scopeAt}
 use Rattle.book.specs.Typing.{typeAt, calledTypeAt}
-use Rattle.book.specs.Trees.{tree, hasClause, ownTarget, calledTarget}
+use Rattle.book.specs.Trees.{tree, ownTarget, calledTarget}
 use Rattle.book.specs.Steps.{reads, dependsOn, stepCount, stepOrder}
 use Rattle.book.specs.Judge.{judge}
 use Rattle.book.specs.declared.ValueType.{ValueType}
@@ -44,13 +44,16 @@ use Rattle.answers.specs.declared.Judged.the-variants.{Accepted}
 use Rattle.acceptance.specs.Accepted.{WithinLimits, WellFormed, CompleteOrder}
 use Rattle.acceptance.proofs.Orders.{accepted-book}
 use Rattle.acceptance.proofs.Reading.{variable-depends, call-depends}
-use Rattle.evaluation.specs.Run.{Entered, values, State, envOf, begin, runSteps, runScope}
+use Rattle.evaluation.specs.Run.{Entered, values, State, envOf, handed, begin, runSteps, runScope}
 use Rattle.evaluation.specs.Types.{HasType, Holds, MayHold, HoldsAt, Fitting, ValuesFit, OutcomeFits, EnteredFits, OwnNamed, CalledNamed, WellTyped}
-use Rattle.evaluation.specs.Readiness.{Handing, handed, failed, inFront, evaluated, handing, Reached, Ready, TermReady, TreesReady, Progress, calleeOf, handsOver, withVariable, withCall}
+use Rattle.evaluation.specs.Readiness.{Reached, Ready, TermReady, TreesReady, Progress, calleeOf, handsOver, withVariable, withCall}
+use Rattle.evaluation.specs.Meaning.{Overrides}
+use Rattle.evaluation.proofs.Next.{next-below, next-after, next-new, snoc-other, snoc-here, append-more, append-none}
 use Rattle.evaluation.proofs.Running.{by-step}
 use Rattle.evaluation.proofs.Entering.{accepted-entered-steps, accepted-by-blocks}
 use Rattle.evaluation.proofs.Soundness.{Passes, typed-map, held-type, ready-typed}
 use Rattle.evaluation.proofs.Trees.{tree-typed}
+use Rattle.evaluation.proofs.Environments.{Each, each-rest, handing-overrides}
 
 -- Lists of values
 
@@ -124,69 +127,43 @@ below-steps : (s : Scope) (w : ℕ) → w < length (s .variables) → w < stepCo
 unfolding stepCount
 below-steps s w l = omega arith
 
-snoc-other : (steps : List ℕ) (x w : ℕ) → (w ≡ x → ⊥) → among (steps ++ x ∷ []) w ≡ among steps w
-snoc-other steps x w ne = among-snoc steps x w ∙ ap (λ (t : Bool). among steps w || t) (ne-eqb w x ne) ∙ or-false (among steps w)
-
-append-more : (xs : List ℕ) (y : ℕ) (ys : List ℕ) → xs ++ y ∷ ys ≡ (xs ++ y ∷ []) ++ ys
-append-more [] y ys = refl
-append-more (x ∷ xs) y ys = ap (λ (zs : List ℕ). x ∷ zs) (append-more xs y ys)
-
 -- a variable's step gives a value of its type
 step-typed : (t : ValueType) (g : Given) (o : Outcome) (y : Value) → MayHold t g → OutcomeFits t o → takes g o ≡ Gives y → HasType t y
 step-typed t Absent o y h f e = subst (OutcomeFits t) e f
 step-typed t (Present v) o y h f e = subst (OutcomeFits t) e h
 
-abbrev HandingFits : List Variable → Handing → Type 0
-HandingFits xs (handed gs) = Fitting xs gs
-HandingFits xs (failed c) = Unit {0}
+-- so is what a call hands over for a variable
+override-typed : (t : ValueType) (e : Env) (s : Scope) (k v : ℕ) (g : Given) → OutcomeFits t (eval e (tree s (calledTarget k v)))
+    → Overrides e s k v g → MayHold t g
+override-typed t e s k v g f (Overrides.without q) = tt
+override-typed t e s k v g f (Overrides.with y q p) = subst (OutcomeFits t) (step-default Absent e (tree s (calledTarget k v)) ∙ p) f
 
-front-fits : (x : Variable) (xs : List Variable) (g : Given) (h : Handing) → MayHold (x .holds) g → HandingFits xs h
-    → HandingFits (x ∷ xs) (inFront g h)
-front-fits x xs g (handed gs) m f = (m, f)
-front-fits x xs g (failed c) m f = tt
-
-evaluated-fits : (x : Variable) (xs : List Variable) (o : Outcome) (h : Handing) → OutcomeFits (x .holds) o → HandingFits xs h
-    → HandingFits (x ∷ xs) (evaluated o h)
-evaluated-fits x xs (Gives y) h m f = front-fits x xs (Present y) h m f
-evaluated-fits x xs (Ends c) h m f = tt
-
-handing-fits : (s : Scope) (st : State) (k v : ℕ) (xs : List Variable)
-    → ((j : ℕ) → j < length xs → OutcomeFits (getD xs j (record { holds = YesNo }) .holds) (eval (envOf st) (tree s (calledTarget k (v + j)))))
-    → HandingFits xs (handing s st k v xs)
-unfolding handing
-handing-fits s st k v [] h = tt
-handing-fits s st k v (x ∷ xs) h =
+each-fits : (e : Env) (s : Scope) (k v : ℕ) (xs : List Variable) (gs : List Given)
+    → ((j : ℕ) → j < length xs → OutcomeFits (getD xs j (record { holds = YesNo }) .holds) (eval e (tree s (calledTarget k (v + j)))))
+    → Each e s k v xs gs → Fitting xs gs
+each-fits e s k v [] [] h r = tt
+each-fits e s k v [] (g ∷ gs) h r = absurd (let z = r .size in omega arith)
+each-fits e s k v (x ∷ xs) [] h r = absurd (let z = r .size in omega arith)
+each-fits e s k v (x ∷ xs) (g ∷ gs) h r =
     let z : v + 0 ≡ v = omega arith in
-    let here : OutcomeFits (x .holds) (eval (envOf st) (tree s (calledTarget k v))) = rw z at (h 0 (omega arith)) in
-    let rest : HandingFits xs (handing s st k (suc v) xs) =
-    handing-fits s st k (suc v) xs (λ j l. let y : suc v + j ≡ v + suc j = omega arith in rw y (h (suc j) (omega arith))) in
-    ⊎-elim
-    (λ q. rw q (evaluated-fits x xs (eval (envOf st) (tree s (calledTarget k v))) (handing s st k (suc v) xs) here rest))
-    (λ q. rw q (front-fits x xs Absent (handing s st k (suc v) xs) tt rest))
-    (decide (hasClause s (calledTarget k v)))
+    let here : OutcomeFits (x .holds) (eval e (tree s (calledTarget k v))) = rw z at (h 0 (omega arith)) in
+    let p = each-rest e s k v x xs g gs r in (
+      override-typed (x .holds) e s k v g here (p .0),
+      each-fits e s k (suc v) xs gs (λ j l. let y : suc v + j ≡ v + suc j = omega arith in rw y (h (suc j) (omega arith))) (p .1),
+    )
 
 module _ (book : List Scope) (enter : ℕ → List Given → Entered) (s : Scope) (given : List Given)
     (formed : WellFormed book s) (within : WithinLimits s) (orders : CompleteOrder (dependsOn s) (stepCount s) (stepOrder s))
     (fitting : Fitting (s .variables) given)
     (fit : (k : ℕ) → k < length (s .subScopes) → (gs : List Given) → Fitting (scopeAt book (getD (s .subScopes) k 0) .variables) gs
     → EnteredFits (scopeAt book (getD (s .subScopes) k 0) .variables) (enter (getD (s .subScopes) k 0) gs)) where
-  -- the next step's place in the order
-  place : (x : ℕ) (xs steps : List ℕ) → stepOrder s ≡ steps ++ x ∷ xs
-      → (length steps < length (stepOrder s)) × (getD (stepOrder s) (length steps) 0 ≡ x)
-  place x xs steps e = (rw e (omega (arith, length-append steps (x ∷ xs))), rw e (getD-append-seam steps x xs 0))
-
   pub progress-below : (x : ℕ) (xs : List ℕ) (st : State) → Progress book s (x ∷ xs) st → x < stepCount s
-  progress-below x xs st p =
-      let a = place x xs (p .steps) (p .split) in
-      subst (λ (y : ℕ). y < stepCount s) (a .1) (orders .below (length (p .steps)) (a .0))
+  progress-below x xs st p = next-below (dependsOn s) (stepCount s) (stepOrder s) orders x xs (p .steps) (p .split)
 
   pub progress-ready : (x : ℕ) (xs : List ℕ) (st : State) → Progress book s (x ∷ xs) st → Ready book s x st
   unfolding stepCount
   progress-ready x xs st p =
-      let a = place x xs (p .steps) (p .split) in
-      let before : (w : ℕ) → w < stepCount s → dependsOn s x w ≡ true → among (p .steps) w ≡ true = λ w l e.
-      ap (λ (ys : List ℕ). among ys w) (sym (ap (take (length (p .steps))) (p .split) ∙ take-append-seam (p .steps) (x ∷ xs)))
-      ∙ orders .after (length (p .steps)) (a .0) w l (ap (λ (y : ℕ). dependsOn s y w) (a .1) ∙ e) in
+      let before = next-after (dependsOn s) (stepCount s) (stepOrder s) orders x xs (p .steps) (p .split) in
       record {
         variables = λ w l e. p .done .stored w l (before w (omega arith) e);
         calls = λ k l e. p .done .entered k l (before (length (s .variables) + k) (omega arith) e);
@@ -194,17 +171,7 @@ module _ (book : List Scope) (enter : ℕ → List Given → Entered) (s : Scope
 
   -- the next step is not yet done
   pub progress-new : (x : ℕ) (xs : List ℕ) (st : State) (p : Progress book s (x ∷ xs) st) → among (p .steps) x ≡ false
-  progress-new x xs st p =
-      let a = place x xs (p .steps) (p .split) in
-      ⊎-elim
-      (λ (q : among (p .steps) x ≡ true).
-      let r = among-place (p .steps) x q in
-      let same : getD (stepOrder s) (r .0) 0 ≡ x =
-      ap (λ (ys : List ℕ). getD ys (r .0) 0) (p .split) ∙ List·getD-append (p .steps) (x ∷ xs) 0 (r .0) (r .1) ∙ r .2 in
-      let z : r .0 ≡ length (p .steps) = orders .once (r .0) (length (p .steps)) (omega (arith, a .0, r .1)) (a .0) (same ∙ sym (a .1)) in
-      absurd (omega (arith, z, r .1)))
-      (λ (q : among (p .steps) x ≡ false). q)
-      (decide (among (p .steps) x))
+  progress-new x xs st p = next-new (dependsOn s) (stepCount s) (stepOrder s) orders x xs (p .steps) (p .split)
 
   begin-progress : Progress book s (stepOrder s) (begin s)
   unfolding among
@@ -254,8 +221,7 @@ module _ (book : List Scope) (enter : ℕ → List Given → Entered) (s : Scope
               unset = λ w h m.
                   ⊎-elim
                   (λ (q : eqb w x ≡ true).
-                  absurd
-                  (false≢true (sym m ∙ among-snoc (p .steps) x w ∙ ap (λ (t : Bool). among (p .steps) w || t) q ∙ or-true (among (p .steps) w))))
+                  absurd (false≢true (sym m ∙ snoc-here (p .steps) x w (eqb-true w x q))))
                   (λ (q : eqb w x ≡ false).
                   let ne : w ≡ x → ⊥ = eqb-false w x q in
                   getD-set-other (st .own) x w (Present y) Absent ne ∙ d .unset w h (sym (snoc-other (p .steps) x w ne) ∙ m))
@@ -265,17 +231,19 @@ module _ (book : List Scope) (enter : ℕ → List Given → Entered) (s : Scope
             };
       }
 
-  handed-fit : (x : ℕ) (xs : List ℕ) (st : State) → Progress book s (x ∷ xs) st → length (s .variables) ≤ x
-      → HandingFits (scopeAt book (calleeOf s x) .variables)
-      (handsOver book s st x)
+  handed-fit : (x : ℕ) (xs : List ℕ) (st : State) (gs : List Given) → Progress book s (x ∷ xs) st → length (s .variables) ≤ x
+      → handsOver book s st x ≡ handed gs → Fitting (scopeAt book (calleeOf s x) .variables) gs
   unfolding stepCount
-  handed-fit x xs st p l =
+  handed-fit x xs st gs p l e =
       let k = x - length (s .variables) in
+      let callee = scopeAt book (calleeOf s x) .variables in
       let low : x < length (s .variables) + length (s .subScopes) = progress-below x xs st p in
       let ready = trees-ready book s formed within x st (progress-ready x xs st p) in
-      handing-fits s st k 0 (scopeAt book (getD (s .subScopes) k 0) .variables) (λ j h.
+      each-fits (envOf st) s k 0 callee gs
+      (λ j h.
       let z : 0 + j ≡ j = omega arith in
       rw z (ready-typed st (tree s (calledTarget k j)) (calledTypeAt book s k j) (ready .overrides k (omega arith) (omega arith) j)))
+      (handing-overrides (envOf st) s k 0 callee gs e)
 
   call-progress : (x : ℕ) (xs : List ℕ) (st : State) (gs : List Given) (vs : List Value) (n : ℕ) → Progress book s (x ∷ xs) st
       → length (s .variables) ≤ x
@@ -290,7 +258,7 @@ module _ (book : List Scope) (enter : ℕ → List Given → Entered) (s : Scope
       let callee = scopeAt book (getD (s .subScopes) k 0) .variables in
       let low : x < v + length (s .subScopes) = progress-below x xs st p in
       let there : k < length (s .subScopes) = omega arith in
-      let fits : Fitting callee gs = subst (HandingFits callee) h (handed-fit x xs st p l) in
+      let fits : Fitting callee gs = handed-fit x xs st gs p l h in
       let typed : ValuesFit callee vs = subst (EnteredFits callee) e (fit k there gs fits) in
       let inside : k < length (st .called) = omega (arith, d .calledLength) in
       record {
@@ -318,8 +286,7 @@ module _ (book : List Scope) (enter : ℕ → List Given → Entered) (s : Scope
                   (λ (q : eqb j k ≡ true).
                   let same : j ≡ k = eqb-true j k q in
                   let here : v + j ≡ x = omega arith in
-                  absurd (false≢true (sym m ∙ among-snoc (p .steps) x (v + j)
-                  ∙ ap (λ (t : Bool). among (p .steps) (v + j) || t) (eq-eqb (v + j) x here) ∙ or-true (among (p .steps) (v + j)))))
+                  absurd (false≢true (sym m ∙ snoc-here (p .steps) x (v + j) here)))
                   (λ (q : eqb j k ≡ false).
                   let ne : j ≡ k → ⊥ = eqb-false j k q in
                   getD-set-other (st .called) k j vs [] ne ∙ d .waiting j r (sym (snoc-other (p .steps) x (v + j) (λ t. ne (omega arith))) ∙ m))
@@ -340,9 +307,7 @@ module _ (book : List Scope) (enter : ℕ → List Given → Entered) (s : Scope
   pub reached-handed : (x : ℕ) (xs : List ℕ) (st : State) (gs : List Given) → Reached book enter s given (x ∷ xs) st → length (s .variables) ≤ x
       → handsOver book s st x ≡ handed gs
       → Fitting (scopeAt book (calleeOf s x) .variables) gs
-  reached-handed x xs st gs r l h =
-      subst (HandingFits (scopeAt book (calleeOf s x) .variables)) h
-      (handed-fit x xs st (reached-progress (x ∷ xs) st r) l)
+  reached-handed x xs st gs r = handed-fit x xs st gs (reached-progress (x ∷ xs) st r)
 
   pub steps-fit : (xs : List ℕ) (st : State) → Reached book enter s given xs st → EnteredFits (s .variables) (runSteps book enter s given xs st)
   unfolding runSteps
@@ -350,14 +315,7 @@ module _ (book : List Scope) (enter : ℕ → List Given → Entered) (s : Scope
       let p = reached-progress [] st r in
       let d = p .done in
       all-held (s .variables) (st .own) (d .ownLength) (λ w l.
-      d .stored w l (ap (λ (ys : List ℕ). among ys w) (sym (p .split ∙ nothing-more (p .steps))) ∙ orders .every w (more w l)))
-    where
-      nothing-more : (ys : List ℕ) → ys ++ [] ≡ ys
-      nothing-more [] = refl
-      nothing-more (y ∷ ys) = ap (λ (zs : List ℕ). y ∷ zs) (nothing-more ys)
-
-      more : (w : ℕ) → w < length (s .variables) → w < stepCount s
-      more w l = below-steps s w l
+      d .stored w l (ap (λ (ys : List ℕ). among ys w) (sym (p .split ∙ append-none (p .steps))) ∙ orders .every w (below-steps s w l)))
   steps-fit (x ∷ xs) st r =
       let k = x - length (s .variables) in
       by-step book enter s given (EnteredFits (s .variables)) x xs st

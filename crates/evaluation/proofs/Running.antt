@@ -1,14 +1,13 @@
 -- Running the steps of a scope.
---     steps-congruent     a run depends only on what entering the scope's sub-scopes comes to
---     overrides-handing   a call's overrides, by what they hand over
 --     variable-turn, variable-end                a variable's step that gives a value, and one that does not
 --     call-turn, call-failed, call-end           a call that gives values, one whose overrides do not, one whose scope does not
+--     steps-congruent     a run depends only on what entering the scope's sub-scopes comes to
 --     by-step             what holds of each way that a step can go holds of the run from it
 --     steps-count         the count never falls along a run
 --     reached-same        what a run comes to from a state that it reaches is what it comes to from the start
 -- Assumes nothing.
 use Prim.Native.Nat.{ℕ, suc, _<_, _≤_, _+_, _-_}
-use mathlib.Core.Path.{_≡_, refl, sym, subst, _∙_}
+use mathlib.Core.Path.{_≡_, refl, sym, ap, subst, _∙_}
 use mathlib.Core.Bool.{true, false}
 use mathlib.Core.List.{List, [], _∷_}
 use mathlib.Core.Logic.{⊎-elim}
@@ -16,21 +15,20 @@ use native.Mathlib.Omega.{arith}
 use lib.ListN.{length, getD, set}
 use lib.Dec.{ltb}
 use borrow.Author.Tests.{ltb-true, ltb-false, lt-ltb, le-ltb}
-use Rattle.calculus.specs.Evaluation.{eval, step}
+use Rattle.calculus.specs.Evaluation.{step}
 use Rattle.calculus.specs.declared.Value.{Value}
 use Rattle.answers.specs.declared.Cause.{Cause}
 use Rattle.calculus.specs.declared.Outcome.{Outcome}
 use Rattle.calculus.specs.declared.Outcome.the-variants.{Gives, Ends}
 use Rattle.calculus.specs.declared.Given.{Given}
-use Rattle.calculus.specs.declared.Given.the-variants.{Absent, Present}
+use Rattle.calculus.specs.declared.Given.the-variants.{Absent}
 use Rattle.laws.proofs.Booleans.{decide}
 use Rattle.book.specs.Syntax.{Scope}
 use Rattle.book.specs.References.{scopeAt}
-use Rattle.book.specs.Trees.{tree, hasClause, ownTarget, calledTarget}
+use Rattle.book.specs.Trees.{tree, ownTarget}
 use Rattle.book.specs.Steps.{stepCount, stepOrder}
-use Rattle.book.specs.declared.Variable.{Variable}
-use Rattle.evaluation.specs.Run.{Entered, values, ended, State, envOf, onValue, onEntered, overrides, begin, runSteps}
-use Rattle.evaluation.specs.Readiness.{Handing, handed, failed, inFront, evaluated, handing, onHanding, Reached, calleeOf, handsOver, withVariable, withCall}
+use Rattle.evaluation.specs.Run.{Entered, values, ended, State, envOf, onValue, onEntered, Handing, handed, failed, handing, onHanding, begin, runSteps}
+use Rattle.evaluation.specs.Readiness.{Reached, calleeOf, handsOver, withVariable, withCall}
 
 -- the scopes entered
 abbrev pub countOf : Entered → ℕ
@@ -46,9 +44,50 @@ pub call-number : (s : Scope) (x : ℕ) → x < stepCount s → length (s .varia
 unfolding stepCount
 call-number s x l h = omega arith
 
+-- One step of a run
+
+module _ (book : List Scope) (enter : ℕ → List Given → Entered) (s : Scope) (given : List Given) (x : ℕ) (xs : List ℕ) (st : State) where
+  module _ (l : x < length (s .variables)) where
+    pub variable-turn : (y : Value) → step (getD given x Absent) (envOf st) (tree s (ownTarget x)) ≡ Gives y
+        → runSteps book enter s given (x ∷ xs) st
+        ≡ runSteps book enter s given xs (withVariable st x y)
+    unfolding runSteps
+    variable-turn y e =
+        rw (lt-ltb x (length (s .variables)) l)
+        (ap (λ (o : Outcome). onValue o (st .count) (λ v. runSteps book enter s given xs (withVariable st x v))) e)
+
+    pub variable-end : (c : Cause) → step (getD given x Absent) (envOf st) (tree s (ownTarget x)) ≡ Ends c
+        → runSteps book enter s given (x ∷ xs) st ≡ ended c (st .count)
+    unfolding runSteps
+    variable-end c e = rw (lt-ltb x (length (s .variables)) l, e)
+
+  module _ (l : length (s .variables) ≤ x) where
+    pub call-turn : (gs : List Given) (vs : List Value) (n : ℕ)
+        → handsOver book s st x ≡ handed gs
+        → enter (calleeOf s x) gs ≡ values vs n
+        → runSteps book enter s given (x ∷ xs) st
+        ≡ runSteps book enter s given xs (withCall st (x - length (s .variables)) vs n)
+    unfolding runSteps
+    call-turn gs vs n h e = rw (le-ltb x (length (s .variables)) l, h, e)
+
+    pub call-failed : (c : Cause)
+        → handsOver book s st x ≡ failed c
+        → runSteps book enter s given (x ∷ xs) st ≡ ended c (st .count)
+    unfolding runSteps
+    call-failed c h = rw (le-ltb x (length (s .variables)) l, h)
+
+    pub call-end : (gs : List Given) (c : Cause) (n : ℕ)
+        → handsOver book s st x ≡ handed gs
+        → enter (calleeOf s x) gs ≡ ended c n
+        → runSteps book enter s given (x ∷ xs) st ≡ ended c (st .count + n)
+    unfolding runSteps
+    call-end gs c n h e = rw (le-ltb x (length (s .variables)) l, h, e)
+
+-- A whole run
+
 module _ (book : List Scope) (s : Scope) (given : List Given) (e f : ℕ → List Given → Entered)
-    (same : (k : ℕ) → k < length (s .subScopes) → (handed : List Given)
-    → e (getD (s .subScopes) k 0) handed ≡ f (getD (s .subScopes) k 0) handed) where
+    (same : (k : ℕ) → k < length (s .subScopes) → (gs : List Given)
+    → e (getD (s .subScopes) k 0) gs ≡ f (getD (s .subScopes) k 0) gs) where
   pub steps-congruent : (xs : List ℕ) → Steps s xs → (st : State) → runSteps book e s given xs st ≡ runSteps book f s given xs st
   unfolding runSteps
   steps-congruent [] below st = refl
@@ -65,82 +104,10 @@ module _ (book : List Scope) (s : Scope) (given : List Given) (e f : ℕ → Lis
       let k = x - v in
       let there : k < length (s .subScopes) = call-number s x (below 0 (omega arith)) (ltb-false x v q) in
       rw q
-      (λ i. overrides s st k 0 (scopeAt book (getD (s .subScopes) k 0) .variables)
-      (λ handed. onEntered (same k there handed i) (st .count)
+      (λ i. onHanding (handing (envOf st) s k 0 (scopeAt book (getD (s .subScopes) k 0) .variables)) (st .count)
+      (λ gs. onEntered (same k there gs i) (st .count)
       (λ vs n. rest (record { own = st .own; called = set (st .called) k vs; count = n }) i))))
       (decide (ltb x v))
-
-value-handing : (o : Outcome) (h : Handing) (c : ℕ) (go : List Given → Entered)
-    → onValue o c (λ y. onHanding h c (λ gs. go (Present y ∷ gs))) ≡ onHanding (evaluated o h) c go
-value-handing (Gives y) (handed gs) c go = refl
-value-handing (Gives y) (failed d) c go = refl
-value-handing (Ends d) h c go = refl
-
-absent-handing : (h : Handing) (c : ℕ) (go : List Given → Entered)
-    → onHanding h c (λ gs. go (Absent ∷ gs)) ≡ onHanding (inFront Absent h) c go
-absent-handing (handed gs) c go = refl
-absent-handing (failed d) c go = refl
-
-pub overrides-handing : (s : Scope) (st : State) (k v : ℕ) (xs : List Variable) (go : List Given → Entered)
-    → overrides s st k v xs go ≡ onHanding (handing s st k v xs) (st .count) go
-unfolding overrides handing
-overrides-handing s st k v [] go = refl
-overrides-handing s st k v (x ∷ xs) go =
-    let rest = handing s st k (suc v) xs in
-    let o = eval (envOf st) (tree s (calledTarget k v)) in
-    ⊎-elim
-    (λ q. rw q
-    ((λ i. onValue o (st .count) (λ y. overrides-handing s st k (suc v) xs (λ gs. go (Present y ∷ gs)) i))
-    ∙ value-handing o rest (st .count) go))
-    (λ q. rw q (overrides-handing s st k (suc v) xs (λ gs. go (Absent ∷ gs)) ∙ absent-handing rest (st .count) go))
-    (decide (hasClause s (calledTarget k v)))
-
--- One step of a run
-
-module _ (book : List Scope) (enter : ℕ → List Given → Entered) (s : Scope) (given : List Given) (x : ℕ) (xs : List ℕ) (st : State) where
-  module _ (l : x < length (s .variables)) where
-    pub variable-turn : (y : Value) → step (getD given x Absent) (envOf st) (tree s (ownTarget x)) ≡ Gives y
-        → runSteps book enter s given (x ∷ xs) st
-        ≡ runSteps book enter s given xs (withVariable st x y)
-    unfolding runSteps
-    variable-turn y e = rw (lt-ltb x (length (s .variables)) l, e)
-
-    pub variable-end : (c : Cause) → step (getD given x Absent) (envOf st) (tree s (ownTarget x)) ≡ Ends c
-        → runSteps book enter s given (x ∷ xs) st ≡ ended c (st .count)
-    unfolding runSteps
-    variable-end c e = rw (lt-ltb x (length (s .variables)) l, e)
-
-  module _ (l : length (s .variables) ≤ x) where
-    abbrev k : ℕ
-    k = x - length (s .variables)
-
-    abbrev callee : List Variable
-    callee = scopeAt book (getD (s .subScopes) k 0) .variables
-
-    by-handing : runSteps book enter s given (x ∷ xs) st
-        ≡ onHanding (handing s st k 0 callee) (st .count)
-        (λ gs. onEntered (enter (getD (s .subScopes) k 0) gs) (st .count)
-        (λ vs n. runSteps book enter s given xs (record { own = st .own; called = set (st .called) k vs; count = n })))
-    unfolding runSteps
-    by-handing = rw (le-ltb x (length (s .variables)) l) (overrides-handing s st k 0 callee _)
-
-    pub call-turn : (gs : List Given) (vs : List Value) (n : ℕ)
-        → handsOver book s st x ≡ handed gs
-        → enter (calleeOf s x) gs ≡ values vs n
-        → runSteps book enter s given (x ∷ xs) st
-        ≡ runSteps book enter s given xs (withCall st (x - length (s .variables)) vs n)
-    call-turn gs vs n h e = by-handing ∙ rw (h, e)
-
-    pub call-failed : (c : Cause)
-        → handsOver book s st x ≡ failed c
-        → runSteps book enter s given (x ∷ xs) st ≡ ended c (st .count)
-    call-failed c h = by-handing ∙ rw h
-
-    pub call-end : (gs : List Given) (c : Cause) (n : ℕ)
-        → handsOver book s st x ≡ handed gs
-        → enter (calleeOf s x) gs ≡ ended c n
-        → runSteps book enter s given (x ∷ xs) st ≡ ended c (st .count + n)
-    call-end gs c n h e = by-handing ∙ rw (h, e)
 
 module _ (book : List Scope) (enter : ℕ → List Given → Entered) (s : Scope) (given : List Given) where
   module _ (P : Entered → Type 0) (x : ℕ) (xs : List ℕ) (st : State)

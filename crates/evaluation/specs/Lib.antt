@@ -2,4 +2,5 @@ pub mod Run
 pub mod Evaluate
 pub mod Types
 pub mod Readiness
+pub mod Meaning
 pub mod Answers

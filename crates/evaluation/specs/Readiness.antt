@@ -1,59 +1,31 @@
 -- What holds of the state before a step: "every read meets a value that is set and of its type".
-use Prim.Native.Nat.{ℕ, suc, _+_, _-_, _<_, _≤_}
+use Prim.Native.Nat.{ℕ, _+_, _-_, _<_, _≤_}
 use mathlib.Core.Path.{_≡_}
-use mathlib.Core.Bool.{true, false, cond}
+use mathlib.Core.Bool.{true, false}
 use mathlib.Core.List.{List, [], _∷_, _++_}
 use lib.ListN.{length, getD, set}
 use Rattle.calculus.specs.Terms.{Term}
-use Rattle.calculus.specs.Evaluation.{eval, step}
+use Rattle.calculus.specs.Evaluation.{step}
 use Rattle.calculus.specs.declared.Value.{Value}
-use Rattle.answers.specs.declared.Cause.{Cause}
-use Rattle.calculus.specs.declared.Outcome.{Outcome}
-use Rattle.calculus.specs.declared.Outcome.the-variants.{Gives, Ends}
+use Rattle.calculus.specs.declared.Outcome.the-variants.{Gives}
 use Rattle.calculus.specs.declared.Given.{Given}
 use Rattle.calculus.specs.declared.Given.the-variants.{Absent, Present}
 use Rattle.order.specs.Order.{among}
 use Rattle.book.specs.Syntax.{Scope}
 use Rattle.book.specs.References.{scopeAt}
 use Rattle.book.specs.Typing.{typeAt, calledTypeAt}
-use Rattle.book.specs.Trees.{tree, hasClause, ownTarget, calledTarget}
+use Rattle.book.specs.Trees.{tree, ownTarget, calledTarget}
 use Rattle.book.specs.Steps.{dependsOn, stepOrder}
 use Rattle.book.specs.declared.ValueType.{ValueType}
-use Rattle.book.specs.declared.Variable.{Variable}
-use Rattle.evaluation.specs.Run.{Entered, values, ended, State, envOf, begin}
+use Rattle.evaluation.specs.Run.{Entered, values, State, envOf, Handing, handed, handing, begin}
 use Rattle.evaluation.specs.Types.{Holds, HoldsAt, ValuesFit, Typed}
-
--- the override trees of a call: the values handed over, or the cause of an end
-pub data Handing : Type 0 where
-  handed : List Given → Handing
-  failed : Cause → Handing
-
--- one more variable in front
-abbrev pub inFront : Given → Handing → Handing
-inFront g (handed gs) = handed (g ∷ gs)
-inFront g (failed c) = failed c
-
-abbrev pub evaluated : Outcome → Handing → Handing
-evaluated (Gives y) rest = inFront (Present y) rest
-evaluated (Ends c) rest = failed c
-
--- for the variables from v on of the scope that sub-scope k names
-unfoldable pub handing : Scope → State → ℕ → ℕ → List Variable → Handing
-handing s st k v [] = handed []
-handing s st k v (x ∷ xs) =
-    let rest = handing s st k (suc v) xs in
-    cond (hasClause s (calledTarget k v)) (evaluated (eval (envOf st) (tree s (calledTarget k v))) rest) (inFront Absent rest)
-
-abbrev pub onHanding : Handing → ℕ → (List Given → Entered) → Entered
-onHanding (handed gs) count go = go gs
-onHanding (failed c) count go = ended c count
 
 -- the scope that the call of step x enters, and what it hands over
 abbrev pub calleeOf : Scope → ℕ → ℕ
 calleeOf s x = getD (s .subScopes) (x - length (s .variables)) 0
 
 abbrev pub handsOver : List Scope → Scope → State → ℕ → Handing
-handsOver book s st x = handing s st (x - length (s .variables)) 0 (scopeAt book (calleeOf s x) .variables)
+handsOver book s st x = handing (envOf st) s (x - length (s .variables)) 0 (scopeAt book (calleeOf s x) .variables)
 
 -- the state after own variable x has got a value, and after sub-scope k has been entered
 abbrev pub withVariable : State → ℕ → Value → State

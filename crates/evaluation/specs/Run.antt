@@ -44,15 +44,34 @@ abbrev pub onEntered : Entered → ℕ → (List Value → ℕ → Entered) → 
 onEntered (values vs n) count go = go vs (count + n)
 onEntered (ended c n) count go = ended c (count + n)
 
+-- what the overrides of a call come to: what is handed over for each variable, or the cause of an end
+pub data Handing : Type 0 where
+  handed : List Given → Handing
+  failed : Cause → Handing
+
+-- one more variable in front
+abbrev pub inFront : Given → Handing → Handing
+inFront g (handed gs) = handed (g ∷ gs)
+inFront g (failed c) = failed c
+
+-- the outcome of one more override tree in front: one without a value is the end
+abbrev pub evaluated : Outcome → Handing → Handing
+evaluated (Gives y) rest = inFront (Present y) rest
+evaluated (Ends c) rest = failed c
+
 -- "A call evaluates its override trees in variable order, hands over those values"; "A target of an override without clauses is simply
 -- not given": for the variables from v on of the scope that sub-scope k names
-unfoldable pub overrides : Scope → State → ℕ → ℕ → List Variable → (List Given → Entered) → Entered
-overrides s st k v [] go = go []
-overrides s st k v (x ∷ xs) go =
+unfoldable pub handing : Env → Scope → ℕ → ℕ → List Variable → Handing
+handing e s k v [] = handed []
+handing e s k v (x ∷ xs) =
     let t = calledTarget k v in
-    let without = overrides s st k (suc v) xs (λ given. go (Absent ∷ given)) in
-    let with = onValue (eval (envOf st) (tree s t)) (st .count) (λ y. overrides s st k (suc v) xs (λ given. go (Present y ∷ given))) in
-    cond (hasClause s t) with without
+    let rest = handing e s k (suc v) xs in
+    cond (hasClause s t) (evaluated (eval e (tree s t)) rest) (inFront Absent rest)
+
+-- an override without a value ends the run before the scope is entered
+abbrev pub onHanding : Handing → ℕ → (List Given → Entered) → Entered
+onHanding (handed gs) count go = go gs
+onHanding (failed c) count go = ended c count
 
 -- the steps in their order; `enter` is what entering a scope with given variables comes to
 module _ (book : List Scope) (enter : ℕ → List Given → Entered) (s : Scope) (given : List Given) where
@@ -66,8 +85,8 @@ module _ (book : List Scope) (enter : ℕ → List Given → Entered) (s : Scope
   abbrev pub runCall : ℕ → State → (State → Entered) → Entered
   runCall k st go =
       let i = getD (s .subScopes) k 0 in
-      overrides s st k 0 (scopeAt book i .variables)
-      (λ handed. onEntered (enter i handed) (st .count) (λ vs n. go (record { own = st .own; called = set (st .called) k vs; count = n })))
+      onHanding (handing (envOf st) s k 0 (scopeAt book i .variables)) (st .count)
+      (λ gs. onEntered (enter i gs) (st .count) (λ vs n. go (record { own = st .own; called = set (st .called) k vs; count = n })))
 
   unfoldable pub runSteps : List ℕ → State → Entered
   runSteps [] st = values (map held (st .own)) (st .count)
@@ -83,10 +102,11 @@ begin s = record { own = map (λ v. Absent) (s .variables); called = map (λ k. 
 
 -- entering scope i, whose block and all blocks it enters stand in the list, last block first
 unfoldable pub enter : List Scope → List ℕ → ℕ → List Given → Entered
+-- a block that is not there: no scope of an accepted book meets it (accepted-entered-real)
 enter book [] i given = ended Empty 0
 enter book (b ∷ earlier) i given =
     let s = scopeAt book i in
-    let here = runSteps book (λ j handed. enter book earlier j handed) s given (stepOrder s) (begin s) in
+    let here = runSteps book (λ j gs. enter book earlier j gs) s given (stepOrder s) (begin s) in
     cond (eqb b i) here (enter book earlier i given)
 
 -- entering scope i of a book, with all its blocks there
