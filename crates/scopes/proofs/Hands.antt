@@ -31,7 +31,7 @@ use Rattle.book.specs.Trees.{tree, hasClause, calledTarget}
 use Rattle.book.specs.declared.Variable.{Variable}
 use Rattle.terms.specs.Outcomes as cells
 use Rattle.trees.specs.Chains.{treeOutcome, clauseFor}
-use Rattle.evaluation.specs.Run.{Entered, ended, State, envOf, onValue, overrides}
+use Rattle.evaluation.specs.Run.{Entered, ended, State, envOf, Handing, handed, failed, inFront, evaluated, handing, onHanding}
 use Rattle.scopes.specs.Steps.{hands, stops, handOf, override, overrideAt, handedOf, Hands, givensFrom, Over, all, stopped, also, overAll, calledCount, HandedAll}
 use Rattle.scopes.proofs.Cells.{valued, ends-by}
 
@@ -39,32 +39,38 @@ abbrev pub onOver : Over → ℕ → (List Given → Entered) → Entered
 onOver (all gs) count go = go gs
 onOver (stopped c) count go = ended c count
 
-also-hands : (g : Given) (o : Over) (count : ℕ) (go : List Given → Entered) → onOver o count (λ gs. go (g ∷ gs)) ≡ onOver (also (hands g) o) count go
-also-hands g (all gs) count go = refl
-also-hands g (stopped c) count go = refl
+-- what the definition hands over, as what is handed over here
+abbrev asOver : Handing → Over
+asOver (handed gs) = all gs
+asOver (failed c) = stopped c
 
-hand-value : (o : Outcome) (rest : Over) (count : ℕ) (go : List Given → Entered)
-    → onValue o count (λ y. onOver rest count (λ gs. go (Present y ∷ gs))) ≡ onOver (also (handOf o) rest) count go
-hand-value (Gives v) rest count go = also-hands (Present v) rest count go
-hand-value (Ends c) rest count go = refl
+over-front : (g : Given) (h : Handing) → asOver (inFront g h) ≡ also (hands g) (asOver h)
+over-front g (handed gs) = refl
+over-front g (failed c) = refl
+
+over-evaluated : (o : Outcome) (h : Handing) → asOver (evaluated o h) ≡ also (handOf o) (asOver h)
+over-evaluated (Gives v) h = over-front (Present v) h
+over-evaluated (Ends c) h = refl
+
+over-handing : (e : Env) (s : Scope) (k v : ℕ) (xs : List Variable) → asOver (handing e s k v xs) ≡ overAll e s k v (length xs)
+unfolding handing overAll
+over-handing e s k v [] = refl
+over-handing e s k v (x ∷ xs) =
+    let t = calledTarget k v in
+    let rest = over-handing e s k (suc v) xs in
+    ⊎-elim
+    (λ (q : hasClause s t ≡ true). rw q (over-evaluated (eval e (tree s t)) (handing e s k (suc v) xs) ∙ ap (also (handOf (eval e (tree s t)))) rest))
+    (λ (q : hasClause s t ≡ false). rw q (over-front Absent (handing e s k (suc v) xs) ∙ ap (also (hands Absent)) rest))
+    (decide (hasClause s t))
+
+on-over : (h : Handing) (count : ℕ) (go : List Given → Entered) → onHanding h count go ≡ onOver (asOver h) count go
+on-over (handed gs) count go = refl
+on-over (failed c) count go = refl
 
 pub overrides-over : (s : Scope) (st : State) (k v : ℕ) (xs : List Variable) (go : List Given → Entered)
-    → overrides s st k v xs go ≡ onOver (overAll (envOf st) s k v (length xs)) (st .count) go
-unfolding overrides overAll
-overrides-over s st k v [] go = refl
-overrides-over s st k v (x ∷ xs) go =
-    let t = calledTarget k v in
-    let rest = overAll (envOf st) s k (suc v) (length xs) in
-    ⊎-elim
-    (λ (q : hasClause s t ≡ true).
-    rw q
-    ((λ i. onValue (eval (envOf st) (tree s t)) (st .count) (λ y. overrides-over s st k (suc v) xs (λ given. go (Present y ∷ given)) i))
-    ∙ hand-value (eval (envOf st) (tree s t)) rest (st .count) go))
-    (λ (q : hasClause s t ≡ false).
-    rw q
-    (overrides-over s st k (suc v) xs (λ given. go (Absent ∷ given))
-    ∙ also-hands Absent rest (st .count) go))
-    (decide (hasClause s t))
+    → onHanding (handing (envOf st) s k v xs) (st .count) go ≡ onOver (overAll (envOf st) s k v (length xs)) (st .count) go
+overrides-over s st k v xs go =
+    on-over (handing (envOf st) s k v xs) (st .count) go ∙ ap (λ o. onOver o (st .count) go) (over-handing (envOf st) s k v xs)
 
 -- environments that agree on the override trees
 pub over-agrees : (e f : Env) (s : Scope) (k : ℕ) → ((v : ℕ) → eval e (tree s (calledTarget k v)) ≡ eval f (tree s (calledTarget k v)))
