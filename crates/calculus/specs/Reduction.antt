@@ -6,7 +6,7 @@
 --     2  An empty exception stays in its place. The figures have no rule for it, so that strip g would be stuck; but "such an ∅-error can be caught,
 --        as long as it appears in the exception list of an enclosing default expression".
 --     3  The values in contexts are not errors: an error that is there propagates like one just raised. With the errors among the values strip h
---        would be out of range; but "the reduction aborts, under any context".
+--        would be out of range; but of ⊗ "the reduction aborts, under any context", and of ∅ "such an error propagates".
 --     4  Conflict waits until every exception is a value: "Each of the exceptions .. is evaluated; if two or more are valid .., a conflict error .. is raised".
 --     5  Justification and consequence are reduced only once every exception is empty: else "we evaluate neither the justification or the consequence".
 -- Out of range is ours, a third error: it is like conflict.

@@ -79,10 +79,10 @@ module _ (book : List Scope) (enter : ℕ → List Given → Entered) (s : Scope
 
   -- a solution of the scope's equations, in which each call gives the values of its sub-scope
   pub record Solution (vs : List Value) : Type 0 where
-    pub handed′ : ℕ → List Given
-    pub called′ : List (List Value)
-    pub solves : Solves book s given vs handed′ called′
-    pub entered : (k : ℕ) → k < length (s .subScopes) → (n : ℕ) × (enter (getD (s .subScopes) k 0) (handed′ k) ≡ values (getD called′ k []) n)
+    pub handsOut : ℕ → List Given
+    pub calledValues : List (List Value)
+    pub solves : Solves book s given vs handsOut calledValues
+    pub entered : (k : ℕ) → k < length (s .subScopes) → (n : ℕ) × (enter (getD (s .subScopes) k 0) (handsOut k) ≡ values (getD calledValues k []) n)
 
   -- From a run to a solution
 
@@ -284,8 +284,8 @@ module _ (book : List Scope) (enter : ℕ → List Given → Entered) (s : Scope
     found-solution : Solution (map held (last .own))
     found-solution =
         record {
-          handed′ = found;
-          called′ = last .called;
+          handsOut = found;
+          calledValues = last .called;
           solves = solved;
           entered = λ k l. (call-of k l .count, ap (enter (getD (s .subScopes) k 0)) (found-gives k l) ∙ call-of k l .enters);
         }
@@ -300,13 +300,13 @@ module _ (book : List Scope) (enter : ℕ → List Given → Entered) (s : Scope
   -- From a solution to a run
 
   module _ (vs : List Value) (solution : Solution vs) where
-    abbrev handed′ : ℕ → List Given
-    handed′ = solution .handed′
+    abbrev handsOut : ℕ → List Given
+    handsOut = solution .handsOut
 
     abbrev cs : List (List Value)
-    cs = solution .called′
+    cs = solution .calledValues
 
-    abbrev solves : Solves book s given vs handed′ cs
+    abbrev solves : Solves book s given vs handsOut cs
     solves = solution .solves
 
     -- the steps done have set what they are to set
@@ -357,11 +357,11 @@ module _ (book : List Scope) (enter : ℕ → List Given → Entered) (s : Scope
         is-call : j < calls
         is-call = call-number s x (next-below (dependsOn s) (stepCount s) order complete x xs done split) l
 
-        call-hands : handsOver book s st x ≡ handed (handed′ j)
+        call-hands : handsOver book s st x ≡ handed (handsOut j)
         call-hands =
             let at : x ≡ own + j = omega arith in
             handing-same (envOf st) (holding vs cs) book s formed within x along-same j is-call at 0 (callee j)
-            ∙ overrides-handing (holding vs cs) s j 0 (callee j) (handed′ j)
+            ∙ overrides-handing (holding vs cs) s j 0 (callee j) (handsOut j)
             (record {
               size = solves .handedLength j is-call;
               overrides = λ v r. let z : 0 + v ≡ v = omega arith in rw z (solves .overrides j is-call v r);
@@ -407,7 +407,7 @@ module _ (book : List Scope) (enter : ℕ → List Given → Entered) (s : Scope
         let k = x - own in
         let p = solution .entered k (is-call x xs done split st a l) in
         let r = runs xs (done ++ x ∷ []) (withCall st k (getD cs k []) (p .0)) split′ (call-along x xs done split st a l (p .0)) in
-        (r .0, call-turn book enter s given x xs st l (handed′ k) (getD cs k []) (p .0) (call-hands x xs done split st a l) (p .1) ∙ r .1))
+        (r .0, call-turn book enter s given x xs st l (handsOut k) (getD cs k []) (p .0) (call-hands x xs done split st a l) (p .1) ∙ r .1))
         (decide (ltb x own))
 
     pub solution-runs : (n : ℕ) × (runSteps book enter s given order (begin s) ≡ values vs n)
@@ -425,8 +425,8 @@ module _ (book : List Scope) (enter : ℕ → List Given → Entered) (s : Scope
 
 module _ (bytes : List ℕ) (n : ℕ) (accepted : judge bytes ≡ Accepted n) where
   -- a run of scope i's steps in this order, in which calls enter the book's scopes
-  abbrev pub runIn : ℕ → List Given → List ℕ → Entered
-  runIn i given xs =
+  abbrev pub runInOrder : ℕ → List Given → List ℕ → Entered
+  runInOrder i given xs =
       runSteps (scopesOf bytes) (runScope (scopesOf bytes)) (scopeAt (scopesOf bytes) i) given xs (begin (scopeAt (scopesOf bytes) i))
 
   -- each of scope i's steps once, and after all that it depends on
@@ -444,20 +444,20 @@ module _ (bytes : List ℕ) (n : ℕ) (accepted : judge bytes ≡ Accepted n) wh
   MeansRuns i = (given : List Given) (vs : List Value) → Means (scopesOf bytes) i given vs → (c : ℕ) × (runScope (scopesOf bytes) i given ≡ values vs c)
 
   module _ (i : ℕ) (l : i < n) (given : List Given) (xs : List ℕ) (complete : Complete i xs) (vs : List Value) where
-    by-callees : OfCallees RunMeans i → (c : ℕ) → runIn i given xs ≡ values vs c → Means (scopesOf bytes) i given vs
+    by-callees : OfCallees RunMeans i → (c : ℕ) → runInOrder i given xs ≡ values vs c → Means (scopesOf bytes) i given vs
     by-callees earlier c e =
         let book = scopesOf bytes in
         let a = accepted-book bytes n accepted in
         let r = run-solves book (runScope book) (scopeAt book i) given (a .formed i l) (a .within i) xs complete vs c e in
-        Means.means (r .handed′) (r .called′) (r .solves)
-        (λ k h. earlier k h (r .handed′ k) (getD (r .called′) k []) (r .entered k h .0) (r .entered k h .1))
+        Means.means (r .handsOut) (r .calledValues) (r .solves)
+        (λ k h. earlier k h (r .handsOut k) (getD (r .calledValues) k []) (r .entered k h .0) (r .entered k h .1))
 
-    to-callees : OfCallees MeansRuns i → Means (scopesOf bytes) i given vs → (c : ℕ) × (runIn i given xs ≡ values vs c)
+    to-callees : OfCallees MeansRuns i → Means (scopesOf bytes) i given vs → (c : ℕ) × (runInOrder i given xs ≡ values vs c)
     to-callees earlier (Means.means hs cs solves calls) =
         let book = scopesOf bytes in
         let a = accepted-book bytes n accepted in
         solution-runs book (runScope book) (scopeAt book i) given (a .formed i l) (a .within i) xs complete vs
-        (record { handed′ = hs; called′ = cs; solves = solves; entered = λ k h. earlier k h (hs k) (getD cs k []) (calls k h) })
+        (record { handsOut = hs; calledValues = cs; solves = solves; entered = λ k h. earlier k h (hs k) (getD cs k []) (calls k h) })
 
   pub run-means : (i : ℕ) → i < n → (given : List Given) (vs : List Value) (c : ℕ) → runScope (scopesOf bytes) i given ≡ values vs c
       → Means (scopesOf bytes) i given vs
@@ -493,18 +493,18 @@ module _ (bytes : List ℕ) (n : ℕ) (accepted : judge bytes ≡ Accepted n) wh
     callee-below : (k : ℕ) → k < length (scopeAt (scopesOf bytes) i .subScopes) → getD (scopeAt (scopesOf bytes) i .subScopes) k 0 < n
     callee-below k h = let a = accepted-book bytes n accepted in omega (arith, a .count, a .formed i l .subScopesNamed k h)
 
-    pub order-means : (xs : List ℕ) → Complete i xs → (vs : List Value) (c : ℕ) → runIn i given xs ≡ values vs c → Means (scopesOf bytes) i given vs
+    pub order-means : (xs : List ℕ) → Complete i xs → (vs : List Value) (c : ℕ) → runInOrder i given xs ≡ values vs c → Means (scopesOf bytes) i given vs
     order-means xs complete vs = by-callees i l given xs complete vs (λ k h. run-means (getD (scopeAt (scopesOf bytes) i .subScopes) k 0) (callee-below k h))
 
     pub means-order : (xs : List ℕ) → Complete i xs → (vs : List Value) → Means (scopesOf bytes) i given vs
-        → runIn i given xs ≡ values vs (weight (scopesOf bytes) i)
+        → runInOrder i given xs ≡ values vs (weight (scopesOf bytes) i)
     means-order xs complete vs m =
         let r = to-callees i l given xs complete vs (λ k h. means-runs (getD (scopeAt (scopesOf bytes) i .subScopes) k 0) (callee-below k h)) m in
-        subst (λ (c : ℕ). runIn i given xs ≡ values vs c)
+        subst (λ (c : ℕ). runInOrder i given xs ≡ values vs c)
         (subst (Bounded (weight (scopesOf bytes) i)) (r .1) (order-bounded bytes n accepted i l given xs complete)) (r .1)
 
     pub any-order : (xs ys : List ℕ) → Complete i xs → Complete i ys → (vs : List Value) (c : ℕ)
-        → runIn i given xs ≡ values vs c → runIn i given ys ≡ values vs c
+        → runInOrder i given xs ≡ values vs c → runInOrder i given ys ≡ values vs c
     any-order xs ys first second vs c e =
         let w : c ≡ weight (scopesOf bytes) i =
         subst (Bounded (weight (scopesOf bytes) i)) e (order-bounded bytes n accepted i l given xs first) in
