@@ -2,7 +2,9 @@
 -- since each has one parent at most.
 --     node-parts      a node's term has one part more than the terms of its operands together
 --     named-parts     the nodes that clauses name have together no more parts than there are nodes
---     clause-parts    the clauses that are selected, together: three for each clause, and those of the nodes that clauses name
+--     clauses-all     the clauses that are selected, together: so many for each clause, and those of the nodes that clauses name
+--     clause-parts    in parts: three for each clause
+--     clause-sizes    in bytes of code: 24 for each clause
 --     tree-parts      a tree has 637 parts at most
 -- Assumes nothing.
 use Prim.Native.Nat.{ℕ, suc, _+_, _*_, _≤_, _<_}
@@ -32,7 +34,8 @@ use Rattle.book.proofs.Terms.{term-here}
 use Rattle.book.proofs.Sums.{sum-same}
 use Rattle.acceptance.specs.Accepted.{WithinLimits, WellFormed}
 use Rattle.book.proofs.Namings.{operands-lower, clause-nodes}
-use Rattle.translation.proofs.Parts.{parts, allParts}
+use Rattle.translation.specs.Code.{size, sizes}
+use Rattle.translation.proofs.Parts.{parts, allParts, allOf, parts-all, excepted, sizes-all, around}
 use Rattle.translation.proofs.Sums.{Below, append-below, gathered-below, sum-append, sum-below, range-gathered}
 
 -- Nodes
@@ -73,7 +76,7 @@ module _ (lower : ℕ → Term) where
       omega (arith, e)
 
 -- the parts of a node's term
-abbrev partsOf : Scope → ℕ → ℕ
+abbrev pub partsOf : Scope → ℕ → ℕ
 partsOf s n = parts (termOf s n)
 
 module _ (book : List Scope) (s : Scope) (formed : WellFormed book s) where
@@ -101,7 +104,7 @@ module _ (book : List Scope) (s : Scope) (formed : WellFormed book s) where
       (gathered-below l clauseNodes (s .clauses) noClause
       (λ i h. clause-nodes book s i (getD (s .clauses) i noClause) (formed .clausesNamed i h noClause)))
 
-  named-parts : sum (partsOf s) (gathered clauseNodes (s .clauses)) ≤ length (s .nodes)
+  pub named-parts : sum (partsOf s) (gathered clauseNodes (s .clauses)) ≤ length (s .nodes)
   unfolding namings
   named-parts =
       let all = range-gathered (partsOf s) operands (s .nodes) 0 noNode
@@ -111,62 +114,89 @@ module _ (book : List Scope) (s : Scope) (formed : WellFormed book s) where
 
 -- Clauses
 
--- what is selected, the first clause's term apart
-first-parts : (p : Clause → Bool) (c : Clause) (cs : List Clause) (t : Term) (ts : List Term)
-    → allParts (select p (c ∷ cs) (t ∷ ts)) ≤ parts t + allParts (select p cs ts)
-unfolding select parts
-first-parts p c cs t ts = go (p c)
-  where
-    go : (b : Bool) → allParts (cond b (also t (select p cs ts)) (select p cs ts)) ≤ parts t + allParts (select p cs ts)
-    go true = omega arith
-    go false = omega arith
+-- what is selected, by a measure of terms
+module _ (f : Term → ℕ) where
+  -- the first clause's term apart
+  first-all : (p : Clause → Bool) (c : Clause) (cs : List Clause) (t : Term) (ts : List Term)
+      → allOf f (select p (c ∷ cs) (t ∷ ts)) ≤ f t + allOf f (select p cs ts)
+  unfolding select allOf
+  first-all p c cs t ts = go (p c)
+    where
+      go : (b : Bool) → allOf f (cond b (also t (select p cs ts)) (select p cs ts)) ≤ f t + allOf f (select p cs ts)
+      go true = omega arith
+      go false = omega arith
 
--- two selections without a clause in common
-joint-parts : (p q : Clause → Bool) → ((c : Clause) → p c ≡ true → q c ≡ true → ⊥) → (cs : List Clause) (ts : List Term)
-    → allParts (select p cs ts) + allParts (select q cs ts) ≡ allParts (select (λ c. p c || q c) cs ts)
-unfolding select parts
-joint-parts p q apart [] ts = omega arith
-joint-parts p q apart (c ∷ cs) [] = omega arith
-joint-parts p q apart (c ∷ cs) (t ∷ ts) =
-    go (p c) (q c) (apart c) (select p cs ts) (select q cs ts) (select (λ c. p c || q c) cs ts) (joint-parts p q apart cs ts)
-  where
-    go : (a b : Bool) → (a ≡ true → b ≡ true → ⊥) → (k l m : Terms) → allParts k + allParts l ≡ allParts m
-        → allParts (cond a (also t k) k) + allParts (cond b (also t l) l) ≡ allParts (cond (a || b) (also t m) m)
-    go true true h k l m e = absurd (h refl refl)
-    go true false h k l m e = omega arith
-    go false true h k l m e = omega arith
-    go false false h k l m e = e
+  -- two selections without a clause in common
+  joint-all : (p q : Clause → Bool) → ((c : Clause) → p c ≡ true → q c ≡ true → ⊥) → (cs : List Clause) (ts : List Term)
+      → allOf f (select p cs ts) + allOf f (select q cs ts) ≡ allOf f (select (λ c. p c || q c) cs ts)
+  unfolding select allOf
+  joint-all p q apart [] ts = omega arith
+  joint-all p q apart (c ∷ cs) [] = omega arith
+  joint-all p q apart (c ∷ cs) (t ∷ ts) =
+      go (p c) (q c) (apart c) (select p cs ts) (select q cs ts) (select (λ c. p c || q c) cs ts) (joint-all p q apart cs ts)
+    where
+      go : (a b : Bool) → (a ≡ true → b ≡ true → ⊥) → (k l m : Terms) → allOf f k + allOf f l ≡ allOf f m
+          → allOf f (cond a (also t k) k) + allOf f (cond b (also t l) l) ≡ allOf f (cond (a || b) (also t m) m)
+      go true true h k l m e = absurd (h refl refl)
+      go true false h k l m e = omega arith
+      go false true h k l m e = omega arith
+      go false false h k l m e = e
+
+  -- a default has no more than a beside its terms, yes and no have no more than y, and each clause adds that of a default and of two of these
+  module _ (s : Scope) (a y : ℕ) (whole : (es : Terms) (j c : Term) → f (default es j c) ≤ a + allOf f es + f j + f c)
+      (fixed : (b : Bool) → f (literal (Truth b)) ≤ y) (most : ℕ → ℕ) (more : (n : ℕ) → a + y + y + most n ≤ most (suc n)) where
+    abbrev of : ℕ → ℕ
+    of n = f (termOf s n)
+
+    consequence-all : (c : Consequence) → f (consequenceTerm s c) ≤ y + sum of (consequenceNode c)
+    unfolding sum
+    consequence-all (Of n) = omega arith
+    consequence-all (Fixed b) = omega (arith, fixed b)
+
+    own-all : (c : Clause) → f (conditionTerm s (c .condition)) + f (consequenceTerm s (c .consequence)) ≤ y + y + sum of (clauseNodes c)
+    unfolding sum
+    own-all c = go (eqb (c .condition) 255) (consequenceNode (c .consequence)) (consequence-all (c .consequence))
+      where
+        go : (b : Bool) (xs : List ℕ) {k : ℕ} → k ≤ y + sum of xs
+            → f (cond b (literal (Truth true)) (termOf s (c .condition))) + k ≤ y + y + sum of (cond b xs (c .condition ∷ xs))
+        go true xs h = omega (arith, fixed true)
+        go false xs h = omega arith
+
+    -- of the clauses from number n on, those selected, none of which has one of them as parent
+    pub clauses-all : (cs : List Clause) (n : ℕ) (p : Clause → Bool)
+        → ((c : Clause) → p c ≡ true → n ≤ c .parent → n + length cs ≤ c .parent)
+        → allOf f (select p cs (clauseTerms s n cs)) ≤ most (length cs) + sum of (gathered clauseNodes cs)
+    unfolding select clauseTerms allOf sum gathered
+    clauses-all [] n p outer = omega arith
+    clauses-all (c ∷ cs) n p outer =
+        let later = clauseTerms s (suc n) cs in
+        let q : Clause → Bool = λ d. eqb (d .parent) n in
+        let es = select q cs later in
+        let j = conditionTerm s (c .condition) in
+        let k = consequenceTerm s (c .consequence) in
+        let joint = joint-all p q (λ d u v. omega (arith, eqb-true (d .parent) n v, outer d u (omega (arith, eqb-true (d .parent) n v)))) cs later in
+        let rest = clauses-all cs (suc n) (λ d. p d || q d)
+        (λ d e l. ⊎-elim (λ u. omega (arith, outer d u (omega arith))) (λ v. omega (arith, eqb-true (d .parent) n v)) (or-cases (p d) (q d) e)) in
+        omega (arith, first-all p c cs (default es j k) later, whole es j k, own-all c, joint, rest, more (length cs), sum-append of (clauseNodes c) (gathered clauseNodes cs))
 
 module _ (s : Scope) where
-  consequence-parts : (c : Consequence) → parts (consequenceTerm s c) ≤ 1 + sum (partsOf s) (consequenceNode c)
-  unfolding parts sum
-  consequence-parts (Of n) = omega arith
-  consequence-parts (Fixed b) = omega arith
-
-  own-parts : (c : Clause)
-      → parts (conditionTerm s (c .condition)) + parts (consequenceTerm s (c .consequence)) ≤ 2 + sum (partsOf s) (clauseNodes c)
-  unfolding parts sum
-  own-parts c = go (eqb (c .condition) 255) (consequenceNode (c .consequence)) (consequence-parts (c .consequence))
-    where
-      go : (b : Bool) (xs : List ℕ) {k : ℕ} → k ≤ 1 + sum (partsOf s) xs
-          → parts (cond b (literal (Truth true)) (termOf s (c .condition))) + k ≤ 2 + sum (partsOf s) (cond b xs (c .condition ∷ xs))
-      go true xs h = omega arith
-      go false xs h = omega arith
-
-  -- of the clauses from number n on, those selected, none of which has one of them as parent
+  -- a default, yes and no have one part each beside others'
   clause-parts : (cs : List Clause) (n : ℕ) (p : Clause → Bool)
       → ((c : Clause) → p c ≡ true → n ≤ c .parent → n + length cs ≤ c .parent)
       → allParts (select p cs (clauseTerms s n cs)) ≤ 3 * length cs + sum (partsOf s) (gathered clauseNodes cs)
-  unfolding select clauseTerms parts sum gathered
-  clause-parts [] n p outer = omega arith
-  clause-parts (c ∷ cs) n p outer =
-      let later = clauseTerms s (suc n) cs in
-      let q : Clause → Bool = λ d. eqb (d .parent) n in
-      let t = default (select q cs later) (conditionTerm s (c .condition)) (consequenceTerm s (c .consequence)) in
-      let joint = joint-parts p q (λ d a b. omega (arith, eqb-true (d .parent) n b, outer d a (omega (arith, eqb-true (d .parent) n b)))) cs later in
-      let more = clause-parts cs (suc n) (λ d. p d || q d)
-      (λ d e l. ⊎-elim (λ a. omega (arith, outer d a (omega arith))) (λ b. omega (arith, eqb-true (d .parent) n b)) (or-cases (p d) (q d) e)) in
-      omega (arith, first-parts p c cs t later, own-parts c, joint, more, sum-append (partsOf s) (clauseNodes c) (gathered clauseNodes cs))
+  unfolding parts
+  clause-parts cs n p outer =
+      let e = clauses-all parts s 1 1 (λ es j c. omega (arith, parts-all es)) (λ b. omega arith) (λ m. 3 * m) (λ m. omega arith) cs n p outer in
+      omega (arith, e, parts-all (select p cs (clauseTerms s n cs)))
+
+  -- a default has two bytes more than its parts as exceptions, yes and no eleven
+  pub clause-sizes : (cs : List Clause) (n : ℕ) (p : Clause → Bool)
+      → ((c : Clause) → p c ≡ true → n ≤ c .parent → n + length cs ≤ c .parent)
+      → sizes (select p cs (clauseTerms s n cs)) ≤ 24 * length cs + sum (λ m. excepted (termOf s m)) (gathered clauseNodes cs)
+  unfolding size
+  clause-sizes cs n p outer =
+      let e = clauses-all excepted s 2 11 (λ es j c. omega (arith, sizes-all es, around es)) (λ b. omega arith) (λ m. 24 * m) (λ m. omega arith) cs n p outer in
+      omega (arith, e, sizes-all (select p cs (clauseTerms s n cs)))
 
   bases-parts : length (s .clauses) ≤ 255 → (t : Target)
       → allParts (bases s t) ≤ 3 * length (s .clauses) + sum (partsOf s) (gathered clauseNodes (s .clauses))

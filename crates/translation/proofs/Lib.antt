@@ -4,4 +4,6 @@ pub mod Sums
 pub mod Bounds
 pub mod Sayable
 pub mod Runnable
+pub mod Bytes
+pub mod Lengths
 pub mod Examples

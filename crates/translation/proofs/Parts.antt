@@ -1,9 +1,11 @@
 -- How large a term is, by one count: the term itself and every term in it. The other measures are bounded by it.
+--     parts-all, sizes-all    the parts and the code of exceptions, as sums
 --     size-parts        the bytes of its code
 --     leaves-parts      its leaves
 --     defaults-parts    its defaults
 -- Assumes nothing.
 use Prim.Native.Nat.{ℕ, suc, _+_, _*_, _≤_}
+use mathlib.Core.Path.{_≡_}
 use native.Mathlib.Omega.{arith}
 use Rattle.calculus.specs.Terms.{Term, Terms, literal, own, called, error, unary, binary, choice, default, none, also}
 use Rattle.calculus.specs.declared.Value.{Value}
@@ -26,20 +28,38 @@ unfoldable mutual
   allParts none = 0
   allParts (also e es) = parts e + allParts es
 
+-- a measure of terms, of exceptions together
+unfoldable pub allOf : (Term → ℕ) → Terms → ℕ
+allOf f none = 0
+allOf f (also e es) = f e + allOf f es
+
+pub parts-all : (es : Terms) → allParts es ≡ allOf parts es
+unfolding parts allOf
+parts-all none = omega arith
+parts-all (also e es) = omega (arith, parts-all es)
+
+-- the code of a term as an exception: nine bytes more
+abbrev pub excepted : Term → ℕ
+excepted t = size t + 9
+
+pub sizes-all : (es : Terms) → sizes es ≡ allOf excepted es
+unfolding size allOf
+sizes-all none = omega arith
+sizes-all (also e es) = omega (arith, sizes-all es)
+
 literal-size : (v : Value) → literalSize v ≤ 5
 literal-size (Truth b) = omega arith
 literal-size (Number z) = omega arith
 
 -- where there are exceptions, four bytes more than theirs
-around : (es : Terms) → ifAny es (1 + sizes es + 3) 0 ≤ sizes es + 4
+pub around : (es : Terms) → ifAny es (1 + sizes es + 3) 0 ≤ sizes es + 4
 around none = omega arith
 around (also e es) = omega arith
 
--- nine bytes more make a term an exception
 mutual
   unfolding parts size
 
-  pub size-parts : (t : Term) → size t + 9 ≤ 20 * parts t
+  pub size-parts : (t : Term) → size t + 9 ≤ 14 * parts t
   size-parts (literal v) = omega (arith, literal-size v)
   size-parts (own x) = omega arith
   size-parts (called s x) = omega arith
@@ -49,7 +69,7 @@ mutual
   size-parts (choice c a b) = omega (arith, size-parts c, size-parts a, size-parts b)
   size-parts (default es j c) = omega (arith, around es, sizes-parts es, size-parts j, size-parts c)
 
-  sizes-parts : (es : Terms) → sizes es ≤ 20 * allParts es
+  sizes-parts : (es : Terms) → sizes es ≤ 14 * allParts es
   sizes-parts none = omega arith
   sizes-parts (also e es) = omega (arith, size-parts e, sizes-parts es)
 
