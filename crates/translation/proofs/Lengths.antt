@@ -426,18 +426,17 @@ module _ (book : List Scope) (s : Scope) (within : WithinLimits s) (formed : Wel
 
 -- Books
 
-module _ (book : List Scope) where
-  books-most : (ss : List Scope) (a : ℕ) → ((k : ℕ) → k < length ss → blockSize book (a + k) ≤ 7 * (1 + inner (getD ss k emptyScope)))
-      → range (blockSize book) a (length ss) ≤ 7 * together ss
-  unfolding range together
-  books-most [] a h = omega arith
-  books-most (s ∷ ss) a h =
-      let z : a + 0 ≡ a = omega arith in
-      let here : blockSize book a ≤ 7 * (1 + inner s) = subst (λ (k : ℕ). blockSize book k ≤ 7 * (1 + inner s)) z (h 0 (omega arith)) in
-      let rest = books-most ss (suc a) (λ k l.
-      let y : a + suc k ≡ suc a + k = omega arith in
-      subst (λ (m : ℕ). blockSize book m ≤ 7 * (1 + inner (getD ss k emptyScope))) y (h (suc k) (omega arith))) in
-      omega (arith, here, rest)
+range-scopes : (f : ℕ → ℕ) (ss : List Scope) (a : ℕ) → ((k : ℕ) → k < length ss → f (a + k) ≤ 7 * (1 + inner (getD ss k emptyScope)))
+    → range f a (length ss) ≤ 7 * together ss
+unfolding range together
+range-scopes f [] a h = omega arith
+range-scopes f (s ∷ ss) a h =
+    let z : a + 0 ≡ a = omega arith in
+    let here : f a ≤ 7 * (1 + inner s) = subst (λ (k : ℕ). f k ≤ 7 * (1 + inner s)) z (h 0 (omega arith)) in
+    let rest = range-scopes f ss (suc a) (λ k l.
+    let y : a + suc k ≡ suc a + k = omega arith in
+    subst (λ (m : ℕ). f m ≤ 7 * (1 + inner (getD ss k emptyScope))) y (h (suc k) (omega arith))) in
+    omega (arith, here, rest)
 
 module _ (bytes : List ℕ) (n : ℕ) (accepted : judge bytes ≡ Accepted n) where
   pub code-bound : length (codeOf (scopesOf bytes)) ≤ 7 * length bytes
@@ -448,7 +447,7 @@ module _ (bytes : List ℕ) (n : ℕ) (accepted : judge bytes ≡ Accepted n) wh
       let sound = scan-sound (records bytes) .1 (accepted-faultless bytes n accepted .sound) in
       let count = a .count in
       let most : range (blockSize book) 0 (length book) ≤ 7 * together book =
-      books-most book book 0 (λ k l.
+      range-scopes (blockSize book) book 0 (λ k l.
       let z : k ≡ 0 + k = omega arith in
       subst (λ (i : ℕ). blockSize book i ≤ 7 * (1 + inner (scopeAt book k))) z
       (block-most book (scopeAt book k) (a .within k) (a .formed k (omega arith)) (a .stepOrders k (omega arith)))) in
