@@ -25,7 +25,8 @@ use Rattle.book.specs.Typing.{mismatches}
 use Rattle.book.specs.Mixing.{mixes}
 use Rattle.book.specs.Scopes.{scopeCycle, overweight}
 use Rattle.book.specs.Steps.{dependencyCycle}
-use Rattle.book.specs.Judge.{faultNumber, InBook, scan, wholeBook, afterRecords, judge}
+use Rattle.book.specs.Judge.{InBook, scan, wholeBook, afterRecords, judge}
+use Rattle.answers.specs.Numbers.{faultNumber}
 use Rattle.answers.specs.declared.Fault.{Fault}
 use Rattle.answers.specs.declared.Fault.the-variants.{LimitExceeded, DanglingReference, SharedNode, TypeMismatch, MixedClauses, ScopeCycle, WeightExceeded, DependencyCycle}
 use Rattle.book.specs.declared.Scanned.{Scanned}

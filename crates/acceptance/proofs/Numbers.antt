@@ -10,7 +10,8 @@ use mathlib.Core.Logic.{⊎-elim}
 use native.Mathlib.Omega.{arith}
 use native.Mathlib.Nat.{eq-or-lt-of-le}
 use lib.ListN.{getD}
-use Rattle.book.specs.Judge.{faultNumber, InBook}
+use Rattle.book.specs.Judge.{InBook}
+use Rattle.answers.specs.Numbers.{faultNumber}
 use Rattle.answers.specs.declared.Fault.{Fault}
 use Rattle.answers.specs.declared.Fault.the-variants.{Truncated, UnknownKind, OutOfOrder, LimitExceeded, InvalidByte, DanglingReference, SharedNode, TypeMismatch, MixedClauses, ScopeCycle, WeightExceeded, DependencyCycle}
 use Rattle.acceptance.specs.Verdicts.{FreeBelow}

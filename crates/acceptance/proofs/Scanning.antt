@@ -16,7 +16,8 @@ use native.Mathlib.Omega.{arith}
 use Rattle.laws.proofs.Booleans.{decide, neither}
 use Rattle.book.specs.Lists.{any}
 use Rattle.book.specs.Records.{Met, records, unknownKind, truncated, outOfOrder, limitExceeded, invalidByte, tooLong}
-use Rattle.book.specs.Judge.{faultNumber, InBook, scan}
+use Rattle.book.specs.Judge.{InBook, scan}
+use Rattle.answers.specs.Numbers.{faultNumber}
 use Rattle.answers.specs.declared.Fault.{Fault}
 use Rattle.answers.specs.declared.Fault.the-variants.{Truncated, UnknownKind, OutOfOrder, LimitExceeded, InvalidByte, DanglingReference, SharedNode, TypeMismatch, MixedClauses, ScopeCycle, WeightExceeded, DependencyCycle}
 use Rattle.book.specs.declared.Scanned.{Scanned}

@@ -12,7 +12,8 @@ use Rattle.book.specs.Typing.{mismatches}
 use Rattle.book.specs.Mixing.{mixes}
 use Rattle.book.specs.Scopes.{scopeCycle, overweight}
 use Rattle.book.specs.Steps.{dependencyCycle}
-use Rattle.book.specs.Judge.{faultNumber, InBook}
+use Rattle.book.specs.Judge.{InBook}
+use Rattle.answers.specs.Numbers.{faultNumber}
 use Rattle.answers.specs.declared.Fault.{Fault}
 use Rattle.answers.specs.declared.Fault.the-variants.{Truncated, UnknownKind, OutOfOrder, LimitExceeded, InvalidByte}
 

@@ -21,21 +21,6 @@ use Rattle.book.specs.declared.Scanned.the-variants.{Sound, Faulty}
 use Rattle.answers.specs.declared.Judged.{Judged}
 use Rattle.answers.specs.declared.Judged.the-variants.{Accepted, Refused}
 
--- the paper's number of a fault
-abbrev pub faultNumber : Fault → ℕ
-faultNumber Truncated = 1
-faultNumber UnknownKind = 2
-faultNumber OutOfOrder = 3
-faultNumber LimitExceeded = 4
-faultNumber InvalidByte = 5
-faultNumber DanglingReference = 6
-faultNumber SharedNode = 7
-faultNumber TypeMismatch = 8
-faultNumber MixedClauses = 9
-faultNumber ScopeCycle = 10
-faultNumber WeightExceeded = 11
-faultNumber DependencyCycle = 12
-
 -- "A book is accepted when none of faults 1 to 12 is in it": when a fault is; scope and dependency cycle are those of reaching
 abbrev pub InBook : Fault → List ℕ → Type 0
 InBook Truncated bytes = any truncated (records bytes) ≡ true

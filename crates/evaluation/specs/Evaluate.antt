@@ -9,37 +9,25 @@ use Rattle.book.specs.Syntax.{Scope}
 use Rattle.book.specs.References.{scopeAt}
 use Rattle.book.specs.Decode.{scopesOf}
 use Rattle.book.specs.Scopes.{blocks}
-use Rattle.book.specs.Judge.{faultNumber, judge}
+use Rattle.book.specs.Judge.{judge}
 use Rattle.answers.specs.declared.Judged.{Judged}
 use Rattle.answers.specs.declared.Judged.the-variants as judged
 use Rattle.lists.specs.Inputs.{Inputs, bad, good, inputs}
 use Rattle.lists.specs.Results.{resultLength, results}
 use Rattle.evaluation.specs.Run.{Entered, values, ended, enter}
+use Rattle.answers.specs.Numbers.{answerNumbers}
 use Rattle.answers.specs.declared.Refusal.{Refusal}
-use Rattle.answers.specs.declared.Refusal.the-variants.{Book, NoSuchScope, BadInput, BufferTooSmall, BadCode, Stuck}
+use Rattle.answers.specs.declared.Refusal.the-variants.{Book, NoSuchScope, BadInput, BufferTooSmall}
 use Rattle.answers.specs.declared.Answer.{Answer}
 use Rattle.answers.specs.declared.Answer.the-variants.{Values, Ended, Refused}
 
--- "Where an answer is an enum, a definition sets out this paper's number and values for each of its cases"
-abbrev pub refusalNumber : Refusal → ℕ
-refusalNumber (Book f) = faultNumber f
-refusalNumber NoSuchScope = 13
-refusalNumber BadInput = 14
-refusalNumber BufferTooSmall = 15
-refusalNumber BadCode = 16
-refusalNumber Stuck = 17
-
 -- "A refusal returns its number and the count 0"
 abbrev pub countIn : Answer → ℕ
-countIn (Values n size) = n
-countIn (Ended c n) = n
-countIn (Refused r) = 0
+countIn a = answerNumbers a .count
 
 -- "the length of the results (0 without values)"
 abbrev pub lengthIn : Answer → ℕ
-lengthIn (Values n size) = size
-lengthIn (Ended c n) = 0
-lengthIn (Refused r) = 0
+lengthIn a = answerNumbers a .length
 
 -- an answer, and the bytes that it writes
 pub record Reply : Type 0 where

@@ -1,32 +1,27 @@
--- Answers as one number of 64 bits: the refusal in the highest byte.
-use Prim.Native.Nat.{ℕ, _+_, _*_, _%_}
-use Rattle.answers.specs.declared.Judged.{Judged}
-use Rattle.answers.specs.declared.Judged.the-variants as judged
-use Rattle.evaluation.specs.Evaluate.{refusalNumber}
-use Rattle.answers.specs.declared.Refusal.{Refusal}
-use Rattle.answers.specs.declared.Refusal.the-variants.{Book}
-use Rattle.answers.specs.declared.Answer.{Answer}
-use Rattle.answers.specs.declared.Answer.the-variants.{Values, Ended, Refused}
-use Rattle.answers.specs.declared.Compiled.{Compiled}
-use Rattle.answers.specs.declared.Compiled.the-variants as compiled
-use Rattle.numbers.specs.Causes.{causeNumber}
+-- Answers as one number of 64 bits: from the highest byte on, one byte of refusal, one of outcome, two of count and four of length.
+use Prim.Native.Nat.{ℕ, _+_, _*_, _/_, _%_, _<_}
+use mathlib.Core.Path.{_≡_}
+use Rattle.answers.specs.Numbers.{Numbers}
 
--- refusal * 2^56
-abbrev pub packedRefusal : Refusal → ℕ
-packedRefusal r = refusalNumber r * 72057594037927936
+-- refusal * 2^56 + outcome * 2^48 + count * 2^32 + length
+abbrev pub packed : Numbers → ℕ
+packed n = n .refusal * 72057594037927936 + n .outcome * 281474976710656 + n .count * 4294967296 + n .length
 
--- refusal * 2^56 + number of scopes
-abbrev pub packedJudged : Judged → ℕ
-packedJudged (judged.Accepted n) = n
-packedJudged (judged.Refused f) = packedRefusal (Book f)
+-- count and length cut to their places, where an answer has more: none of the services' has
+abbrev pub cut : Numbers → Numbers
+cut n = record { refusal = n .refusal; outcome = n .outcome; count = n .count % 65536; length = n .length % 4294967296 }
 
--- refusal * 2^56 + length of the code
-abbrev pub packedCompiled : Compiled → ℕ
-packedCompiled (compiled.Written n) = n
-packedCompiled (compiled.Refused r) = packedRefusal r
+-- every number has room in its place
+pub record Placed (n : Numbers) : Type 0 where
+  pub refusal : n .refusal < 256
+  pub outcome : n .outcome < 256
+  pub count : n .count < 65536
+  pub length : n .length < 4294967296
 
--- refusal * 2^56 + outcome * 2^48 + count * 2^32 + length; a count is at most 4,096 and a length at most 192
-abbrev pub packedAnswer : Answer → ℕ
-packedAnswer (Values n l) = n % 65536 * 4294967296 + l % 65536
-packedAnswer (Ended c n) = causeNumber c * 281474976710656 + n % 65536 * 4294967296
-packedAnswer (Refused r) = packedRefusal r
+-- a number of 64 bits says these numbers: it is packed from them, and they are recovered from it
+pub record Says (n : Numbers) (r : ℕ) : Type 0 where
+  pub packs : r ≡ packed n
+  pub refusal : r / 72057594037927936 ≡ n .refusal
+  pub outcome : r / 281474976710656 % 256 ≡ n .outcome
+  pub count : r / 4294967296 % 65536 ≡ n .count
+  pub length : r % 4294967296 ≡ n .length

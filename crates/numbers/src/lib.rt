@@ -6,10 +6,8 @@ use answers::Fault;
 use answers::Judged;
 use answers::Refusal;
 ghost use mathlib.Core.Path.{_≡_};
-ghost use Rattle.book.specs.Judge.{faultNumber};
-ghost use Rattle.evaluation.specs.Evaluate.{refusalNumber};
-ghost use Rattle.numbers.specs.Causes.{causeNumber};
-ghost use Rattle.numbers.specs.Packed.{packedRefusal, packedJudged, packedCompiled, packedAnswer};
+ghost use Rattle.answers.specs.Numbers.{faultNumber, refusalNumber, causeNumber, judgedNumbers, compiledNumbers, answerNumbers};
+ghost use Rattle.numbers.specs.Packed.{packed, cut};
 
 // The paper's number of a fault.
 pub fn fault_number(f: Fault) -> u8
@@ -62,42 +60,44 @@ fn wide(b: u8) -> u64
     b as u64
 }
 
-// A refusal in the highest byte.
-fn pack_refusal(r: Refusal) -> u64
-    ensures { λ n. ⌜ n ≡ packedRefusal r ⌝ }
+// The numbers of an answer as one: from the highest byte on, one byte of refusal, one of outcome, two of count and four of length. A count
+// and a length are cut to their places.
+fn pack(refusal: u8, outcome: u8, count: usize, length: usize) -> u64
+    ensures { λ r.
+        ⌜ r ≡ packed (cut (record { refusal = refusal; outcome = outcome; count = count; length = length })) ⌝ }
 {
-    wide(refusal_number(r)) * 72057594037927936
+    let count_part = ((count % 65536) as u64) * 4294967296;
+    let length_part = (length % 4294967296) as u64;
+    wide(refusal) * 72057594037927936 + wide(outcome) * 281474976710656 + count_part + length_part
 }
 
 // What judging answers, as one number.
 pub fn pack_judged(j: Judged) -> u64
-    ensures { λ r. ⌜ r ≡ packedJudged j ⌝ }
+    ensures { λ r. ⌜ r ≡ packed (cut (judgedNumbers j)) ⌝ }
 {
     match j {
-        Judged::Accepted(n) => n as u64,
-        Judged::Refused(f) => pack_refusal(Refusal::Book(f)),
+        Judged::Accepted(n) => pack(0, 0, 0, n),
+        Judged::Refused(f) => pack(fault_number(f), 0, 0, 0),
     }
 }
 
 // What compiling answers, as one number.
 pub fn pack_compiled(c: Compiled) -> u64
-    ensures { λ r. ⌜ r ≡ packedCompiled c ⌝ }
+    ensures { λ r. ⌜ r ≡ packed (cut (compiledNumbers c)) ⌝ }
 {
     match c {
-        Compiled::Written(n) => n as u64,
-        Compiled::Refused(r) => pack_refusal(r),
+        Compiled::Written(n) => pack(0, 0, 0, n),
+        Compiled::Refused(r) => pack(refusal_number(r), 0, 0, 0),
     }
 }
 
 // What evaluating or running answers, as one number.
 pub fn pack_answer(a: Answer) -> u64
-    ensures { λ r. ⌜ r ≡ packedAnswer a ⌝ }
+    ensures { λ r. ⌜ r ≡ packed (cut (answerNumbers a)) ⌝ }
 {
     match a {
-        Answer::Values(n, l) => ((n % 65536) as u64) * 4294967296 + ((l % 65536) as u64),
-        Answer::Ended(c, n) => {
-            wide(cause_number(c)) * 281474976710656 + ((n % 65536) as u64) * 4294967296
-        }
-        Answer::Refused(r) => pack_refusal(r),
+        Answer::Values(n, l) => pack(0, 0, n, l),
+        Answer::Ended(c, n) => pack(0, cause_number(c), n, 0),
+        Answer::Refused(r) => pack(refusal_number(r), 0, 0, 0),
     }
 }

@@ -7,11 +7,8 @@ use Rattle.numbers.proofs.pack_answer.Tie as tie
 enum-known-a : tie.Need-enum-known-a
 enum-known-a c = search needs
 
-mul-result : tie.Need-mul-result
-mul-result c = search needs
-
-add-result : tie.Need-add-result
-add-result c = search needs
+pack-requires : tie.Need-pack-requires
+pack-requires c κs = search needs
 
 enum-known-a-2 : tie.Need-enum-known-a-2
 enum-known-a-2 c = search needs
@@ -19,32 +16,26 @@ enum-known-a-2 c = search needs
 cause-number-requires : tie.Need-cause-number-requires
 cause-number-requires c κs = search needs
 
-wide-requires : tie.Need-wide-requires
-wide-requires c κs = search needs
-
-mul-result-2 : tie.Need-mul-result-2
-mul-result-2 c = search needs
-
-mul-result-3 : tie.Need-mul-result-3
-mul-result-3 c = search needs
-
-add-result-2 : tie.Need-add-result-2
-add-result-2 c = search needs
+pack-requires-2 : tie.Need-pack-requires-2
+pack-requires-2 c κs = search needs
 
 enum-known-a-3 : tie.Need-enum-known-a-3
 enum-known-a-3 c = search needs
 
-pack-refusal-requires : tie.Need-pack-refusal-requires
-pack-refusal-requires c κs = search needs
+refusal-number-requires : tie.Need-refusal-number-requires
+refusal-number-requires c κs = search needs
+
+pack-requires-3 : tie.Need-pack-requires-3
+pack-requires-3 c κs = search needs
 
 returns : tie.Need-returns
-returns c = rw (c .before .a .given .1)
+returns c = rw (c .before .before .a .given .1) (c .pack .ensures)
 
 returns-2 : tie.Need-returns-2
-returns-2 c = rw (c .before .before .before .a2 .given .1, c .wide .ensures, c .before .cause-number .ensures)
+returns-2 c = rw (c .before .before .before .a2 .given .1, ← c .before .cause-number .ensures) (c .pack2 .ensures)
 
 returns-3 : tie.Need-returns-3
-returns-3 c = rw (c .before .before .a3 .given .1) (c .pack-refusal .ensures)
+returns-3 c = rw (c .before .before .before .a3 .given .1, ← c .before .refusal-number .ensures) (c .pack3 .ensures)
 
 pub pack-answer-spec : {M : Type 1} → statement M
-pack-answer-spec = tie.close (tie.spec enum-known-a mul-result add-result enum-known-a-2 cause-number-requires wide-requires mul-result-2 mul-result-3 add-result-2 enum-known-a-3 pack-refusal-requires returns returns-2 returns-3)
+pack-answer-spec = tie.close (tie.spec enum-known-a pack-requires enum-known-a-2 cause-number-requires pack-requires-2 enum-known-a-3 refusal-number-requires pack-requires-3 returns returns-2 returns-3)
