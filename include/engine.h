@@ -10,7 +10,8 @@
  * Nothing is kept from one call to the next: there is no heap and no global, so calls may be made from several threads at once, each with
  * memory of its own. The library is for x86-64 with SSE and needs memcpy and memset alone.
  *
- * An answer is one number of 64 bits; the functions at the end take it apart. A refusal writes nothing.
+ * An answer is one number of 64 bits; the functions at the end take it apart. The contracts say that these recover the refusal, the outcome,
+ * the count and the length that were answered: nothing is lost, whatever the bytes. A refusal writes nothing.
  */
 #ifndef ENGINE_H
 #define ENGINE_H
@@ -36,6 +37,12 @@ extern "C" {
 
 /* Judges a book. Refusal 1 to 12, or 0 and, as the length, the number of scopes. */
 uint64_t engine_judge(const uint8_t *book, size_t book_len);
+
+/*
+ * The most bytes that the code of a book has, which is never more than seven times the book's length (code-max and code-bound in
+ * crates/translation/proofs/Lengths.antt). Memory of this length is never too short for code.
+ */
+enum { ENGINE_CODE_MAX = 229376 };
 
 /*
  * Compiles a book into code. Refusal 1 to 12, or 15 where the code is longer than the memory; or 0 and the length of the code, which is

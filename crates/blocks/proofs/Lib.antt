@@ -1,8 +1,8 @@
 mod Positions
-mod Invariant
-mod Blocks
+pub mod Invariant
+pub mod Blocks
 mod Ends
-mod Limits
+pub mod Limits
 mod Tables
 mod Entering
 mod Known

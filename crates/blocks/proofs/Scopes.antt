@@ -3,6 +3,7 @@
 --     scope-variables, scope-runs    its variables, and its run
 --     few-variables                  a block has 32 variables at most
 --     givens-are, values-are         cells as lists
+--     givens-fit                     what fits the variables fits the cells of a run
 --     values-length                  the values of a run have the results' length known before it
 -- Assumes nothing.
 use Prim.Native.Nat.{ℕ, zero, suc, _+_, _-_, _<_, _≤_}
@@ -74,7 +75,7 @@ cell-fits : (t : ValueType) (g : Given) → MayHold t g → CellFits t (cellOf g
 cell-fits t Absent h = tt
 cell-fits t (Present v) h = ap (sameType t) h ∙ same-refl t
 
-givens-fit : (xs : List Variable) (gs : List Given) → Fitting xs gs → GivensFit xs gs
+pub givens-fit : (xs : List Variable) (gs : List Given) → Fitting xs gs → GivensFit xs gs
 givens-fit [] [] h = tt
 givens-fit [] (g ∷ gs) h = absurd h
 givens-fit (x ∷ xs) [] h = absurd h

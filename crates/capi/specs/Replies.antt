@@ -5,11 +5,12 @@ use mathlib.Core.List.{List}
 use lib.ListN.{length}
 use Rattle.evaluation.specs.Evaluate.{Reply, evaluate, memoryAfter}
 use Rattle.machine.specs.Service.{run}
-use Rattle.numbers.specs.Packed.{packedAnswer}
+use Rattle.answers.specs.Numbers.{answerNumbers}
+use Rattle.numbers.specs.Packed.{Says}
 
--- those of a reply, its answer as one number
+-- those of a reply, its answer as one number, from which refusal, outcome, count and length are recovered
 pub record PackedReply (reply : Reply) (before : List ℕ) (r : ℕ) (after : List ℕ) : Type 0 where
-  pub answer : r ≡ packedAnswer (reply .answer)
+  pub answer : Says (answerNumbers (reply .answer)) r
   pub memory : after ≡ memoryAfter reply before
 
 abbrev pub PackedEvaluation : List ℕ → ℕ → List ℕ → List ℕ → ℕ → List ℕ → Type 0

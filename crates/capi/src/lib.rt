@@ -9,14 +9,15 @@ use numbers::pack_judged;
 ghost use mathlib.Core.Path.{_≡_};
 ghost use lib.ListN.{length};
 ghost use Rattle.book.specs.Judge.{judge as Judge·judge};
-ghost use Rattle.numbers.specs.Packed.{packedJudged};
+ghost use Rattle.answers.specs.Numbers.{judgedNumbers};
+ghost use Rattle.numbers.specs.Packed.{Says};
 ghost use Rattle.capi.specs.Replies.{PackedEvaluation, PackedRun};
 ghost use Rattle.capi.specs.Compiled.{PackedCompilation};
 
 // Judges a book: refusal * 2^56 + number of scopes.
 #[no_mangle]
 pub extern "C" fn engine_judge(book: &[u8]) -> u64
-    ensures { λ r. ⌜ r ≡ packedJudged (Judge·judge (now (book .entry))) ⌝ }
+    ensures { λ r. ⌜ Says (judgedNumbers (Judge·judge (now (book .entry)))) r ⌝ }
 {
     pack_judged(judge(book))
 }

@@ -35,8 +35,11 @@ onJudged (judged.Refused f) c = refuse (Book f)
 unfoldable pub compile : List ℕ → ℕ → Compilation
 compile bytes room = onJudged (judge bytes) (fitting (codeOf (scopesOf bytes)) room)
 
--- the answer and the memory are those of compiling: "Lent memory changes only where code .. [is] written, from its first byte, and nothing
--- after them"
+-- "Lent memory changes only where code or values are written, from its first byte, and nothing after them"
+abbrev pub codeMemory : Compilation → List ℕ → List ℕ
+codeMemory c memory = c .written ++ drop (length (c .written)) memory
+
+-- the answer and the memory are those of compiling
 pub record Compiles (bytes before : List ℕ) (r : Compiled) (after : List ℕ) : Type 0 where
   pub answer : r ≡ compile bytes (length before) .answer
-  pub memory : after ≡ compile bytes (length before) .written ++ drop (length (compile bytes (length before) .written)) before
+  pub memory : after ≡ codeMemory (compile bytes (length before)) before

@@ -7,6 +7,7 @@ use lib.Seq.{take-append-seam, drop-append-seam}
 use borrow.Author.Tests.{le-leb}
 use Rattle.book.specs.Decode.{scopesOf}
 use Rattle.book.specs.Judge.{judge}
+use Rattle.answers.specs.Numbers.{compiledNumbers}
 use Rattle.answers.specs.declared.Judged.the-variants.{Accepted}
 use Rattle.evaluation.specs.Evaluate.{Reply, evaluate, memoryAfter}
 use Rattle.evaluator.specs.Service.{Evaluated}
@@ -16,7 +17,7 @@ use Rattle.agreement.proofs.Agreement.{agreement}
 use Rattle.compiler.specs.Compile.{Compilation, fitting, compile, Compiles}
 use Rattle.answers.specs.declared.Compiled.the-variants as compiled
 use Rattle.runner.specs.Service.{Runs}
-use Rattle.engine.specs.Claim.{Memories, writtenLength, writtenCode, Agreed, Together}
+use Rattle.engine.specs.Claim.{Memories, writtenCode, Agreed, Together}
 use Rattle.engine.specs.declared.Answers.{Answers}
 
 module _ (bytes : List ℕ) (n i : ℕ) (list : List ℕ) (m : Memories) (r : Answers) (accepts : judge bytes ≡ Accepted n)
@@ -65,13 +66,16 @@ module _ (bytes : List ℕ) (n i : ℕ) (list : List ℕ) (m : Memories) (r : An
         memories = λ e.
             running .memory ∙ ap (λ (x : Reply). memoryAfter x (m .ranBefore)) (same e)
             ∙ ap (memoryAfter (evaluate bytes i list (length (m .evaluatedBefore)))) e ∙ sym (evaluating .memory);
-        count = rw ran-answer (a .counts i list (length (m .ranBefore)));
+        evaluatedCount =
+            let most = a .counts i list (length (m .evaluatedBefore)) in
+            rw (evaluating .answer, ← a .replies i list (length (m .evaluatedBefore))) most;
+        ranCount = rw ran-answer (a .counts i list (length (m .ranBefore)));
       }
 
 -- from what the services ensure; the code run is a part of the code memory
 pub together : (bytes : List ℕ) (i : ℕ) (list : List ℕ) (m : Memories) (r : Answers) (size : ℕ) (part : List ℕ) → r .judged ≡ judge bytes
     → Compiles bytes (m .codeBefore) (r .compiled) (m .codeAfter) → Evaluated bytes i list (m .evaluatedBefore) (r .evaluated) (m .evaluatedAfter)
-    → size ≡ writtenLength (r .compiled) → part ≡ take size (drop 0 (m .codeAfter)) → Runs part i list (m .ranBefore) (r .ran) (m .ranAfter)
+    → size ≡ compiledNumbers (r .compiled) .length → part ≡ take size (drop 0 (m .codeAfter)) → Runs part i list (m .ranBefore) (r .ran) (m .ranAfter)
     → Together bytes i list m r
 together bytes i list m r size part judges compiling evaluating sized handed running =
     let whole : part ≡ writtenCode m r = handed ∙ ap (λ (n : ℕ). take n (m .codeAfter)) sized in

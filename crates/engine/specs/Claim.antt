@@ -1,5 +1,6 @@
--- The claim about the four services together: "If a book is accepted and its code fits the memory lent, compiling writes exactly that code,
--- the code is accepted, and for every scope number, input list and result memory running it never gets stuck and agrees with evaluating".
+-- The claim about the services, "a single claim about the four services together, not one for each": if a book is accepted and its code fits the
+-- memory lent, compiling writes exactly that code, the code is accepted, and for every scope number, input list and result memory running it is
+-- never stuck and agrees with evaluating.
 use Prim.Native.Nat.{ℕ, _≤_}
 use mathlib.Core.Path.{_≡_}
 use mathlib.Core.Bool.{true}
@@ -8,6 +9,7 @@ use lib.ListN.{length, take, drop}
 use Rattle.book.specs.Decode.{scopesOf}
 use Rattle.book.specs.Scopes.{weight}
 use Rattle.book.specs.Judge.{judge}
+use Rattle.answers.specs.Numbers.{compiledNumbers}
 use Rattle.answers.specs.declared.Judged.the-variants.{Accepted}
 use Rattle.evaluation.specs.Evaluate.{countIn}
 use Rattle.answers.specs.declared.Refusal.the-variants.{BadCode, Stuck}
@@ -16,7 +18,6 @@ use Rattle.evaluator.specs.Service.{Evaluated}
 use Rattle.translation.specs.Blocks.{codeOf}
 use Rattle.machine.specs.Acceptance.{accepted}
 use Rattle.compiler.specs.Compile.{Compiles}
-use Rattle.answers.specs.declared.Compiled.{Compiled}
 use Rattle.answers.specs.declared.Compiled.the-variants as compiled
 use Rattle.runner.specs.Service.{Runs}
 use Rattle.engine.specs.declared.Answers.{Answers}
@@ -30,31 +31,29 @@ pub record Memories : Type 0 where
   pub ranBefore : List ℕ
   pub ranAfter : List ℕ
 
--- the length of the code handed back; 0 with a refusal
-abbrev pub writtenLength : Compiled → ℕ
-writtenLength (compiled.Written n) = n
-writtenLength (compiled.Refused r) = 0
-
 -- "the bytes that compiling wrote, of the length it handed back"
 abbrev pub writtenCode : Memories → Answers → List ℕ
-writtenCode m r = take (writtenLength (r .compiled)) (m .codeAfter)
+writtenCode m r = take (compiledNumbers (r .compiled) .length) (m .codeAfter)
 
 -- of a book whose code is `code`, scope i being asked for
 pub record Agreed (bytes code : List ℕ) (i : ℕ) (m : Memories) (r : Answers) : Type 0 where
-  -- "compiling writes exactly that code"
+  -- compiling writes exactly that code; "Lent memory changes only where code or values are written, from its first byte, and nothing after
+  -- them"
   pub sized : r .compiled ≡ compiled.Written (length code)
   pub written : writtenCode m r ≡ code
   pub kept : drop (length code) (m .codeAfter) ≡ drop (length code) (m .codeBefore)
-  -- "the code is accepted"
+  -- "A book is accepted when none of faults 1 to 12 is in it, code when 16 is not"
   pub accepts : accepted (writtenCode m r) ≡ true
-  -- "running it never gets stuck"
+  -- running it is refused with neither 16 nor 17
   pub neverBad : r .ran ≡ Refused BadCode → ⊥
   pub neverStuck : r .ran ≡ Refused Stuck → ⊥
-  -- "same refusal, or same outcome, count and length, and the same bytes in the whole result memory"
+  -- "Run and evaluation get the same scope number and input bytes and equal result memories": then they give the same answer and leave the
+  -- same bytes
   pub answers : m .ranBefore ≡ m .evaluatedBefore → r .ran ≡ r .evaluated
   pub memories : m .ranBefore ≡ m .evaluatedBefore → m .ranAfter ≡ m .evaluatedAfter
-  -- "The count never exceeds the scope's weight"
-  pub count : countIn (r .ran) ≤ weight (scopesOf bytes) i
+  -- neither counts more scopes entered than the scope's weight
+  pub evaluatedCount : countIn (r .evaluated) ≤ weight (scopesOf bytes) i
+  pub ranCount : countIn (r .ran) ≤ weight (scopesOf bytes) i
 
 -- "The engine has four services: judge a book; evaluate a scope of it; compile it; run compiled code, judging that first": what each
 -- answers and writes, and the claim

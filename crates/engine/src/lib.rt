@@ -15,7 +15,8 @@ pub use numbers::refusal_number;
 pub use runner::run;
 use slices::part_of;
 ghost use mathlib.Core.Path.{_≡_};
-ghost use Rattle.engine.specs.Claim.{writtenLength, Together};
+ghost use Rattle.answers.specs.Numbers.{compiledNumbers};
+ghost use Rattle.engine.specs.Claim.{Together};
 
 // What the four services answer.
 pub struct Answers {
@@ -27,7 +28,7 @@ pub struct Answers {
 
 // The length of the code that compiling handed back; 0 with a refusal.
 fn written_length(c: Compiled) -> usize
-    ensures { λ r. ⌜ r ≡ writtenLength c ⌝ }
+    ensures { λ r. ⌜ r ≡ compiledNumbers c .length ⌝ }
 {
     match c {
         Compiled::Written(n) => n,

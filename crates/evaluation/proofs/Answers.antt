@@ -7,6 +7,7 @@
 --     evaluated-size          the memory keeps its length
 --     evaluated-length        the length in the answer is that of the bytes written
 --     evaluated-count         the count is 4,096 at most
+--     evaluated-short         the length is 192 at most
 -- Assumes nothing.
 use Prim.Native.Nat.{ℕ, _≤_, _+_, _-_}
 use mathlib.Core.Path.{_≡_, refl, sym, ap, subst, _∙_}
@@ -27,7 +28,9 @@ use Rattle.answers.specs.declared.Judged.{Judged}
 use Rattle.answers.specs.declared.Judged.the-variants as judged
 use Rattle.lists.specs.Inputs.{Inputs, bad, good, inputs}
 use Rattle.lists.specs.Results.{resultLength, results}
+use Rattle.lists.proofs.Lengths.{length-most}
 use Rattle.acceptance.proofs.Acceptance.{accepted-count}
+use Rattle.acceptance.proofs.Orders.{accepted-book}
 use Rattle.evaluation.specs.Run.{Entered, values, ended, runScope}
 use Rattle.evaluation.specs.Evaluate.{countIn, lengthIn, Reply, replyOf, fitting, onInputs, asked, onJudged, evaluate, memoryAfter}
 use Rattle.evaluation.specs.Answers.{Asked, Entering, Replied, InValues, InEnd}
@@ -85,17 +88,17 @@ module _ (bytes : List ℕ) (i : ℕ) (list : List ℕ) (room : ℕ) where
 
 -- Parts of an answer
 
-abbrev isValues : Answer → Bool
+abbrev pub isValues : Answer → Bool
 isValues (Values c n) = true
 isValues (Ended d c) = false
 isValues (Refused r) = false
 
-abbrev isEnd : Answer → Bool
+abbrev pub isEnd : Answer → Bool
 isEnd (Values c n) = false
 isEnd (Ended d c) = true
 isEnd (Refused r) = false
 
-abbrev causeIn : Answer → Cause
+abbrev pub causeIn : Answer → Cause
 causeIn (Values c n) = Empty
 causeIn (Ended d c) = d
 causeIn (Refused r) = Empty
@@ -212,3 +215,17 @@ module _ (bytes : List ℕ) (i : ℕ) (list memory : List ℕ) where
 
   pub evaluated-count : countIn (evaluate bytes i list (length memory) .answer) ≤ 4096
   evaluated-count = small-count (evaluate bytes i list (length memory)) (replied bytes i list (length memory))
+
+  small-length : (r : Reply) → Replied bytes i list (length memory) r → lengthIn (r .answer) ≤ 192
+  small-length r (Replied.faulty f h) = omega arith
+  small-length r (Replied.absent m h l) = omega arith
+  small-length r (Replied.malformed a h) = omega arith
+  small-length r (Replied.short a g h l) = omega arith
+  small-length r (Replied.stopped a d k h) = omega arith
+  small-length r (Replied.finished a vs k h) =
+      let is = values-length bytes (a .asked .scopes) (a .asked .accepted) i (a .asked .present) (a .given) (a .fitting) vs k h in
+      let few = accepted-book bytes (a .asked .scopes) (a .asked .accepted) .within i .variables in
+      omega (arith, is, few, length-most (scopeAt (scopesOf bytes) i .variables))
+
+  pub evaluated-short : lengthIn (evaluate bytes i list (length memory) .answer) ≤ 192
+  evaluated-short = small-length (evaluate bytes i list (length memory)) (replied bytes i list (length memory))

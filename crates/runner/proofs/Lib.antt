@@ -1,2 +1,3 @@
 mod Types
+pub mod Answers
 mod Service

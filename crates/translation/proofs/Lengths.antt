@@ -329,11 +329,17 @@ module _ (own subs : ℕ) (theirs : ℕ → ℕ) (few : subs ≤ 255) where
       + range (λ k. range (λ v. cost (hasTarget (calledTarget k v)) cs ts) 0 (theirs k)) 0 subs ≤ cost (λ c. true) cs ts
   unfolding cost
   targets-cost [] ts =
-      omega (arith, range-none (λ x. 0) 0 own (λ j l r. refl),
-      range-none (λ k. range (λ v. 0) 0 (theirs k)) 0 subs (λ k l r. range-none (λ v. 0) 0 (theirs k) (λ j m n. refl)))
+      omega (
+        arith,
+        range-none (λ x. 0) 0 own (λ j l r. refl),
+        range-none (λ k. range (λ v. 0) 0 (theirs k)) 0 subs (λ k l r. range-none (λ v. 0) 0 (theirs k) (λ j m n. refl)),
+      )
   targets-cost (c ∷ cs) [] =
-      omega (arith, range-none (λ x. 0) 0 own (λ j l r. refl),
-      range-none (λ k. range (λ v. 0) 0 (theirs k)) 0 subs (λ k l r. range-none (λ v. 0) 0 (theirs k) (λ j m n. refl)))
+      omega (
+        arith,
+        range-none (λ x. 0) 0 own (λ j l r. refl),
+        range-none (λ k. range (λ v. 0) 0 (theirs k)) 0 subs (λ k l r. range-none (λ v. 0) 0 (theirs k) (λ j m n. refl)),
+      )
   targets-cost (c ∷ cs) (t ∷ ts) =
       let w = price c t in
       let mine = range-add (λ x. cond (hasTarget (ownTarget x) c) w 0) (λ x. cost (hasTarget (ownTarget x)) cs ts) 0 own in

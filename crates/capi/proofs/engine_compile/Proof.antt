@@ -1,8 +1,9 @@
 -- `capi::engine_compile` meets its contract.
 -- Assumes nothing.
-use mathlib.Core.Path.{_∙_, ap}
-use Rattle.numbers.specs.Packed.{packedCompiled}
 use borrow.Author.Needs.{needs}
+use Rattle.answers.specs.Numbers.{compiledNumbers}
+use Rattle.engine.proofs.Placed.{compile-placed}
+use Rattle.capi.proofs.Replies.{said}
 use Rattle.capi.proofs.engine_compile.Statement.{statement}
 use Rattle.capi.proofs.engine_compile.Tie as tie
 
@@ -18,7 +19,7 @@ same-length c = search needs
 returns : tie.Need-returns
 returns c =
     record {
-      answer = c .pack-compiled .ensures ∙ ap packedCompiled (c .before .before .before .compile .ensures .answer);
+      answer = said compiledNumbers (compile-placed _ _) (c .before .before .before .compile .ensures .answer) (c .pack-compiled .ensures);
       memory = c .before .before .before .compile .ensures .memory;
     }
 

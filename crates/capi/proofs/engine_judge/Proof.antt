@@ -1,8 +1,9 @@
 -- `capi::engine_judge` meets its contract.
 -- Assumes nothing.
-use mathlib.Core.Path.{_∙_, ap}
 use borrow.Author.Needs.{needs}
-use Rattle.numbers.specs.Packed.{packedJudged}
+use Rattle.answers.specs.Numbers.{judgedNumbers}
+use Rattle.engine.proofs.Placed.{judge-placed}
+use Rattle.capi.proofs.Replies.{said}
 use Rattle.capi.proofs.engine_judge.Statement.{statement}
 use Rattle.capi.proofs.engine_judge.Tie as tie
 
@@ -13,7 +14,7 @@ pack-judged-requires : tie.Need-pack-judged-requires
 pack-judged-requires c κs = search needs
 
 returns : tie.Need-returns
-returns c = c .pack-judged .ensures ∙ ap packedJudged (c .before .judge .ensures)
+returns c = said judgedNumbers (judge-placed _) (c .before .judge .ensures) (c .pack-judged .ensures)
 
 pub engine-judge-spec : {M : Type 1} → statement M
 engine-judge-spec = tie.close (tie.spec judge-requires pack-judged-requires returns)
