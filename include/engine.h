@@ -25,8 +25,12 @@ extern "C" {
 
 #define ENGINE_VERSION "1.0.0"
 
-/* The most bytes of a book that is not refused, and of the results of a scope. */
+/*
+ * The most bytes of a book that is not refused, of its code and of the results of a scope: memory of such a length is never too short. The code of a
+ * book is never more than seven times as long as the book (code-max and code-bound in crates/translation/proofs/Lengths.antt).
+ */
 #define ENGINE_BOOK_MAX 32768
+#define ENGINE_CODE_MAX 229376
 #define ENGINE_RESULTS_MAX 192
 
 /* Bytes of stack that a call takes at most, rounded up from the deepest books and code that were found (docs/SEALING.md). */
@@ -37,12 +41,6 @@ extern "C" {
 
 /* Judges a book. Refusal 1 to 12, or 0 and, as the length, the number of scopes. */
 uint64_t engine_judge(const uint8_t *book, size_t book_len);
-
-/*
- * The most bytes that the code of a book has, which is never more than seven times the book's length (code-max and code-bound in
- * crates/translation/proofs/Lengths.antt). Memory of this length is never too short for code.
- */
-enum { ENGINE_CODE_MAX = 229376 };
 
 /*
  * Compiles a book into code. Refusal 1 to 12, or 15 where the code is longer than the memory; or 0 and the length of the code, which is
