@@ -21,6 +21,9 @@ write-result-requires c κs = search needs
 returns : tie.Need-returns Inv-loop μ-loop
 returns c = search needs
 
+returns-2 : tie.Need-returns-2 Inv-loop μ-loop
+returns-2 c = search needs
+
 byte-at-requires : tie.Need-byte-at-requires Inv-loop μ-loop
 byte-at-requires c κs = search needs
 
@@ -42,8 +45,8 @@ loop-less-2 c = omega arith
 loop-again-2 : tie.Need-loop-again-2 Inv-loop μ-loop
 loop-again-2 c = omega arith
 
-returns-2 : tie.Need-returns-2 Inv-loop μ-loop
-returns-2 c = search needs
+returns-3 : tie.Need-returns-3 Inv-loop μ-loop
+returns-3 c = search needs
 
 pub write-results-spec : {M : Type 1} → statement M
 write-results-spec =
@@ -54,6 +57,7 @@ write-results-spec =
     loop-holds
     write-result-requires
     returns
+    returns-2
     byte-at-requires
     add-at
     loop-less
@@ -61,4 +65,4 @@ write-results-spec =
     add-at-2
     loop-less-2
     loop-again-2
-    returns-2)
+    returns-3)
