@@ -8,10 +8,10 @@ use mathlib.Core.Path.{_≡_, sym, subst, _∙_}
 use mathlib.Core.Bool.{Bool, true}
 use mathlib.Core.List.{List, []}
 use native.Mathlib.Omega.{arith}
-use lib.ListN.{length, getD, replicate}
+use lib.ListN.{length, getD, replicate, length-replicate}
 use Rattle.calculus.specs.declared.Given.the-variants.{Absent}
 use Rattle.cells.specs.Cells.{givenOf, givenAt}
-use Rattle.memo.specs.Rows.{Ungiven, RowRoom, Recalled, Remembered}
+use Rattle.memo.specs.Rows.{Ungiven, HasRow, RowRoom, Recalled, Remembered}
 use Rattle.memo.proofs.Rows.{nothing-kept, kept-found, kept-noted}
 use Rattle.heads.specs.Heads.{variablesIn}
 use Rattle.instructions.specs.Views.{givensAt}
@@ -50,8 +50,11 @@ module _ {code spans heads places : List ℕ} {p : ℕ} {own : List ℕ} (e : En
   few : p < 32
   few = small (world e) p (e .block)
 
+  has-row : {memo : List ℕ} → Known code memo → HasRow p memo
+  has-row k = omega (arith, few, k .size)
+
   pub row-room : {own' memo : List ℕ} → length own' ≡ 32 → Known code memo → RowRoom p own' memo
-  row-room s k = record { row = few; room = s; size = k .size }
+  row-room s k = record { row = has-row k; room = s }
 
   module _ {n : ℕ} {b : Bool} (v : n ≡ variablesIn heads p) (u : Ungiven own n b) where
     variables-are : n ≡ variablesAt code p
@@ -64,13 +67,16 @@ module _ {code spans heads places : List ℕ} {p : ℕ} {own : List ℕ} (e : En
         → Came code p own (Values r) own' st tr
     recalled {memo} {r} {own'} k f l =
         let ne : r ≡ 0 → ⊥ = λ z. omega arith in
-        let row = kept-found _ k few f ne in
+        let row = kept-found _ (k .table) (has-row k) f ne in
         record { size = row .size; shows = rw (givens-are (f .found ne .0)) (row .shows) }
 
     pub noted : {memo memo' own' : List ℕ} {count : ℕ} → Known code memo → CameTo code p own (Values count) own' → length memo' ≡ length memo
         → Remembered own' count p b memo memo' → Known code memo'
     noted k c s m =
-        kept-noted _ k few m (s ∙ k .size) (λ t. record { size = c .size; shows = rw (← givens-are t) (c .shows) })
+        record {
+          size = s ∙ k .size;
+          table = kept-noted _ (k .table) (has-row k) m s (λ t. record { size = c .size; shows = rw (← givens-are t) (c .shows) });
+        }
 
 pub nothing-known : (code : List ℕ) → Known code (replicate 1056 0)
-nothing-known code = nothing-kept _
+nothing-known code = record { size = length-replicate {A = ℕ} 1056 0; table = nothing-kept _ 1056 }

@@ -83,6 +83,7 @@ pub record CameTo (code : List ℕ) (p : ℕ) (given : List ℕ) (r : Ran) (own 
   pub size : length own ≡ 32
   pub shows : Shows r (runAt code p (givensAt given 0 (variablesAt code p))) own (variablesAt code p) ⊥
 
--- every row that has a count is what entering its block with nothing given comes to
-abbrev pub Known : List ℕ → List ℕ → Type 0
-Known code memo = Memo (λ q count cells. CameTo code q [] (Values count) cells) memo
+-- there are 32 rows, and every row that has a count is what entering its block with nothing given comes to
+pub record Known (code memo : List ℕ) : Type 0 where
+  pub size : length memo ≡ 1056
+  pub table : Memo (λ q count cells. CameTo code q [] (Values count) cells) memo

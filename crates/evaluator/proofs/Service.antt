@@ -1,7 +1,7 @@
 -- What the service answers, by the tests that it makes.
 --     refused-book, refused-scope, refused-input, refused-room      1 to 12, 13, 14, 15
 --     evaluated                           a good list and enough room: what the run comes to
---     blank-links, all-links, runs-loaded what the functions called ask for
+--     blank-links, blank-memo, scopes-few, runs-loaded    what the functions called ask for
 -- Assumes nothing.
 use Prim.Native.Nat.{ℕ, _+_, _*_, _<_, _≤_}
 use mathlib.Core.Path.{_≡_, sym, ap, subst, _∙_}
@@ -37,6 +37,7 @@ use Rattle.evaluation.proofs.Replies.{same-reply, refuses}
 use Rattle.evaluation.proofs.Types.{inputs-fitting}
 use Rattle.scopes.specs.Steps.{givensFrom, enteredAt}
 use Rattle.scopes.specs.Known.{Known}
+use Rattle.scopes.proofs.Known.{nothing-known}
 use Rattle.loaded.specs.Loaded.{RunsLoaded, Replied}
 use Rattle.evaluator.specs.Service.{Asked, Evaluated}
 use Rattle.scopes.specs.declared.Ran.{Ran}
@@ -122,8 +123,12 @@ module _ {bytes index orders : List ℕ} {n i : ℕ} {given memory : List ℕ} (
         blank = λ k l. getD-replicate {A = ℕ} size k 255 0 (omega (arith, few, l));
       }
 
-  pub all-links : n * 834 ≤ 26688
-  all-links = let few = accepted-scopes bytes n (a .tabled .accepted) in omega (arith, few)
+  -- rows for n scopes at least, none of which is known
+  pub blank-memo : (size : ℕ) → n * 33 ≤ size → Known bytes (replicate size 0)
+  blank-memo size few = nothing-known bytes size (omega (arith, few, total))
+
+  pub scopes-few : n ≤ 32
+  scopes-few = accepted-scopes bytes n (a .tabled .accepted)
 
   -- the book is loaded, once its links are filled
   pub runs-loaded : {links memo : List ℕ} → AllLinked bytes n links → Known bytes memo → RunsLoaded bytes index links orders i given memo memory

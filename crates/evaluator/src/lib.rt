@@ -11,7 +11,8 @@ ghost use Rattle.links.specs.Links.{Blanks};
 ghost use Rattle.loaded.specs.Loaded.{Replied};
 ghost use Rattle.evaluator.specs.Service.{Tabled, Asked, Evaluated};
 
-// Runs scope i of an accepted book of n scopes with what is given, and writes the results. No link is set yet.
+// Runs scope i of an accepted book of n scopes with what is given, and writes the results. No link is set yet. Few rows are kept where there are
+// few scopes.
 fn run_in(
     book: &[u8],
     index: &[u16],
@@ -27,8 +28,16 @@ fn run_in(
     ensures { λ r. ⌜ Replied (now (book .entry)) i (now (given .entry)) (now (results .entry)) r (now (results .exit)) ⌝ }
 {
     fill_all_links(book, index, n, links);
-    let mut memo = [0u64; 1056];
-    run_loaded(book, index, links, orders, i, given, &mut memo, results)
+    if n <= 1 {
+        let mut row = [0u64; 33];
+        return run_loaded(book, index, links, orders, i, given, &mut row, results);
+    }
+    if n <= 8 {
+        let mut few = [0u64; 264];
+        return run_loaded(book, index, links, orders, i, given, &mut few, results);
+    }
+    let mut all = [0u64; 1056];
+    run_loaded(book, index, links, orders, i, given, &mut all, results)
 }
 
 // Runs scope i of an accepted book of n scopes with what is given, and writes the results: with few links where there are few scopes.

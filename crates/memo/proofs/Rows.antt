@@ -19,7 +19,7 @@ use Rattle.calculus.specs.declared.Given.{Given}
 use Rattle.calculus.specs.declared.Given.the-variants.{Absent, Present}
 use Rattle.calculus.specs.declared.Value.{Value}
 use Rattle.cells.specs.Cells.{givenAt}
-use Rattle.memo.specs.Rows.{Copying, Copied, NoneGiven, Ungiven, rowCount, rowCells, RowRoom, Recalled, Remembered, Memo}
+use Rattle.memo.specs.Rows.{Copying, Copied, NoneGiven, Ungiven, rowCount, rowCells, HasRow, RowRoom, Recalled, Remembered, Memo}
 
 decide : (a : Bool) → (a ≡ true) ⊎ (a ≡ false)
 decide true = inl refl
@@ -74,9 +74,9 @@ ungiven-true h l = record { none = λ e u m. h u (omega arith); if-none = λ z. 
 
 -- Rows
 
-cells-length : (memo : List ℕ) (i : ℕ) → length memo ≡ 1056 → i < 32 → length (rowCells memo i) ≡ 32
+cells-length : (memo : List ℕ) (i : ℕ) → HasRow i memo → length (rowCells memo i) ≡ 32
 unfolding rowCells
-cells-length memo i s l =
+cells-length memo i l =
     let t = length-take 32 (drop (i * 33 + 1) memo) in
     let d = length-drop (i * 33 + 1) memo in
     omega (arith, t, d)
@@ -86,10 +86,10 @@ unfolding rowCells
 cells-at memo i x l = getD-take 32 (drop (i * 33 + 1) memo) x 0 l ∙ getD-drop (i * 33 + 1) memo x 0
 
 -- a row's cells are those that stand there
-row-is : (memo : List ℕ) (i : ℕ) (own : List ℕ) → length memo ≡ 1056 → i < 32 → length own ≡ 32
+row-is : (memo : List ℕ) (i : ℕ) (own : List ℕ) → HasRow i memo → length own ≡ 32
     → ((x : ℕ) → x < 32 → getD memo (i * 33 + 1 + x) 0 ≡ getD own x 0) → rowCells memo i ≡ own
-row-is memo i own s l r k =
-    let n = cells-length memo i s l in
+row-is memo i own l r k =
+    let n = cells-length memo i l in
     ext-getD 0 (rowCells memo i) own (n ∙ sym r) (λ x h. let w : x < 32 = omega arith in cells-at memo i x w ∙ k x w)
 
 module _ {i : ℕ} {own memo : List ℕ} (n : RowRoom i own memo) where
@@ -104,7 +104,7 @@ module _ {i : ℕ} {own memo : List ℕ} (n : RowRoom i own memo) where
       → Recalled memo i asked own r own'
   unfolding rowCount
   recalled {own'} a e ne c =
-      let same = row-is memo i own' (n .size) (n .row) (c .size ∙ n .room)
+      let same = row-is memo i own' (n .row) (c .size ∙ n .room)
       (λ x l. let z : 0 + x ≡ x = omega arith in sym (c .inside x l) ∙ ap (λ (y : ℕ). getD own' y 0) z) in
       record { answer = rw a e; kept = λ z. absurd (ne z); found = λ f. (a, sym same) }
 
@@ -115,12 +115,15 @@ module _ {i : ℕ} {own memo : List ℕ} (n : RowRoom i own memo) where
     abbrev after : List ℕ
     after = set memo' (i * 33) count
 
-    sized : length after ≡ 1056
-    sized = length-set memo' (i * 33) count ∙ c .size ∙ n .size
+    sized : length after ≡ length memo
+    sized = length-set memo' (i * 33) count ∙ c .size
+
+    still : (j : ℕ) → HasRow j memo → HasRow j after
+    still j l = omega (arith, sized)
 
     mine : rowCells after i ≡ own
     mine =
-        row-is after i own sized (n .row) (n .room)
+        row-is after i own (still i (n .row)) (n .room)
         (λ x w.
         let z : 0 + x ≡ x = omega arith in
         getD-set-other memo' (i * 33) (i * 33 + 1 + x) count 0 (λ e. omega arith) ∙ c .inside x w ∙ ap (λ (y : ℕ). getD own y 0) z)
@@ -140,9 +143,9 @@ module _ {i : ℕ} {own memo : List ℕ} (n : RowRoom i own memo) where
     unfolding rowCount
     other-count j ne = let z : j * 33 + 0 ≡ j * 33 = omega arith in rw z at (untouched j 0 ne (omega arith))
 
-    other-cells : (j : ℕ) → j < 32 → (j ≡ i → ⊥) → rowCells after j ≡ rowCells memo j
+    other-cells : (j : ℕ) → HasRow j memo → (j ≡ i → ⊥) → rowCells after j ≡ rowCells memo j
     other-cells j l ne =
-        row-is after j (rowCells memo j) sized l (cells-length memo j (n .size) l)
+        row-is after j (rowCells memo j) (still j l) (cells-length memo j l)
         (λ x w.
         let k : j * 33 + 1 + x ≡ j * 33 + suc x = omega arith in
         ap (λ (y : ℕ). getD after y 0) k
@@ -153,7 +156,7 @@ module _ {i : ℕ} {own memo : List ℕ} (n : RowRoom i own memo) where
     pub noted : {asked : Bool} → asked ≡ true → Remembered own count i asked memo after
     unfolding rowCount
     noted e =
-        let there : i * 33 < length memo' = omega (arith, n .row, c .size, n .size) in
+        let there : i * 33 < length memo' = omega (arith, n .row, c .size) in
         record {
           kept = λ z. absurd (false≢true (sym z ∙ e));
           noted = λ z.
@@ -163,22 +166,20 @@ module _ {i : ℕ} {own memo : List ℕ} (n : RowRoom i own memo) where
 -- Tables of rows
 
 module _ (Right : ℕ → ℕ → List ℕ → Type 0) where
-  pub nothing-kept : Memo Right (replicate 1056 0)
+  pub nothing-kept : (n : ℕ) → Memo Right (replicate n 0)
   unfolding rowCount
-  nothing-kept =
-      record {
-        size = length-replicate {A = ℕ} 1056 0;
-        rows = λ i l ne. absurd (ne (getD-replicate {A = ℕ} 1056 (i * 33) 0 0 (omega arith)));
-      }
+  nothing-kept n =
+      let long : length {A = ℕ} (replicate n 0) ≡ n = length-replicate {A = ℕ} n 0 in
+      record { rows = λ i l ne. absurd (ne (getD-replicate {A = ℕ} n (i * 33) 0 0 (omega (arith, long)))) }
 
-  module _ {i : ℕ} {memo : List ℕ} {asked : Bool} (k : Memo Right memo) (l : i < 32) where
+  module _ {i : ℕ} {memo : List ℕ} {asked : Bool} (k : Memo Right memo) (l : HasRow i memo) where
     pub kept-found : {own own' : List ℕ} {r : ℕ} → Recalled memo i asked own r own' → (r ≡ 0 → ⊥) → Right i r own'
     kept-found {own} {own'} {r} f ne =
         let here = f .found ne in
         let count : r ≡ rowCount memo i = f .answer ∙ ap (λ (a : Bool). cond a (rowCount memo i) 0) (here .0) in
         rw (count, here .1) (k .rows i l (λ z. ne (count ∙ z)))
 
-    pub kept-noted : {own memo' : List ℕ} {count : ℕ} → Remembered own count i asked memo memo' → length memo' ≡ 1056
+    pub kept-noted : {own memo' : List ℕ} {count : ℕ} → Remembered own count i asked memo memo' → length memo' ≡ length memo
         → (asked ≡ true → Right i count own) → Memo Right memo'
     kept-noted {own} {memo'} {count} m s right = ⊎-elim added (λ (e : asked ≡ false). rw (m .kept e) k) (decide asked)
       where
@@ -186,12 +187,12 @@ module _ (Right : ℕ → ℕ → List ℕ → Type 0) where
         added e =
             let w = m .noted e in
             record {
-              size = s;
               rows = λ j h ne.
                   ⊎-elim
                   (λ (q : eqb j i ≡ true). rw (eqb-true j i q, w .counts, w .cells) (right e))
                   (λ (q : eqb j i ≡ false).
-                  let o = w .others j h (eqb-false j i q) in
-                  rw (o .0, o .1) (k .rows j h (λ z. ne (o .0 ∙ z))))
+                  let old : HasRow j memo = omega (arith, s) in
+                  let o = w .others j old (eqb-false j i q) in
+                  rw (o .0, o .1) (k .rows j old (λ z. ne (o .0 ∙ z))))
                   (decide (eqb j i));
             }

@@ -1,4 +1,4 @@
--- A table of 32 rows of 33 cells, one row for each scope: a count, 0 where nothing is known of the scope, then the cells of its variables.
+-- A table of rows of 33 cells, one row for each scope: a count, 0 where nothing is known of the scope, then the cells of its variables.
 use Prim.Native.Nat.{ℕ, _+_, _*_, _<_, _≤_}
 use mathlib.Core.Path.{_≡_}
 use mathlib.Core.Bool.{Bool, true, false, cond}
@@ -34,11 +34,14 @@ rowCount memo i = getD memo (i * 33) 0
 unfoldable pub rowCells : List ℕ → ℕ → List ℕ
 rowCells memo i = take 32 (drop (i * 33 + 1) memo)
 
+-- the table has row i
+abbrev pub HasRow : ℕ → List ℕ → Type 0
+HasRow i memo = i * 33 + 33 ≤ length memo
+
 -- row i and the cells of a scope's variables
 pub record RowRoom (i : ℕ) (own memo : List ℕ) : Type 0 where
-  pub row : i < 32
+  pub row : HasRow i memo
   pub room : length own ≡ 32
-  pub size : length memo ≡ 1056
 
 -- the answer is row i's count where it is asked for, else 0; where it is not 0, the row stands in the cells, else they are as they were
 pub record Recalled (memo : List ℕ) (i : ℕ) (asked : Bool) (own : List ℕ) (r : ℕ) (own' : List ℕ) : Type 0 where
@@ -50,7 +53,7 @@ pub record Recalled (memo : List ℕ) (i : ℕ) (asked : Bool) (own : List ℕ) 
 pub record Noted (own : List ℕ) (count i : ℕ) (memo memo' : List ℕ) : Type 0 where
   pub counts : rowCount memo' i ≡ count
   pub cells : rowCells memo' i ≡ own
-  pub others : (j : ℕ) → j < 32 → (j ≡ i → ⊥) → (rowCount memo' j ≡ rowCount memo j) × (rowCells memo' j ≡ rowCells memo j)
+  pub others : (j : ℕ) → HasRow j memo → (j ≡ i → ⊥) → (rowCount memo' j ≡ rowCount memo j) × (rowCells memo' j ≡ rowCells memo j)
 
 -- where row i was to be kept, it is
 pub record Remembered (own : List ℕ) (count i : ℕ) (asked : Bool) (memo memo' : List ℕ) : Type 0 where
@@ -59,5 +62,4 @@ pub record Remembered (own : List ℕ) (count i : ℕ) (asked : Bool) (memo memo
 
 -- every row that has a count is as it must be, by its number, its count and its cells
 pub record Memo (Right : ℕ → ℕ → List ℕ → Type 0) (memo : List ℕ) : Type 0 where
-  pub size : length memo ≡ 1056
-  pub rows : (i : ℕ) → i < 32 → (rowCount memo i ≡ 0 → ⊥) → Right i (rowCount memo i) (rowCells memo i)
+  pub rows : (i : ℕ) → HasRow i memo → (rowCount memo i ≡ 0 → ⊥) → Right i (rowCount memo i) (rowCells memo i)

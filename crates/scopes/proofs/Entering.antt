@@ -1,5 +1,7 @@
 -- Entering a scope: the laws of `Running`, over the numbers that the code reads from its tables.
 --     earlier, callee                     a scope that is called has its block before the caller's, and can be entered
+--     runs-steps, begins, ends            an entry whose steps are run, before the first step and after the last
+--     Between                             what holds between two steps
 --     step-given, step-tree               a variable's step
 --     turn-variable, end-variable, end-hand, turn-call, end-call    a turn of the loop
 -- Assumes nothing.
@@ -9,7 +11,7 @@ use mathlib.Core.Bool.{Bool, true, false, false≢true, cond}
 use mathlib.Core.List.{List, [], _∷_, _++_}
 use mathlib.Core.Logic.{⊎-elim}
 use native.Mathlib.Omega.{arith}
-use lib.ListN.{length, getD, set, take, drop, replicate}
+use lib.ListN.{length, getD, set, take, drop, replicate, length-replicate}
 use lib.Seq.{take-all, getD-take, getD-drop}
 use lib.Dec.{eqb}
 use borrow.Author.Tests.{eqb-true, ne-eqb}
@@ -33,10 +35,10 @@ use Rattle.trees.specs.Rows.{Evaluable}
 use Rattle.evaluation.specs.Run.{ended}
 use Rattle.evaluation.proofs.Entering.{accepted-complete, accepted-formed}
 use Rattle.scopes.specs.Steps.{stepOutcome, HandedAll, enteredAt, Came}
-use Rattle.scopes.specs.Known.{Known, Noting, Entry}
+use Rattle.scopes.specs.Known.{Known, Noting, Recalled, Entry, RunsSteps}
 use Rattle.scopes.specs.declared.Ran.{Ran}
 use Rattle.scopes.specs.declared.Ran.the-variants.{Values, Ended}
-use Rattle.scopes.proofs.Cells.{Stored, valued, ends-by, stored}
+use Rattle.scopes.proofs.Cells.{Stored, valued, ends-by, stored, kept-none, pasted-length}
 use Rattle.scopes.proofs.Running.{Running, call-below, start, variable-ends, variable-turn, call-stops, call-ends, ends-few, values-few, call-turn, stop}
 
 abbrev hasValues : Ran → Bool
@@ -80,6 +82,13 @@ place-at (x ∷ xs) w h =
     (λ (q : eqb w x ≡ true). rw q (sym (eqb-true w x q)))
     (λ (q : eqb w x ≡ false). rw q (place-at xs w (rw q at h)))
     (decide (eqb w x))
+
+-- between two steps of a run: what is known stays so, and lent slices keep their lengths
+pub record Between (bytes : List ℕ) (i : ℕ) (given called₀ memo₀ own called memo handed : List ℕ) (count n : ℕ) : Type 0 where
+  pub running : Running bytes i given own called handed count n
+  pub known : Known bytes memo
+  pub calledSame : length called ≡ length called₀
+  pub memoSame : length memo ≡ length memo₀
 
 -- how many blocks of a book stand before that of scope i
 abbrev pub rank : List ℕ → ℕ → ℕ
@@ -139,10 +148,33 @@ module _ {bytes index links orders : List ℕ} {i : ℕ} {given₀ own₀ memo�
 
   -- what is known can be read and written
   pub noting : {own memo : List ℕ} → length own ≡ 32 → AllKept own → Known bytes memo → Noting bytes index i own memo
-  noting room kept known = record { laid = e .world .sound .laid; scope = scope-few; room = room; kept = kept; known = known }
+  noting room kept known = record { laid = e .world .sound .laid; scope = e .scope; room = room; kept = kept; known = known }
 
-  pub begins : (given own : List ℕ) → length own ≡ 32 → AllKept own → Running bytes i given own (replicate 256 0) (replicate 32 0) 1 0
-  begins given own room kept = start bytes i given (e .world .accepted) (e .scope) own room kept
+  pub called-few : length (s .subScopes) ≤ 8
+  called-few = e .world .sound .subScopes i
+
+  -- where nothing was recalled, the steps are run in cells that are cleared
+  pub runs-steps : (n : ℕ) {own : List ℕ} {r : ℕ} → Recalled bytes i given₀ r own → length (s .subScopes) * 32 ≤ n
+      → RunsSteps bytes index links orders i given₀ own (replicate n 0) memo₀
+  runs-steps n f l =
+      let long : length {A = ℕ} (replicate n 0) ≡ n = length-replicate {A = ℕ} n 0 in
+      record {
+        entry = record {
+          world = e .world;
+          scope = e .scope;
+          givenRoom = e .givenRoom;
+          givenKept = e .givenKept;
+          room = f .size;
+          kept = f .kept;
+          known = e .known;
+        };
+        calledRoom = omega (arith, long);
+        calledKept = kept-none n;
+      }
+
+  pub begins : {given own called : List ℕ} → length own ≡ 32 → AllKept own → length (s .subScopes) * 32 ≤ length called → AllKept called
+      → Running bytes i given own called (replicate 32 0) 1 0
+  begins {given} {own} {called} = start bytes i given (e .world .accepted) (e .scope) own called
 
   pub ends : {given own called handed : List ℕ} {count n a b : ℕ} → Running bytes i given own called handed count n
       → a ≡ length (s .variables) → b ≡ length (s .subScopes) → a + b ≤ n → Came bytes i given (Values count) own
@@ -164,7 +196,7 @@ module _ {bytes index links orders : List ℕ} {i : ℕ} {given₀ own₀ memo�
           ready = rw f row-ready;
           scope = scope-few;
           ownRoom = omega (arith, r .ownRoom);
-          calledRoom = omega (arith, r .calledRoom);
+          calledRoom = r .calledRoom;
           ownKept = r .ownKept;
           calledKept = r .calledKept;
         }
@@ -211,7 +243,11 @@ module _ {bytes index links orders : List ℕ} {i : ℕ} {given₀ own₀ memo�
       number-few = omega (arith, number-below, accepted .within i .subScopes)
 
       pub called-room : (x - a) * 32 + 32 ≤ length called
-      called-room = let f = number-few in omega (arith, f, r .calledRoom)
+      called-room = omega (arith, number-below, r .calledRoom)
+
+      pub call-same : {j : ℕ} {handed' : List ℕ} {q : Ran} {part : List ℕ} → Came bytes j handed' q part → (w : ℕ) → w ≡ 32
+          → length (take ((x - a) * 32) called ++ (part ++ drop w (drop ((x - a) * 32) called))) ≡ length called
+      call-same {part = part} came w wide = rw wide (pasted-length called part ((x - a) * 32) 32 (came .size) called-room)
 
       module _ {c : ℕ} {handed' : List ℕ} (h : HandedAll bytes own called i (x - a) c handed') where
         pub end-hand : {d : Cause} → emptyCell ≤ c → d ≡ causeOf c → Came bytes i given (Ended d count) own

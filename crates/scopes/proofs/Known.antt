@@ -2,7 +2,7 @@
 --     recalled, noted                     a row that is read, and one that is written
 --     nothing-known                       before the first scope
 -- Assumes nothing.
-use Prim.Native.Nat.{ℕ, zero, suc, _+_, _<_}
+use Prim.Native.Nat.{ℕ, zero, suc, _+_, _*_, _<_, _≤_}
 use mathlib.Core.Path.{_≡_, refl, sym, subst, _∙_}
 use mathlib.Core.Bool.{Bool, true, false}
 use mathlib.Core.List.{List, []}
@@ -10,7 +10,7 @@ use mathlib.Core.Logic.{⊎-elim}
 use native.Mathlib.Omega.{arith}
 use lib.Dec.{eqb}
 use borrow.Author.Tests.{eqb-true, eqb-false}
-use lib.ListN.{length, replicate}
+use lib.ListN.{length, replicate, length-replicate}
 use Rattle.calculus.specs.declared.Given.the-variants.{Absent}
 use Rattle.laws.proofs.Booleans.{decide}
 use Rattle.cells.specs.Codec.{AllKept}
@@ -18,7 +18,7 @@ use Rattle.cells.specs.Cells.{givenOf, givenAt}
 use Rattle.book.specs.Decode.{scopesOf}
 use Rattle.book.specs.References.{scopeAt}
 use Rattle.scopes.specs.Steps.{givensFrom, enteredAt, Came}
-use Rattle.memo.specs.Rows.{NoneGiven, Ungiven, RowRoom, Remembered}
+use Rattle.memo.specs.Rows.{NoneGiven, Ungiven, HasRow, RowRoom, Remembered}
 use Rattle.memo.specs.Rows as cells
 use Rattle.memo.proofs.Rows.{nothing-kept, kept-found, kept-noted}
 use Rattle.scopes.specs.Known.{Known, Noting, Recalled}
@@ -54,8 +54,11 @@ none-came bytes i given r own h c = record { size = c .size; kept = c .kept; sam
 -- Rows
 
 module _ {bytes index : List ℕ} {i : ℕ} {own memo : List ℕ} (n : Noting bytes index i own memo) where
+  has-row : HasRow i memo
+  has-row = omega (arith, n .scope, n .known .size)
+
   pub row-room : RowRoom i own memo
-  row-room = record { row = n .scope; room = n .room; size = n .known .size }
+  row-room = record { row = has-row; room = n .room }
 
   module _ {given : List ℕ} {count : ℕ} {b : Bool} (u : Ungiven given count b) (v : count ≡ length (scopeAt (scopesOf bytes) i .variables)) where
     bare : b ≡ true → NoneGiven given (length (scopeAt (scopesOf bytes) i .variables))
@@ -73,11 +76,16 @@ module _ {bytes index : List ℕ} {i : ℕ} {own memo : List ℕ} (n : Noting by
         }
       where
         came : (r ≡ 0 → ⊥) → Came bytes i given (Values r) own'
-        came ne = none-came bytes i given (Values r) own' (bare (f .found ne .0)) (kept-found _ (n .known) (n .scope) f ne)
+        came ne = none-came bytes i given (Values r) own' (bare (f .found ne .0)) (kept-found _ (n .known .table) has-row f ne)
 
-    pub noted : {memo' : List ℕ} {m : ℕ} → Came bytes i given (Values m) own → length memo' ≡ 1056 → Remembered own m i b memo memo' → Known bytes memo'
+    pub noted : {memo' : List ℕ} {m : ℕ} → Came bytes i given (Values m) own → length memo' ≡ length memo → Remembered own m i b memo memo' → Known bytes memo'
     noted {memo'} {m} came s w =
-        kept-noted _ (n .known) (n .scope) w s (λ t. came-none bytes i given (Values m) own (bare t) came)
+        record {
+          size = omega (arith, s, n .known .size);
+          table = kept-noted _ (n .known .table) has-row w s (λ t. came-none bytes i given (Values m) own (bare t) came);
+        }
 
-pub nothing-known : (bytes : List ℕ) → Known bytes (replicate 1056 0)
-nothing-known bytes = nothing-kept _
+pub nothing-known : (bytes : List ℕ) (n : ℕ) → length (scopesOf bytes) * 33 ≤ n → Known bytes (replicate n 0)
+nothing-known bytes n l =
+    let long : length {A = ℕ} (replicate n 0) ≡ n = length-replicate {A = ℕ} n 0 in
+    record { size = omega (arith, long); table = nothing-kept _ n }

@@ -65,7 +65,7 @@ pub record Running (bytes : List ℕ) (i : ℕ) (given own called handed : List 
   pub counted : state .count ≡ count
   pub at : n ≤ stepCount (scopeAt (scopesOf bytes) i)
   pub ownRoom : length own ≡ 32
-  pub calledRoom : length called ≡ 256
+  pub calledRoom : length (scopeAt (scopesOf bytes) i .subScopes) * 32 ≤ length called
   pub handedRoom : length handed ≡ 32
   pub ownKept : AllKept own
   pub calledKept : AllKept called
@@ -118,18 +118,19 @@ module _ (bytes : List ℕ) (i : ℕ) (given : List ℕ) (ok : judge bytes ≡ A
       let w = accepted .weights i here in
       omega (arith, b, w)
 
-  pub start : (own : List ℕ) → length own ≡ 32 → AllKept own → Running bytes i given own (replicate 256 0) (replicate 32 0) 1 0
+  pub start : (own called : List ℕ) → length own ≡ 32 → AllKept own → length (s .subScopes) * 32 ≤ length called → AllKept called
+      → Running bytes i given own called (replicate 32 0) 1 0
   unfolding enteredAt
-  start own size kept =
+  start own called size kept room calledKept =
       record {
         state = begin s;
         counted = refl;
         at = omega arith;
         ownRoom = size;
-        calledRoom = refl;
+        calledRoom = room;
         handedRoom = refl;
         ownKept = kept;
-        calledKept = kept-none 256;
+        calledKept = calledKept;
         handedKept = kept-none 32;
         ownLength = length-map (s .variables) _;
         calledLength = length-map (s .subScopes) _;
@@ -315,15 +316,14 @@ module _ (bytes : List ℕ) (i : ℕ) (given : List ℕ) (ok : judge bytes ≡ A
           unfolding valuesOf
           call-turn m e =
               let st = r .state in
-              let few : k < 8 = omega (arith, call-below, accepted .within i .subScopes) in
-              let room : k * 32 + 32 ≤ length called = omega (arith, r .calledRoom) in
+              let room : k * 32 + 32 ≤ length called = omega (arith, call-below, r .calledRoom) in
               let there : k < length (st .called) = omega (arith, r .calledLength, call-below) in
               record {
                 state = record { own = st .own; called = set (st .called) k (valuesOf part (calledCount book i k)); count = count + m };
                 counted = refl;
                 at = more;
                 ownRoom = r .ownRoom;
-                calledRoom = pasted-length called part (k * 32) 32 (came .size) room ∙ r .calledRoom;
+                calledRoom = omega (arith, pasted-length called part (k * 32) 32 (came .size) room, r .calledRoom);
                 handedRoom = h .size;
                 ownKept = r .ownKept;
                 calledKept = kept-pasted called (k * 32) 32 part (r .calledKept) (came .kept);
@@ -348,15 +348,15 @@ module _ (bytes : List ℕ) (i : ℕ) (given : List ℕ) (ok : judge bytes ≡ A
                     let ne : k' ≡ k → ⊥ = eqb-false k' k p in
                     let wide : y < 32 = omega (arith, b, accepted .within (getD (s .subScopes) k' 0) .variables) in
                     let old : Done bytes i n (vars + k') = ⊎-elim (λ (q : Done bytes i n (vars + k')). q) (λ (q : vars + k' ≡ x). absurd (ne (omega arith))) (done-now (vars + k') d) in
-                    ap held (apart k' y wide ne few room)
+                    ap held (apart k' y wide ne room)
                     ∙ r .calls k' y l b old
                     ∙ ap (λ (vs : List Value). getD vs y (Truth false)) (sym (getD-set-other (st .called) k k' (valuesOf part (calledCount book i k)) [] ne)))
                     (decide (eqb k' k));
               }
             where
-              apart : (k' y : ℕ) → y < 32 → (k' ≡ k → ⊥) → k < 8 → k * 32 + 32 ≤ length called
+              apart : (k' y : ℕ) → y < 32 → (k' ≡ k → ⊥) → k * 32 + 32 ≤ length called
                   → givenAt (pasted called (k * 32) 32 part) (k' * 32 + y) ≡ givenAt called (k' * 32 + y)
-              apart k' y wide ne few room =
+              apart k' y wide ne room =
                   ⊎-elim
                   (λ (t : ltb k' k ≡ true). let l = ltb-true k' k t in pasted-before called part (k * 32) 32 (came .size) room (k' * 32 + y) (omega arith))
                   (λ (t : ltb k' k ≡ false).

@@ -16,7 +16,7 @@ use trees::has_clause;
 ghost use Rattle.cells.specs.Codec.{Codes};
 ghost use Rattle.trees.specs.Rows.{Evaluable};
 ghost use Rattle.scopes.specs.Steps.{stepOutcome, Stepping, Hands, HandsAll, HandedAll, Came};
-ghost use Rattle.scopes.specs.Known.{Known, Noting, Recalled, Entry};
+ghost use Rattle.scopes.specs.Known.{Known, Noting, Recalled, Entry, RunsSteps};
 ghost use Rattle.scopes.specs.declared.Ran.the-variants.{Values};
 
 // The links of a scope, the order of its steps and the cells of its variables.
@@ -137,7 +137,58 @@ fn remember_scope(
     remember(own, count, i, bare, memo);
 }
 
-// Enters scope i: runs its steps in their order, and leaves the values of its variables in `own`. What is known is not run again.
+// Runs the steps of scope i in their order, with cells for the variables of its sub-scopes, and leaves the values of its variables in `own`.
+fn run_steps(
+    book: &[u8],
+    index: &[u16],
+    links: &[u8],
+    orders: &[u8],
+    i: usize,
+    given: &[u64],
+    own: &mut [u64],
+    called: &mut [u64],
+    memo: &mut [u64],
+) -> Ran
+    requires { ⌜ RunsSteps (now book) (now index) (now links) (now orders) i (now given) (now own) (now called) (now memo) ⌝ }
+    ensures { λ r. ⌜ Came (now (book .entry)) i (now (given .entry)) r (now (own .exit)) ⌝ }
+    ensures { λ _. ⌜ Known (now (book .entry)) (now (memo .exit)) ⌝ }
+{
+    let row = part_of(links, i * LINKS, LINKS);
+    let variables = variable_count(book, index, i);
+    let steps = variables + sub_scope_count(book, index, i);
+    let mut handed = [0u64; 32];
+    let mut count: usize = 1;
+    let mut n: usize = 0;
+    while n < steps {
+        let x = byte_at(orders, i * STEPS + n);
+        n += 1;
+        if (x as usize) < variables {
+            let c = step_cell(book, index, row, given, own, called, i, x);
+            if EMPTY <= c {
+                return Ran::Ended(cause_of(c), count);
+            }
+            own[x as usize] = c;
+        } else {
+            let k = (x as usize) - variables;
+            let c = hand_over(book, index, row, own, called, i, k, &mut handed);
+            if EMPTY <= c {
+                return Ran::Ended(cause_of(c), count);
+            }
+            let j = sub_scope_at(book, index, i, k);
+            let from = k * VARIABLES;
+            let part = &mut called[from..from + VARIABLES];
+            match enter(book, index, links, orders, j, &handed, part, memo) {
+                Ran::Values(m) => count += m,
+                Ran::Ended(c, m) => return Ran::Ended(c, count + m),
+            }
+        }
+    }
+    remember_scope(book, index, i, given, count, own, memo);
+    Ran::Values(count)
+}
+
+// Enters scope i: runs its steps, and leaves the values of its variables in `own`. What is known is not run again. Cells for the variables of
+// sub-scopes are cleared at each entry, so there are none where it has none, and few where it has one or two.
 pub fn enter(
     book: &[u8],
     index: &[u16],
@@ -156,37 +207,15 @@ pub fn enter(
     if 0 < known {
         return Ran::Values(known);
     }
-    let row = part_of(links, i * LINKS, LINKS);
-    let variables = variable_count(book, index, i);
-    let steps = variables + sub_scope_count(book, index, i);
-    let mut called = [0u64; 256];
-    let mut handed = [0u64; 32];
-    let mut count: usize = 1;
-    let mut n: usize = 0;
-    while n < steps {
-        let x = byte_at(orders, i * STEPS + n);
-        n += 1;
-        if (x as usize) < variables {
-            let c = step_cell(book, index, row, given, own, &called, i, x);
-            if EMPTY <= c {
-                return Ran::Ended(cause_of(c), count);
-            }
-            own[x as usize] = c;
-        } else {
-            let k = (x as usize) - variables;
-            let c = hand_over(book, index, row, own, &called, i, k, &mut handed);
-            if EMPTY <= c {
-                return Ran::Ended(cause_of(c), count);
-            }
-            let j = sub_scope_at(book, index, i, k);
-            let from = k * VARIABLES;
-            let part = &mut called[from..from + VARIABLES];
-            match enter(book, index, links, orders, j, &handed, part, memo) {
-                Ran::Values(m) => count += m,
-                Ran::Ended(c, m) => return Ran::Ended(c, count + m),
-            }
-        }
+    let calls = sub_scope_count(book, index, i);
+    if calls == 0 {
+        let mut none = [0u64; 1];
+        return run_steps(book, index, links, orders, i, given, own, &mut none, memo);
     }
-    remember_scope(book, index, i, given, count, own, memo);
-    Ran::Values(count)
+    if calls <= 2 {
+        let mut few = [0u64; 64];
+        return run_steps(book, index, links, orders, i, given, own, &mut few, memo);
+    }
+    let mut all = [0u64; 256];
+    run_steps(book, index, links, orders, i, given, own, &mut all, memo)
 }

@@ -1,6 +1,6 @@
 -- The row of a scope: its nodes can be evaluated, and their terms are the scope's.
 --     sound-row         the part of a sound book's table is the row
---     sound-roomy       32 cells, and 32 for each of 8 sub-scopes, are enough
+--     sound-roomy       32 cells, and 32 for each sub-scope, are enough
 --     readable          a node of the scope can be evaluated over its row
 --     node-outcome      and has the outcome that it has in the scope
 -- Assumes nothing.
@@ -109,7 +109,6 @@ module _ (bytes index links own called : List ℕ) (i : ℕ) (e : Evaluable byte
       let p = both (ltb k (length (s .subScopes))) _ h in
       let a = ltb-true k (length (s .subScopes)) (p .0) in
       let b = ltb-true x (length (scopeAt (scopesOf bytes) (getD (s .subScopes) k 0) .variables)) (p .1) in
-      let few = e .ready .sound .subScopes i in
       let narrow = e .ready .sound .variables (getD (s .subScopes) k 0) in
       let room = e .calledRoom in
       omega arith

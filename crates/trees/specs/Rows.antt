@@ -52,11 +52,11 @@ pub record Walk (bytes row links own called : List ℕ) (i cell : ℕ) : Type 0 
 abbrev pub Settles : List ℕ → List ℕ → List ℕ → List ℕ → ℕ → ℕ → ℕ → Type 0
 Settles bytes row own called at x r = (g : Gathered) → Gathers x g → Codes r (settle g (restIn bytes row own called at))
 
--- the trees of scope i can be evaluated: 32 own cells and 32 for each of 8 sub-scopes, with nothing or a value in each
+-- the trees of scope i can be evaluated: 32 own cells and 32 for each of its sub-scopes, with nothing or a value in each
 pub record Evaluable (bytes index links own called : List ℕ) (i : ℕ) : Type 0 where
   pub ready : Ready bytes index links i
   pub scope : i < 32
   pub ownRoom : 32 ≤ length own
-  pub calledRoom : 256 ≤ length called
+  pub calledRoom : length (scopeAt (scopesOf bytes) i .subScopes) * 32 ≤ length called
   pub ownKept : AllKept own
   pub calledKept : AllKept called

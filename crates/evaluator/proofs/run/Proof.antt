@@ -1,7 +1,7 @@
 -- `evaluator::run` meets its contract.
 -- Assumes nothing.
 use native.Mathlib.Omega.{arith}
-use Rattle.evaluator.proofs.Service.{blank-links, all-links}
+use Rattle.evaluator.proofs.Service.{blank-links, scopes-few}
 use borrow.Author.Needs.{needs}
 use Rattle.evaluator.proofs.run.Statement.{statement}
 use Rattle.evaluator.proofs.run.Tie as tie
@@ -34,7 +34,7 @@ slice-aggregate-run-in-3 : tie.Need-slice-aggregate-run-in-3
 slice-aggregate-run-in-3 c = search needs
 
 run-in-requires-3 : tie.Need-run-in-requires-3
-run-in-requires-3 c κs = (c .before .before .before .before .before .before .before .before .before .pre, blank-links (c .before .before .before .before .before .before .before .before .before .pre) 26688 (all-links (c .before .before .before .before .before .before .before .before .before .pre)))
+run-in-requires-3 c κs = (c .before .before .before .before .before .before .before .before .before .pre, blank-links (c .before .before .before .before .before .before .before .before .before .pre) 26688 (omega (arith, scopes-few (c .before .before .before .before .before .before .before .before .before .pre))))
 
 same-length-3 : tie.Need-same-length-3
 same-length-3 c = search needs

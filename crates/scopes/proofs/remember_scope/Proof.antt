@@ -1,4 +1,3 @@
-use mathlib.Core.Path.{_∙_}
 use Rattle.scopes.proofs.Known.{noted}
 use borrow.Author.Needs.{needs}
 use Rattle.scopes.proofs.remember_scope.Statement.{statement}
@@ -22,7 +21,7 @@ same-length : tie.Need-same-length
 same-length c = search needs
 
 returns : tie.Need-returns
-returns c = noted (c .before .before .before .before .before .before .before .before .before .before .before .pre .0) (c .before .before .before .before .none-given .ensures) (c .before .before .before .before .before .variable-count .ensures) (c .before .before .before .before .before .before .before .before .before .before .before .pre .1) (c .before .before .remember .kept .1 .1 .1 .1 .0 ∙ c .before .before .before .before .before .before .before .before .before .before .before .pre .0 .known .size) (c .before .before .remember .ensures)
+returns c = noted (c .before .before .before .before .before .before .before .before .before .before .before .pre .0) (c .before .before .before .before .none-given .ensures) (c .before .before .before .before .before .variable-count .ensures) (c .before .before .before .before .before .before .before .before .before .before .before .pre .1) (c .before .before .remember .kept .1 .1 .1 .1 .0) (c .before .before .remember .ensures)
 
 pub remember-scope-spec : {M : Type 1} → statement M
 remember-scope-spec =
