@@ -85,7 +85,8 @@ fn evaluate_accepted(
     if !read_inputs(book, index, i, inputs, &mut given) {
         return Answer::Refused(Refusal::BadInput);
     }
-    if results.len() < result_length(book, index, i) {
+    let length = result_length(book, index, i);
+    if results.len() < length {
         return Answer::Refused(Refusal::BufferTooSmall);
     }
     run(book, index, orders, n, i, &given, results)

@@ -63,7 +63,8 @@ fn run_accepted(
     if !read_by(types, inputs, &mut given) {
         return Answer::Refused(Refusal::BadInput);
     }
-    if results.len() < length_by(types) {
+    let length = length_by(types);
+    if results.len() < length {
         return Answer::Refused(Refusal::BufferTooSmall);
     }
     run_block(code, spans, heads, places, p, types, &given, results)

@@ -201,9 +201,6 @@ module _ {bytes index links orders : List ℕ} {i : ℕ} {given₀ own₀ memo�
           calledKept = r .calledKept;
         }
 
-    pub step-few : n < 40
-    step-few = omega (arith, va, vb, more, accepted .within i .variables, accepted .within i .subScopes)
-
     module _ (l : x < a) where
       low : getD (stepOrder s) n 0 < length (s .variables)
       low = subst (λ (z : ℕ). z < length (s .variables)) is (omega arith)

@@ -7,7 +7,7 @@ use denote.Ref.{now}
 use borrow.Author.Needs.{needs}
 use Rattle.slices.proofs.Parts.{part-room}
 use Rattle.scopes.proofs.Cells.{kept-taken, kept-dropped}
-use Rattle.scopes.proofs.Entering.{rank, scope-few, evaluable, earlier, callee, noting, runs-steps, called-few, Between, begins, ends, step-few, put-room, given-room, turn-variable, end-variable}
+use Rattle.scopes.proofs.Entering.{rank, scope-few, evaluable, earlier, callee, noting, runs-steps, called-few, Between, begins, ends, put-room, given-room, turn-variable, end-variable}
 use Rattle.scopes.proofs.Entering.{number-below, number-few, called-room, end-hand, few-ended, few-values, end-call, turn-call, call-same}
 use Prim.Native.Nat.{ℕ, suc, _<_, _+_, _-_, _*_}
 use borrow.Fn.Kinds.{In}
@@ -154,7 +154,7 @@ run-steps-byte-at-requires : (t : ℕ) → run-steps-lts.Need-byte-at-requires (
 run-steps-byte-at-requires t c κs = search needs
 
 run-steps-add-n : (t : ℕ) → run-steps-lts.Need-add-n (R-run-steps t) (run-steps-at t) run-steps.Post run-steps-Inv-loop run-steps-μ-loop
-run-steps-add-n t c = omega (arith, step-few (c .before .before .before .before .before .before .before .before .before .before .before .before .before .before .pre .1 .entry) (c .before .before .loop .inv .running) (c .before .before .before .before .variable-count .ensures) (c .before .before .before .sub-scope-count .ensures) (c .before .loop-test .taken) (c .byte-at .ensures))
+run-steps-add-n t c = omega (arith, c .before .loop-test .taken, c .before .before .before .before .variable-count .ensures, c .before .before .before .sub-scope-count .ensures, c .before .before .before .before .before .before .before .before .before .before .before .before .before .before .pre .1 .entry .world .sound .variables (c .before .before .before .before .before .before .before .before .before .before .before .before .before .before .args .i), c .before .before .before .before .before .before .before .before .before .before .before .before .before .before .pre .1 .entry .world .sound .subScopes (c .before .before .before .before .before .before .before .before .before .before .before .before .before .before .args .i))
 
 run-steps-cast-if1 : (t : ℕ) → run-steps-lts.Need-cast-if1 (R-run-steps t) (run-steps-at t) run-steps.Post run-steps-Inv-loop run-steps-μ-loop
 run-steps-cast-if1 t c = search needs
