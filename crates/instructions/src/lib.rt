@@ -20,6 +20,35 @@ use integers::number_at;
 use operators::apply_binary;
 use operators::apply_unary;
 use operators::truth_of;
+use record::KIND_ADD;
+use record::KIND_AND;
+use record::KIND_CALLED;
+use record::KIND_CONSTANT;
+use record::KIND_END_TRY;
+use record::KIND_EQUAL;
+use record::KIND_JOIN;
+use record::KIND_JUMP;
+use record::KIND_JUMP_IF_GIVEN;
+use record::KIND_JUMP_IF_NO;
+use record::KIND_LESS;
+use record::KIND_NEGATE;
+use record::KIND_NOT;
+use record::KIND_NUMBER;
+use record::KIND_OVERRIDE;
+use record::KIND_OWN;
+use record::KIND_PUSH_NOTHING;
+use record::KIND_RAISE_CONFLICT;
+use record::KIND_RAISE_EMPTY;
+use record::KIND_SETTLE;
+use record::KIND_STORE;
+use record::KIND_SUBTRACT;
+use record::KIND_TRY;
+use record::LENGTH_CALLED;
+use record::LENGTH_CONSTANT;
+use record::LENGTH_DISTANCE;
+use record::LENGTH_NUMBER;
+use record::LENGTH_OWN;
+use record::LENGTH_OWN_DISTANCE;
 use slices::byte_at;
 use types::operand_type;
 use types::same_type;
@@ -220,9 +249,9 @@ fn branch(d: usize, st: &[u64], h: usize, t: usize) -> Move
                 return Move::Stuck;
             }
             if truth_of(v) {
-                return Move::Go(2, h - 1, t);
+                return Move::Go(LENGTH_DISTANCE, h - 1, t);
             }
-            Move::Go(2 + d, h - 1, t)
+            Move::Go(LENGTH_DISTANCE + d, h - 1, t)
         }
     }
 }
@@ -238,10 +267,10 @@ fn settle(d: usize, st: &[u64], h: usize, t: usize) -> Move
     }
     let c = st[h - 1];
     if c == NOTHING {
-        return Move::Go(2, h - 1, t);
+        return Move::Go(LENGTH_DISTANCE, h - 1, t);
     }
     if c < MANY {
-        return Move::Go(2 + d, h, t);
+        return Move::Go(LENGTH_DISTANCE + d, h, t);
     }
     Move::Ended(Cause::Conflict)
 }
@@ -272,10 +301,10 @@ fn landing(left: usize, d: usize) -> usize
     requires { ⌜ d < 65536 ⌝ }
     ensures { λ r. ⌜ r ≡ left - 2 - d ⌝ }
 {
-    if left < 2 + d {
+    if left < LENGTH_DISTANCE + d {
         return 0;
     }
-    left - (2 + d)
+    left - (LENGTH_DISTANCE + d)
 }
 
 // Opens a try that lands d bytes behind the instruction, of whose block so many bytes are left behind the kind.
@@ -292,7 +321,7 @@ fn begin_try(left: usize, d: usize, h: usize, tr: &mut [usize], t: usize) -> Mov
     }
     tr[t * 2] = landing(left, d);
     tr[t * 2 + 1] = h;
-    Move::Go(2, h, t + 1)
+    Move::Go(LENGTH_DISTANCE, h, t + 1)
 }
 
 // Closes the latest try.
@@ -344,7 +373,13 @@ fn push_truth(rest: &[u8], st: &mut [u64], h: usize, t: usize) -> Move
         → Moves r 1 (now (st .exit)) tr m
         (pushed (One (Value.Truth (eqb (getD (now (rest .entry)) 0 0) 1))) (entries (now (st .entry)) h) (opened tr t) m)) ⌝ }
 {
-    push(st, h, encode(Value::Truth(byte_at(rest, 0) == 1)), 1, t)
+    push(
+        st,
+        h,
+        encode(Value::Truth(byte_at(rest, 0) == 1)),
+        LENGTH_CONSTANT,
+        t,
+    )
 }
 
 fn push_number(rest: &[u8], st: &mut [u64], h: usize, t: usize) -> Move
@@ -352,7 +387,13 @@ fn push_number(rest: &[u8], st: &mut [u64], h: usize, t: usize) -> Move
         → Moves r 4 (now (st .exit)) tr m
         (pushed (One (Value.Number (numberAt (now (rest .entry)) 0))) (entries (now (st .entry)) h) (opened tr t) m)) ⌝ }
 {
-    push(st, h, encode(Value::Number(number_at(rest, 0))), 4, t)
+    push(
+        st,
+        h,
+        encode(Value::Number(number_at(rest, 0))),
+        LENGTH_NUMBER,
+        t,
+    )
 }
 
 // Pushes own variable x.
@@ -365,7 +406,7 @@ fn read_own(x: usize, own: &[u64], st: &mut [u64], h: usize, t: usize) -> Move
     if c == NOTHING {
         return Move::Stuck;
     }
-    push(st, h, value_cell(c), 1, t)
+    push(st, h, value_cell(c), LENGTH_OWN, t)
 }
 
 // Pushes variable x of sub-scope k.
@@ -386,7 +427,7 @@ fn read_called(
     if marks[k] == 0 {
         return Move::Stuck;
     }
-    push(st, h, value_cell(called[k * 32 + x]), 2, t)
+    push(st, h, value_cell(called[k * 32 + x]), LENGTH_CALLED, t)
 }
 
 // Stores into own variable x of a type.
@@ -413,7 +454,7 @@ fn store(
             }
             own[x] = encode(v);
             flags[x] = 1;
-            Move::Go(1, h - 1, t)
+            Move::Go(LENGTH_OWN, h - 1, t)
         }
     }
 }
@@ -446,7 +487,7 @@ fn hand_over(
                 return Move::Stuck;
             }
             called[at] = encode(v);
-            Move::Go(2, h - 1, t)
+            Move::Go(LENGTH_CALLED, h - 1, t)
         }
     }
 }
@@ -458,12 +499,12 @@ fn jump_if_given(x: usize, d: usize, own: &[u64], flags: &[u8], h: usize, t: usi
         → Moves r 3 st tr m (jumpedIfGiven (ownCell (now (own .entry)) (now (flags .entry)) x) d (entries st h) (opened tr t) m)) ⌝ }
 {
     if own[x] == NOTHING {
-        return Move::Go(3, h, t);
+        return Move::Go(LENGTH_OWN_DISTANCE, h, t);
     }
     if flags[x] == 0 {
-        return Move::Go(3 + d, h, t);
+        return Move::Go(LENGTH_OWN_DISTANCE + d, h, t);
     }
-    Move::Go(3, h, t)
+    Move::Go(LENGTH_OWN_DISTANCE, h, t)
 }
 
 // Hands over to the variable that an instruction names.
@@ -513,24 +554,24 @@ fn control(kind: u8, rest: &[u8], st: &mut [u64], h: usize, tr: &mut [usize], t:
     ensures { λ r. ⌜ Passed kind (now (rest .entry)) (now (st .entry)) h (now (tr .entry)) t r (now (st .exit)) (now (tr .exit)) ⌝ }
 {
     match kind {
-        4 => push_truth(rest, st, h, t),
-        5 => push_number(rest, st, h, t),
-        10 => unary(Unary::Not, st, h, t),
-        11 => unary(Unary::Negate, st, h, t),
-        12 => binary(Binary::And, st, h, t),
-        13 => binary(Binary::Add, st, h, t),
-        14 => binary(Binary::Subtract, st, h, t),
-        15 => binary(Binary::Equal, st, h, t),
-        16 => binary(Binary::Less, st, h, t),
-        32 => raise(rest.len(), st, h, tr, t),
-        33 => Move::Ended(Cause::Conflict),
-        34 => Move::Go(2 + distance(rest, 0), h, t),
-        35 => branch(distance(rest, 0), st, h, t),
-        36 => begin_try(rest.len(), distance(rest, 0), h, tr, t),
-        37 => end_try(h, t),
-        38 => push(st, h, 0, 0, t),
-        39 => join_top(st, h, t),
-        40 => settle(distance(rest, 0), st, h, t),
+        KIND_CONSTANT => push_truth(rest, st, h, t),
+        KIND_NUMBER => push_number(rest, st, h, t),
+        KIND_NOT => unary(Unary::Not, st, h, t),
+        KIND_NEGATE => unary(Unary::Negate, st, h, t),
+        KIND_AND => binary(Binary::And, st, h, t),
+        KIND_ADD => binary(Binary::Add, st, h, t),
+        KIND_SUBTRACT => binary(Binary::Subtract, st, h, t),
+        KIND_EQUAL => binary(Binary::Equal, st, h, t),
+        KIND_LESS => binary(Binary::Less, st, h, t),
+        KIND_RAISE_EMPTY => raise(rest.len(), st, h, tr, t),
+        KIND_RAISE_CONFLICT => Move::Ended(Cause::Conflict),
+        KIND_JUMP => Move::Go(LENGTH_DISTANCE + distance(rest, 0), h, t),
+        KIND_JUMP_IF_NO => branch(distance(rest, 0), st, h, t),
+        KIND_TRY => begin_try(rest.len(), distance(rest, 0), h, tr, t),
+        KIND_END_TRY => end_try(h, t),
+        KIND_PUSH_NOTHING => push(st, h, 0, 0, t),
+        KIND_JOIN => join_top(st, h, t),
+        KIND_SETTLE => settle(distance(rest, 0), st, h, t),
         _ => Move::Stuck,
     }
 }
@@ -557,11 +598,11 @@ pub fn step(
         r (now (st .exit)) (now (tr .exit)) (now (own .exit)) (now (flags .exit)) (now (called .exit)) ⌝ }
 {
     match kind {
-        6 => read_own(first(rest), own, st, h, t),
-        7 => read_called(first(rest), second(rest), marks, called, st, h, t),
-        41 => store_at(rest, heads, p, st, h, t, own, flags),
-        42 => override_at(rest, heads, places, p, marks, st, h, t, called),
-        44 => jump_if_given(first(rest), distance(rest, 1), own, flags, h, t),
+        KIND_OWN => read_own(first(rest), own, st, h, t),
+        KIND_CALLED => read_called(first(rest), second(rest), marks, called, st, h, t),
+        KIND_STORE => store_at(rest, heads, p, st, h, t, own, flags),
+        KIND_OVERRIDE => override_at(rest, heads, places, p, marks, st, h, t, called),
+        KIND_JUMP_IF_GIVEN => jump_if_given(first(rest), distance(rest, 1), own, flags, h, t),
         _ => control(kind, rest, st, h, tr, t),
     }
 }

@@ -1,7 +1,7 @@
 -- A record at a position: "each one byte of kind and a body".
 use Prim.Native.Nat.{ℕ, _+_, _-_}
 use mathlib.Core.Bool.{Bool, true, false}
-use mathlib.Core.List.{List, []}
+use mathlib.Core.List.{List}
 use lib.ListN.{length, getD, take, drop}
 use lib.Dec.{eqb, ltb}
 use Rattle.record.specs.Kinds.{shapeIn}
@@ -14,26 +14,20 @@ abbrev pub pickRecord : Bool → Record → Record → Record
 pickRecord true a b = a
 pickRecord false a b = b
 
--- a kind of this shape at a position, with `left` bytes after it: unknown kind, then "a body passes the end"
-abbrev pub recordOf : Shape → ℕ → ℕ → ℕ → Record
-recordOf shape kind start left =
+-- a kind of this shape with `left` bytes after it: unknown kind, then "a body passes the end"
+abbrev pub recordOf : Shape → ℕ → ℕ → Record
+recordOf shape kind left =
     pickRecord (eqb (shape .stage) 0) Unknown
     (pickRecord (ltb left (shape .length)) Truncated
-    (Whole kind (shape .stage) start (shape .length)))
+    (Whole kind (shape .stage) (shape .length)))
 
 -- what stands at a position: nothing more, an unknown kind, a body that passes the end, or a whole record
 unfoldable pub recordAt : Medium → List ℕ → ℕ → Record
 recordAt m s at =
     pickRecord (ltb at (length s))
-    (recordOf (shapeIn m (getD s at 0)) (getD s at 0) (at + 1) (length s - (at + 1)))
+    (recordOf (shapeIn m (getD s at 0)) (getD s at 0) (length s - (at + 1)))
     End
 
--- "a record's body is the part of the lent bytes after its kind"; nothing where there is no whole record
-abbrev pub bodyOf : Record → List ℕ → List ℕ
-bodyOf End s = []
-bodyOf Unknown s = []
-bodyOf Truncated s = []
-bodyOf (Whole k stage start n) s = take n (drop start s)
-
-unfoldable pub bodyAt : Medium → List ℕ → ℕ → List ℕ
-bodyAt m s at = bodyOf (recordAt m s at) s
+-- "a record's body is the part of the lent bytes after its kind"
+unfoldable pub bodyAt : List ℕ → ℕ → ℕ → List ℕ
+bodyAt s at n = take n (drop (at + 1) s)

@@ -4,7 +4,7 @@ ghost use mathlib.Core.Path.{_≡_};
 ghost use Rattle.record.specs.Kinds.{shapesOf, shapeIn};
 ghost use Rattle.record.specs.Record.{recordAt, bodyAt};
 
-// The kinds of a book's records.
+// The kinds of a book's records; code has those without operands, too.
 pub const KIND_SCOPE: u8 = 1;
 
 pub const KIND_VARIABLE: u8 = 2;
@@ -45,6 +45,49 @@ pub const KIND_DEFINITION: u8 = 19;
 
 pub const KIND_RULE: u8 = 20;
 
+// The kinds that only code has.
+pub const KIND_RAISE_EMPTY: u8 = 32;
+
+pub const KIND_RAISE_CONFLICT: u8 = 33;
+
+pub const KIND_JUMP: u8 = 34;
+
+pub const KIND_JUMP_IF_NO: u8 = 35;
+
+pub const KIND_TRY: u8 = 36;
+
+pub const KIND_END_TRY: u8 = 37;
+
+pub const KIND_PUSH_NOTHING: u8 = 38;
+
+pub const KIND_JOIN: u8 = 39;
+
+pub const KIND_SETTLE: u8 = 40;
+
+pub const KIND_STORE: u8 = 41;
+
+pub const KIND_OVERRIDE: u8 = 42;
+
+pub const KIND_ENTER: u8 = 43;
+
+pub const KIND_JUMP_IF_GIVEN: u8 = 44;
+
+// How long a body is in code, by what it holds: no or yes, a number, an own variable, a sub-scope, a sub-scope and its variable, a distance,
+// an own variable and a distance.
+pub const LENGTH_CONSTANT: usize = 1;
+
+pub const LENGTH_NUMBER: usize = 4;
+
+pub const LENGTH_OWN: usize = 1;
+
+pub const LENGTH_SUB_SCOPE: usize = 1;
+
+pub const LENGTH_CALLED: usize = 2;
+
+pub const LENGTH_DISTANCE: usize = 2;
+
+pub const LENGTH_OWN_DISTANCE: usize = 3;
+
 // Where a record stands: the same kind can have another body in a book than in code.
 pub enum Medium {
     Book,
@@ -60,12 +103,12 @@ pub struct Shape {
     pub stage: usize,
 }
 
-// What stands at a position: a whole record has its kind, its stage, where its body starts, and the body's length.
+// What stands at a position: a whole record has its kind, its stage and its body's length.
 pub enum Record {
     End,
     Unknown,
     Truncated,
-    Whole(u8, usize, usize, usize),
+    Whole(u8, usize, usize),
 }
 
 // One decision over kinds and ranges of kinds, for book and code. The kinds that are frequent in code stand singly, no two that follow each other
@@ -76,22 +119,25 @@ fn shapes_of(kind: u8) -> Shapes
     match kind {
         KIND_SCOPE => Shapes(0, 1, 1, 1),
         KIND_VARIABLE => Shapes(1, 2, 1, 2),
-        KIND_SUB_SCOPE => Shapes(1, 3, 1, 3),
-        KIND_CONSTANT | KIND_OWN => Shapes(1, 4, 1, 4),
-        KIND_NUMBER => Shapes(4, 4, 4, 4),
-        KIND_CALLED => Shapes(2, 4, 2, 4),
+        KIND_SUB_SCOPE => Shapes(1, 3, LENGTH_SUB_SCOPE, 3),
+        KIND_CONSTANT => Shapes(1, 4, LENGTH_CONSTANT, 4),
+        KIND_NUMBER => Shapes(4, 4, LENGTH_NUMBER, 4),
+        KIND_OWN => Shapes(1, 4, LENGTH_OWN, 4),
+        KIND_CALLED => Shapes(2, 4, LENGTH_CALLED, 4),
         KIND_EMPTY..=KIND_CONFLICT => Shapes(1, 4, 0, 0),
         KIND_NOT..=KIND_NEGATE => Shapes(1, 4, 0, 4),
         KIND_AND..=KIND_LESS => Shapes(2, 4, 0, 4),
         KIND_CHOICE => Shapes(3, 4, 0, 0),
         KIND_DEFAULT => Shapes(5, 4, 0, 0),
         KIND_DEFINITION..=KIND_RULE => Shapes(5, 5, 0, 0),
-        32 | 37 | 39 => Shapes(0, 0, 0, 4),
-        33 | 38 => Shapes(0, 0, 0, 4),
-        34 | 36 | 40 | 42 => Shapes(0, 0, 2, 4),
-        35 => Shapes(0, 0, 2, 4),
-        41 | 43 => Shapes(0, 0, 1, 4),
-        44 => Shapes(0, 0, 3, 4),
+        KIND_RAISE_EMPTY | KIND_END_TRY | KIND_JOIN => Shapes(0, 0, 0, 4),
+        KIND_RAISE_CONFLICT | KIND_PUSH_NOTHING => Shapes(0, 0, 0, 4),
+        KIND_JUMP | KIND_TRY | KIND_SETTLE => Shapes(0, 0, LENGTH_DISTANCE, 4),
+        KIND_JUMP_IF_NO => Shapes(0, 0, LENGTH_DISTANCE, 4),
+        KIND_STORE => Shapes(0, 0, LENGTH_OWN, 4),
+        KIND_OVERRIDE => Shapes(0, 0, LENGTH_CALLED, 4),
+        KIND_ENTER => Shapes(0, 0, LENGTH_SUB_SCOPE, 4),
+        KIND_JUMP_IF_GIVEN => Shapes(0, 0, LENGTH_OWN_DISTANCE, 4),
         _ => Shapes(0, 0, 0, 0),
     }
 }
@@ -131,17 +177,15 @@ pub fn record_at(medium: Medium, s: &[u8], at: usize) -> Record
     if s.len() - start < length {
         return Record::Truncated;
     }
-    Record::Whole(kind, stage, start, length)
+    Record::Whole(kind, stage, length)
 }
 
-// The body of the record at a position, as a part of s; nothing where there is no whole record.
-pub fn body_at(medium: Medium, s: &[u8], at: usize) -> &[u8]
-    ensures { λ r. ⌜ now r ≡ bodyAt medium (now (s .entry)) at ⌝ }
+// The body of the record at a position, of so many bytes, as the part of s after its kind.
+pub fn body_at(s: &[u8], at: usize, length: usize) -> &[u8]
+    ensures { λ r. ⌜ now r ≡ bodyAt (now (s .entry)) at length ⌝ }
 {
-    match record_at(medium, s, at) {
-        Record::End => &s[..0],
-        Record::Unknown => &s[..0],
-        Record::Truncated => &s[..0],
-        Record::Whole(_, _, start, length) => part_of(s, start, length),
+    if s.len() <= at {
+        return &s[..0];
     }
+    part_of(s, at + 1, length)
 }

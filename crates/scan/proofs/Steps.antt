@@ -16,7 +16,7 @@ use lib.Dec.{eqb, ltb}
 use borrow.Author.Tests.{eqb-false, lt-ltb, ltb-true, ltb-false}
 use Rattle.record.specs.Kinds.{shapeIn}
 use Rattle.record.specs.declared.Medium.the-variants.{Book}
-use Rattle.record.specs.Record.{pickRecord, recordAt}
+use Rattle.record.specs.Record.{pickRecord, recordAt, bodyAt}
 use Rattle.record.specs.declared.Record.{Record}
 use Rattle.record.specs.declared.Record.the-variants.{End, Unknown, Whole}
 use Rattle.record.specs.declared.Record.the-variants.{Truncated as Record·Truncated}
@@ -36,20 +36,20 @@ use Rattle.scan.specs.Counting.{tallyOf}
 use Rattle.scan.specs.Step.{bookRecordAt, stepOf, metAt, stepAt, stepOver}
 
 -- what stands at a position, as the pass takes it
-abbrev pub byRecord : List ℕ → ℕ → ℕ → List ℕ → Record → Step
-byRecord index last scopes s End = Stop Truncated
-byRecord index last scopes s Unknown = Stop UnknownKind
-byRecord index last scopes s Record·Truncated = Stop Truncated
-byRecord index last scopes s (Whole k st start n) = stepOver index last scopes k st n (take n (drop start s))
+abbrev pub byRecord : List ℕ → ℕ → ℕ → List ℕ → ℕ → Record → Step
+byRecord index last scopes s at End = Stop Truncated
+byRecord index last scopes s at Unknown = Stop UnknownKind
+byRecord index last scopes s at Record·Truncated = Stop Truncated
+byRecord index last scopes s at (Whole k st n) = stepOver index last scopes k st n (bodyAt s at n)
 
-module _ (index : List ℕ) (last scopes : ℕ) (s : List ℕ) (k st start n : ℕ) where
+module _ (index : List ℕ) (last scopes : ℕ) (s : List ℕ) (at k st n : ℕ) where
   by-tests : (a b : Bool)
-      → byRecord index last scopes s (pickRecord a Unknown (pickRecord b Record·Truncated (Whole k st start n)))
+      → byRecord index last scopes s at (pickRecord a Unknown (pickRecord b Record·Truncated (Whole k st n)))
       ≡ cond a (Stop UnknownKind)
       (cond b (Stop Truncated)
       (cond (not (a || follows last st)) (Stop OutOfOrder)
       (cond (exceeds (counted st (tallyOf index last scopes))) (Stop LimitExceeded)
-      (cond (not b && invalid k (take n (drop start s))) (Stop InvalidByte)
+      (cond (not b && invalid k (bodyAt s at n)) (Stop InvalidByte)
       (Next st n)))))
   unfolding stepOver
   by-tests true b = refl
@@ -57,11 +57,11 @@ module _ (index : List ℕ) (last scopes : ℕ) (s : List ℕ) (k st start n : �
   by-tests false false = refl
 
 pub step-record : (book : List ℕ) (at : ℕ) (index : List ℕ) (last scopes : ℕ) → at < length book
-    → byRecord index last scopes book (recordAt Book book at) ≡ stepAt book at (tallyOf index last scopes)
-unfolding stepAt stepOf recordAt metAt tallyOf
+    → byRecord index last scopes book at (recordAt Book book at) ≡ stepAt book at (tallyOf index last scopes)
+unfolding stepAt stepOf recordAt metAt tallyOf bodyAt
 step-record book at index last scopes h =
     rw (lt-ltb at (length book) h, length-drop (at + 1) book)
-    (by-tests index last scopes book (getD book at 0) (shapeIn Book (getD book at 0) .stage) (at + 1) (shapeIn Book (getD book at 0) .length)
+    (by-tests index last scopes book at (getD book at 0) (shapeIn Book (getD book at 0) .stage) (shapeIn Book (getD book at 0) .length)
     (eqb (shapeIn Book (getD book at 0) .stage) 0) (ltb (length book - (at + 1)) (shapeIn Book (getD book at 0) .length)))
 
 pub as-record : (book : List ℕ) (at : ℕ) (r : Record) → r ≡ bookRecordAt book at → r ≡ recordAt Book book at
@@ -69,34 +69,31 @@ unfolding bookRecordAt
 as-record book at r e = e
 
 pub by-record : (book : List ℕ) (at : ℕ) (index : List ℕ) (last scopes : ℕ) → at < length book → (r : Record) → r ≡ recordAt Book book at
-    → byRecord index last scopes book r ≡ stepAt book at (tallyOf index last scopes)
+    → byRecord index last scopes book at r ≡ stepAt book at (tallyOf index last scopes)
 by-record book at index last scopes h r e = rw e (step-record book at index last scopes h)
 
-pub whole-step : (book : List ℕ) (at : ℕ) (index : List ℕ) (last scopes : ℕ) → at < length book → (k st start n : ℕ) → Whole k st start n ≡ recordAt Book book at
-    → (e : ℕ) → e ≡ start + n → stepOver index last scopes k st n (take (e - start) (drop start book)) ≡ stepAt book at (tallyOf index last scopes)
-whole-step book at index last scopes h k st start n r e ee =
-    let q : e - start ≡ n = omega arith in
-    rw q (by-record book at index last scopes h (Whole k st start n) r)
+pub whole-step : (book : List ℕ) (at : ℕ) (index : List ℕ) (last scopes : ℕ) → at < length book → (k st n : ℕ) → Whole k st n ≡ recordAt Book book at
+    → (body : List ℕ) → body ≡ bodyAt book at n → stepOver index last scopes k st n body ≡ stepAt book at (tallyOf index last scopes)
+whole-step book at index last scopes h k st n r body eb = rw eb (by-record book at index last scopes h (Whole k st n) r)
 
 -- a whole record ends within the book, and has a stage
-pub record Standing (book : List ℕ) (st start n : ℕ) : Type 0 where
-  pub inside : start + n ≤ length book
+pub record Standing (book : List ℕ) (at st n : ℕ) : Type 0 where
+  pub inside : at + 1 + n ≤ length book
   pub known : 1 ≤ st
   pub below : st ≤ 5
 
-pub whole-record : (book : List ℕ) (at k st start n : ℕ) → Whole k st start n ≡ recordAt Book book at → Standing book st start n
+pub whole-record : (book : List ℕ) (at k st n : ℕ) → Whole k st n ≡ recordAt Book book at → Standing book at st n
 unfolding recordAt
-whole-record book at k st start n e = go (ltb at (length book)) (eqb (shapeIn Book (getD book at 0) .stage) 0) (ltb (length book - (at + 1)) (shapeIn Book (getD book at 0) .length)) refl refl refl e
+whole-record book at k st n e = go (ltb at (length book)) (eqb (shapeIn Book (getD book at 0) .stage) 0) (ltb (length book - (at + 1)) (shapeIn Book (getD book at 0) .length)) refl refl refl e
   where
     go : (a b c : Bool) → ltb at (length book) ≡ a → eqb (shapeIn Book (getD book at 0) .stage) 0 ≡ b → ltb (length book - (at + 1)) (shapeIn Book (getD book at 0) .length) ≡ c
-        → Whole k st start n ≡ pickRecord a (pickRecord b Unknown (pickRecord c Record·Truncated (Whole (getD book at 0) (shapeIn Book (getD book at 0) .stage) (at + 1) (shapeIn Book (getD book at 0) .length)))) End
-        → Standing book st start n
+        → Whole k st n ≡ pickRecord a (pickRecord b Unknown (pickRecord c Record·Truncated (Whole (getD book at 0) (shapeIn Book (getD book at 0) .stage) (shapeIn Book (getD book at 0) .length)))) End
+        → Standing book at st n
     go false b c p q r h = let z : _≡_ {A = ℕ} 0 1 = cc in absurd (omega arith)
     go true true c p q r h = let z : _≡_ {A = ℕ} 0 1 = cc in absurd (omega arith)
     go true false true p q r h = let z : _≡_ {A = ℕ} 0 1 = cc in absurd (omega arith)
     go true false false p q r h =
         let es : st ≡ shapeIn Book (getD book at 0) .stage = cc h in
-        let ea : start ≡ at + 1 = cc h in
         let en : n ≡ shapeIn Book (getD book at 0) .length = cc h in
         let i = ltb-true at (length book) p in
         let k = eqb-false (shapeIn Book (getD book at 0) .stage) 0 q in

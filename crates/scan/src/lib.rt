@@ -7,6 +7,7 @@ use index::SUB_SCOPES;
 use index::VARIABLES;
 use record::Medium;
 use record::Record;
+use record::body_at;
 use record::record_at;
 use validity::is_invalid;
 use validity::may_follow;
@@ -140,8 +141,8 @@ fn step_at(book: &[u8], index: &[u16], at: usize, last: usize, scopes: usize) ->
         Record::End => Step::Stop(Fault::Truncated),
         Record::Unknown => Step::Stop(Fault::UnknownKind),
         Record::Truncated => Step::Stop(Fault::Truncated),
-        Record::Whole(kind, stage, start, length) => {
-            let body = &book[start..start + length];
+        Record::Whole(kind, stage, length) => {
+            let body = body_at(book, at, length);
             step_over(index, last, scopes, kind, stage, length, body)
         }
     }

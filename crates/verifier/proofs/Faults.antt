@@ -7,16 +7,17 @@ use Prim.Native.Nat.{ℕ, suc, _+_, _-_, _<_, _≤_}
 use mathlib.Core.Path.{_≡_, refl, sym, ap, _∙_}
 use mathlib.Core.Bool.{Bool, true, false, not, _||_, or-false}
 use mathlib.Core.List.{List}
-use mathlib.Core.Logic.{⊎-elim}
+use mathlib.Core.Logic.{_⊎_, inl, inr, ⊎-elim}
 use native.Mathlib.Omega.{arith}
 use lib.ListN.{length, getD, take, drop, length-drop}
-use lib.Seq.{take-all}
+use lib.Seq.{getD-take}
 use lib.Dec.{eqb, ltb}
-use borrow.Author.Tests.{eq-eqb, ne-eqb, lt-ltb, le-ltb, ltb-true, ltb-false}
+use borrow.Author.Tests.{eq-eqb, ne-eqb, lt-ltb, le-ltb, ltb-true, ltb-false, eqb-true, eqb-false}
 use Rattle.laws.proofs.Booleans.{decide}
 use Rattle.book.specs.Records.{follows, invalid}
 use Rattle.machine.specs.Acceptance.{counted, faulty}
 use Rattle.record.specs.Kinds.{shapeIn, shapesOf, kinds}
+use Rattle.record.specs.Record.{bodyAt}
 use Rattle.record.specs.declared.Shape.{Shape}
 use Rattle.record.specs.declared.Medium.the-variants.{Code}
 use Rattle.verifier.specs.Pass.{countOf, faultyAt, exceedsWith, Limited}
@@ -60,16 +61,36 @@ or-group : (a b d : Bool) → (a || (b || d)) ≡ ((a || b) || d)
 or-group true b d = refl
 or-group false b d = refl
 
-valid : (k : ℕ) (body : List ℕ) → (shapeIn Code k .stage ≡ 0 → ⊥) → (shapeIn Code k .stage ≡ 2 → ⊥) → (k ≡ 4 → ⊥) → invalid k body ≡ false
+-- 8, 9 and 20 are unknown in code
+no-byte : (k : ℕ) (body : List ℕ) → (shapeIn Code k .stage ≡ 0 → ⊥) → (k ≡ 2 → ⊥) → (k ≡ 4 → ⊥) → invalid k body ≡ false
 unfolding invalid shapeIn shapesOf kinds
-valid k body zero two four =
+no-byte k body zero two four =
     rw (
-      ne-eqb k 2 (λ e. two (ap (λ (x : ℕ). shapeIn Code x .stage) e)),
+      ne-eqb k 2 two,
       ne-eqb k 8 (λ e. zero (ap (λ (x : ℕ). shapeIn Code x .stage) e)),
       ne-eqb k 9 (λ e. zero (ap (λ (x : ℕ). shapeIn Code x .stage) e)),
       ne-eqb k 4 four,
       ne-eqb k 20 (λ e. zero (ap (λ (x : ℕ). shapeIn Code x .stage) e)),
     )
+
+-- the kinds with such a byte look at no byte past their body
+one-byte : (k : ℕ) (rest : List ℕ) → (k ≡ 2) ⊎ (k ≡ 4) → invalid k (take (shapeIn Code k .length) rest) ≡ invalid k rest
+unfolding invalid shapeIn shapesOf kinds
+one-byte k rest (inl e) = rw (e, getD-take 1 rest 0 0 (omega arith))
+one-byte k rest (inr e) = rw (e, getD-take 1 rest 0 0 (omega arith))
+
+same-byte : (k : ℕ) (rest : List ℕ) → (shapeIn Code k .stage ≡ 0 → ⊥) → invalid k (take (shapeIn Code k .length) rest) ≡ invalid k rest
+same-byte k rest known =
+    ⊎-elim
+    (λ (q : eqb k 2 ≡ true). one-byte k rest (inl (eqb-true k 2 q)))
+    (λ (q : eqb k 2 ≡ false).
+    ⊎-elim
+    (λ (p : eqb k 4 ≡ true). one-byte k rest (inr (eqb-true k 4 p)))
+    (λ (p : eqb k 4 ≡ false).
+    no-byte k (take (shapeIn Code k .length) rest) known (eqb-false k 2 q) (eqb-false k 4 p)
+    ∙ sym (no-byte k rest known (eqb-false k 2 q) (eqb-false k 4 p)))
+    (decide (eqb k 4)))
+    (decide (eqb k 2))
 
 module _ (code : List ℕ) (at : ℕ) (u : Progress) (s : Shape) (es : s ≡ shapeIn Code (getD code at 0)) where
   tests-are : tests code at u s ≡ faultyAt code at u
@@ -107,18 +128,24 @@ module _ (code : List ℕ) (at : ℕ) (u : Progress) (s : Shape) (es : s ≡ sha
         pub fault-limit : c ≡ true → true ≡ faultyAt code at u
         fault-limit h = rw h at rest-is
 
-        pub fault-byte : c ≡ false → (kind : ℕ) → kind ≡ getD code at 0 → (m : Bool)
-            → m ≡ invalid kind (take (length code - (at + 1)) (drop (at + 1) code))
+        stage-at : s .stage ≡ shapeIn Code (getD code at 0) .stage
+        stage-at = ap (λ (x : Shape). x .stage) es
+
+        pub fault-byte : c ≡ false → (kind : ℕ) → kind ≡ getD code at 0 → (body : List ℕ) → body ≡ bodyAt code at (s .length) → (m : Bool)
+            → m ≡ invalid kind body
             → m ≡ faultyAt code at u
-        fault-byte h kind ek m em =
+        unfolding bodyAt
+        fault-byte h kind ek body eb m em =
             em
-            ∙ ap (λ (k : ℕ). invalid k (take (length code - (at + 1)) (drop (at + 1) code))) ek
-            ∙ ap (invalid (getD code at 0)) (take-all (length code - (at + 1)) (drop (at + 1) code) (rw length-drop (omega arith)))
+            ∙ ap (invalid kind) eb
+            ∙ ap (λ (k : ℕ). invalid k (take (s .length) (drop (at + 1) code))) ek
+            ∙ ap (λ (x : Shape). invalid (getD code at 0) (take (x .length) (drop (at + 1) code))) es
+            ∙ same-byte (getD code at 0) (drop (at + 1) code) (λ z. known (stage-at ∙ z))
             ∙ rw h at rest-is
 
-        -- a kind other than 4 that is not of stage 2 has no such byte: 8, 9 and 20 are unknown in code
+        -- a kind other than 4 that is not of stage 2 has no such byte
         pub fault-none : c ≡ false → (s .stage ≡ 2 → ⊥) → (kind : ℕ) → kind ≡ getD code at 0 → (kind ≡ 4 → ⊥) → false ≡ faultyAt code at u
-        fault-none h two kind ek four = sym (valid (getD code at 0) (drop (at + 1) code) (λ z. known (stage-at ∙ z)) (λ z. two (stage-at ∙ z)) (λ z. four (ek ∙ z))) ∙ rw h at rest-is
-          where
-            stage-at : s .stage ≡ shapeIn Code (getD code at 0) .stage
-            stage-at = ap (λ (x : Shape). x .stage) es
+        unfolding shapeIn shapesOf kinds
+        fault-none h two kind ek four =
+            sym (no-byte (getD code at 0) (drop (at + 1) code) (λ z. known (stage-at ∙ z))
+            (λ z. two (stage-at ∙ ap (λ (x : ℕ). shapeIn Code x .stage) z)) (λ z. four (ek ∙ z))) ∙ rw h at rest-is

@@ -2,6 +2,7 @@
 --     own-landed, given-landed          an own variable, and one with a distance behind it
 --     called-landed, sub-landed         a sub-scope's variable, a sub-scope
 --     jump-landed, plain-landed         a distance alone, nothing
+--     near-landing                      a landing is less than 65,536 bytes ahead
 --     not-called, is-called             the ways through `names_called`
 -- Assumes nothing.
 use Prim.Native.Nat.{ℕ, _+_, _*_, _<_}
@@ -14,6 +15,7 @@ use lib.Dec.{ltb}
 use Rattle.slices.specs.Bytes.{bigEndian}
 use Rattle.verifier.specs.Instructions.{namingOf, distancePlace, named, distanceOf}
 use Rattle.verifier.specs.Pass.{widthAt, namesAt, calledAt, aheadIf, Landed}
+use Rattle.verifier.specs.declared.Landing.the-variants.{Ahead}
 use Rattle.verifier.specs.declared.Progress.{Progress}
 
 module _ (kind : ℕ) (body heads sizes : List ℕ) (u : Progress) where
@@ -58,6 +60,10 @@ module _ (kind : ℕ) (body heads sizes : List ℕ) (u : Progress) where
   pub plain-landed : 0 ≡ namingOf kind → 0 ≡ distancePlace kind → Landed kind body heads sizes u (aheadIf true 0)
   unfolding namesAt named
   plain-landed n p = landed true 0 (rw (← n) refl) (nowhere p) (omega arith)
+
+  pub near-landing : (d : ℕ) → Landed kind body heads sizes u (Ahead d) → d < 65536
+  unfolding Landed
+  near-landing d h = h .2
 
 -- "a number naming nothing": a sub-scope that is not there, and one that is
 

@@ -10,11 +10,12 @@ use mathlib.Core.Bool.{Bool, true, false, _&&_, false≢true}
 use mathlib.Core.List.{List, _∷_, _++_, append-assoc}
 use mathlib.Core.Logic.{⊎-elim}
 use native.Mathlib.Omega.{arith}
-use lib.ListN.{length, getD, take, drop, set, length-set, length-drop, List·getD-append}
-use lib.Seq.{drop-drop, take-add, length-take-le, getD-take}
+use lib.ListN.{length, getD, take, drop, set, length-set, List·getD-append}
+use lib.Seq.{drop-drop, take-add, length-take-le}
 use lib.Dec.{eqb, ltb}
 use borrow.Author.Tests.{lt-ltb, ltb-true}
 use Rattle.laws.proofs.Booleans.{decide, both}
+use Rattle.record.specs.Record.{bodyAt}
 use Rattle.machine.specs.Blocks.{Block, Parsed, bodyLength, stageOf, variablesOf}
 use Rattle.machine.specs.Instructions.{instructionOf}
 use Rattle.machine.specs.Acceptance.{counted, sound, lands, fits, accepted}
@@ -108,13 +109,9 @@ module _ (code : List ℕ) (at : ℕ) (u : Progress) (spans heads places sizes r
   unfolding e b
   marks = rw body-is at (busy .marks)
 
-  same-instruction : instructionOf k (bs ++ left) ≡ instructionOf k rest
-  unfolding bs k rest
-  same-instruction =
-      local (getD code at 0) four (bs ++ left) rest
-      (λ i h.
-      List·getD-append bs left 0 i (let w = whole in omega arith)
-      ∙ getD-take (bodyLength (getD code at 0)) (drop (at + 1) code) i 0 h)
+  same-instruction : instructionOf k (bs ++ left) ≡ instructionOf k bs
+  unfolding k
+  same-instruction = local (getD code at 0) four (bs ++ left) bs (λ i h. List·getD-append bs left 0 i (let w = whole in omega arith))
 
   -- what the tables say of the sub-scope's variables
   called : ℕ → ℕ
@@ -125,13 +122,13 @@ module _ (code : List ℕ) (at : ℕ) (u : Progress) (spans heads places sizes r
   called-is a h = rw (busy .noted .subs a h) (sym (r .closed .wide (getD (blockAt code (u .blocks) .subScopes) a 0)))
 
   names : ℕ → ℕ → ℕ → Bool
-  names v s c = named (namingOf k) (getD rest 0 0) (getD rest 1 0) v s c
+  names v s c = named (namingOf k) (getD bs 0 0) (getD bs 1 0) v s c
 
   fit-is : fits e b (instructionOf k (bs ++ left)) left
-      ≡ (names (length (b .variables)) (length (b .subScopes)) (length (variablesOf e (getD (b .subScopes) (getD rest 0 0) 0)))
-      && lands left 0 (distanceOf (distancePlace k) rest))
+      ≡ (names (length (b .variables)) (length (b .subScopes)) (length (variablesOf e (getD (b .subScopes) (getD bs 0 0) 0)))
+      && lands left 0 (distanceOf (distancePlace k) bs))
   unfolding names k
-  fit-is = rw same-instruction (fits-parts e b (getD code at 0) four rest left)
+  fit-is = rw same-instruction (fits-parts e b (getD code at 0) four bs left)
 
   accepted-fit : accepted code ≡ true → Formed e b
   unfolding e b
@@ -157,23 +154,23 @@ module _ (code : List ℕ) (at : ℕ) (u : Progress) (spans heads places sizes r
       (busy .head .subsLeft ∙ ap (λ (p : Parsed). p .opened .subScopes) front ∙ no-more a .subScopes)
 
   parts-hold : accepted code ≡ true
-      → (names (length (b .variables)) (length (b .subScopes)) (length (variablesOf e (getD (b .subScopes) (getD rest 0 0) 0))) ≡ true)
-      × (lands left 0 (distanceOf (distancePlace k) rest) ≡ true)
+      → (names (length (b .variables)) (length (b .subScopes)) (length (variablesOf e (getD (b .subScopes) (getD bs 0 0) 0))) ≡ true)
+      × (lands left 0 (distanceOf (distancePlace k) bs) ≡ true)
   parts-hold a =
-      both (names (length (b .variables)) (length (b .subScopes)) (length (variablesOf e (getD (b .subScopes) (getD rest 0 0) 0))))
-      (lands left 0 (distanceOf (distancePlace k) rest))
+      both (names (length (b .variables)) (length (b .subScopes)) (length (variablesOf e (getD (b .subScopes) (getD bs 0 0) 0))))
+      (lands left 0 (distanceOf (distancePlace k) bs))
       (sym fit-is ∙ back-fits k bs left whole e b at (u .reach) ring marks (accepted-fit a .fit))
 
   -- what is refused
-  pub names-refused : namesAt (namingOf (getD code at 0)) (drop (at + 1) code) heads sizes u ≡ false → accepted code ≡ false
-  unfolding namesAt names called k rest
+  pub names-refused : namesAt (namingOf (getD code at 0)) (bodyAt code at (bodyLength (getD code at 0))) heads sizes u ≡ false → accepted code ≡ false
+  unfolding namesAt names called k rest bs bodyAt
   names-refused q =
       refused code
       (λ a.
       let f = parts-hold a in
-      let t = named-more (namingOf k) (getD rest 0 0) (getD rest 1 0) (length (b .variables)) (length (b .subScopes))
-      (length (variablesOf e (getD (b .subScopes) (getD rest 0 0) 0))) (u .variables) (u .subs) (called (getD rest 0 0)) (all-variables a)
-      (all-subs a) (λ h. sym (called-is (getD rest 0 0) (let s = all-subs a in omega arith))) (f .0) in
+      let t = named-more (namingOf k) (getD bs 0 0) (getD bs 1 0) (length (b .variables)) (length (b .subScopes))
+      (length (variablesOf e (getD (b .subScopes) (getD bs 0 0) 0))) (u .variables) (u .subs) (called (getD bs 0 0)) (all-variables a)
+      (all-subs a) (λ h. sym (called-is (getD bs 0 0) (let s = all-subs a in omega arith))) (f .0) in
       false≢true (sym q ∙ t))
 
   pub inside-refused : (d : ℕ) → at + 1 ≤ d → d < nextAt code at → 0 < mark ring d → accepted code ≡ false
@@ -183,25 +180,25 @@ module _ (code : List ℕ) (at : ℕ) (u : Progress) (spans heads places sizes r
       let n = length-below (getD code at 0) in
       refused code (λ a. back-inside k bs left whole e b at (u .reach) ring marks d h (omega arith) (omega arith) s (accepted-fit a .fit))
 
-  pub far-refused : length code - nextAt code at < distanceOf (distancePlace (getD code at 0)) (drop (at + 1) code) → accepted code ≡ false
-  unfolding k rest left
+  pub far-refused : length code - nextAt code at < distanceOf (distancePlace (getD code at 0)) (bodyAt code at (bodyLength (getD code at 0))) → accepted code ≡ false
+  unfolding k rest left bs bodyAt
   far-refused h =
       refused code
       (λ a.
-      let s = lands-short left 0 (distanceOf (distancePlace k) rest) (parts-hold a .1) in
+      let s = lands-short left 0 (distanceOf (distancePlace k) bs) (parts-hold a .1) in
       let o = ahead-short code (nextAt code at) in
       omega arith)
 
   -- what holds after it
-  module _ (named-ok : namesAt (namingOf (getD code at 0)) (drop (at + 1) code) heads sizes u ≡ true)
-      (d : ℕ) (ed : d ≡ distanceOf (distancePlace (getD code at 0)) (drop (at + 1) code)) (small : d < 65536)
+  module _ (named-ok : namesAt (namingOf (getD code at 0)) (bodyAt code at (bodyLength (getD code at 0))) heads sizes u ≡ true)
+      (d : ℕ) (ed : d ≡ distanceOf (distancePlace (getD code at 0)) (bodyAt code at (bodyLength (getD code at 0)))) (small : d < 65536)
       (near : nextAt code at + d ≤ length code) (clear : (p : ℕ) → at + 1 ≤ p → p < nextAt code at → mark ring p ≡ 0) where
     fit-lands : fits e b (instructionOf k (bs ++ left)) left ≡ lands left 0 d
-    unfolding namesAt names called k rest b
+    unfolding namesAt names called k rest bs b bodyAt
     fit-lands =
-        let t = named-more (namingOf k) (getD rest 0 0) (getD rest 1 0) (u .variables) (u .subs) (called (getD rest 0 0)) (length (b .variables))
-        (length (b .subScopes)) (length (variablesOf e (getD (b .subScopes) (getD rest 0 0) 0))) (busy .head .variablesRead)
-        (busy .head .subsRead) (λ h. called-is (getD rest 0 0) h) named-ok in
+        let t = named-more (namingOf k) (getD bs 0 0) (getD bs 1 0) (u .variables) (u .subs) (called (getD bs 0 0)) (length (b .variables))
+        (length (b .subScopes)) (length (variablesOf e (getD (b .subScopes) (getD bs 0 0) 0))) (busy .head .variablesRead)
+        (busy .head .subsRead) (λ h. called-is (getD bs 0 0) h) named-ok in
         fit-is ∙ rw (t, ed)
 
     marks-on : Marks e b left (nextAt code at) (farthest (u .reach) (nextAt code at - at) d)
@@ -281,61 +278,54 @@ module _ (code : List ℕ) (at : ℕ) (u : Progress) (spans heads places sizes r
 -- What the code reads
 
 -- the marks of an instruction and of its landing lie in the ring
-module _ (len : ℕ) (body : List ℕ) (at next : ℕ) (u : Progress) (ring : List ℕ) (i : Instructing len body at next u ring) where
+module _ (body : List ℕ) (left at next : ℕ) (u : Progress) (ring : List ℕ) (i : Instructing body left at next u ring) where
   pub here-room : at % 65536 < length ring
-  here-room = i .ringRoom at (omega arith)
+  here-room = let n = i .nextIs in i .ringRoom at (omega arith)
 
-  pub ahead-room : (d : ℕ) → d ≤ length body - len → (next % 65536 + d) % 65536 < length ring
-  ahead-room d near =
-      let n = i .nextIs in
-      let w = i .whole in
-      landing-room ring (at + 1 + length body) next d (i .ringRoom) (omega arith)
+  pub ahead-room : (d : ℕ) → d ≤ left → (next % 65536 + d) % 65536 < length ring
+  ahead-room d near = landing-room ring (next + left) next d (i .ringRoom) (omega arith)
 
-module _ (kind len : ℕ) (body : List ℕ) (at next : ℕ) (u : Progress) (heads sizes ring : List ℕ) where
-  names-at : (code : List ℕ) → kind ≡ getD code at 0 → body ≡ drop (at + 1) code
-      → namesAt (namingOf kind) body heads sizes u ≡ namesAt (namingOf (getD code at 0)) (drop (at + 1) code) heads sizes u
+module _ (kind : ℕ) (body : List ℕ) (left at next : ℕ) (u : Progress) (heads sizes ring : List ℕ) where
+  names-at : (code : List ℕ) → kind ≡ getD code at 0 → body ≡ bodyAt code at (bodyLength (getD code at 0))
+      → namesAt (namingOf kind) body heads sizes u ≡ namesAt (namingOf (getD code at 0)) (bodyAt code at (bodyLength (getD code at 0))) heads sizes u
   names-at code ek eb = rw (ek, eb)
 
   pub refuse-names : Landed kind body heads sizes u landing.Refused → (ring' : List ℕ)
-      → Instructed kind len body at next u heads sizes ring ring' Refused
+      → Instructed kind body left at next u heads sizes ring ring' Refused
   unfolding Landed
   refuse-names h ring' code spans places i rd =
       names-refused code at u spans heads places sizes ring rd (i .here) (i .fine) (i .stage)
       (sym (names-at code (i .kindIs) (i .bodyIs)) ∙ h)
 
   pub refuse-marks : (p : Bool) → Passed ring (at + 1) next p → p ≡ false → (ring' : List ℕ)
-      → Instructed kind len body at next u heads sizes ring ring' Refused
+      → Instructed kind body left at next u heads sizes ring ring' Refused
   refuse-marks p passed h ring' code spans places i rd =
       let t = passed .hit h in
       let l : t .0 < nextAt code at = let z = t .2 in let y = i .nextIs in omega arith in
       inside-refused code at u spans heads places sizes ring rd (i .here) (i .fine) (i .stage) (t .0) (t .1) l (t .3)
 
-  module _ (code : List ℕ) (i : AtInstruction code kind len body at next u) where
-    body-length : length body ≡ length code - (at + 1)
-    body-length = rw (i .bodyIs) (length-drop (at + 1) code)
+  distance-is : (code : List ℕ) → AtInstruction code kind body left at next u → (d : ℕ) → d ≡ distanceOf (distancePlace kind) body
+      → d ≡ distanceOf (distancePlace (getD code at 0)) (bodyAt code at (bodyLength (getD code at 0)))
+  distance-is code i d ed = ed ∙ rw (i .kindIs, i .bodyIs)
 
-    distance-is : (d : ℕ) → d ≡ distanceOf (distancePlace kind) body → d ≡ distanceOf (distancePlace (getD code at 0)) (drop (at + 1) code)
-    distance-is d ed = ed ∙ rw (i .kindIs, i .bodyIs)
-
-  pub refuse-far : (d : ℕ) → Landed kind body heads sizes u (Ahead d) → length body - len < d → (ring' : List ℕ)
-      → Instructed kind len body at next u heads sizes ring ring' Refused
+  pub refuse-far : (d : ℕ) → Landed kind body heads sizes u (Ahead d) → left < d → (ring' : List ℕ)
+      → Instructed kind body left at next u heads sizes ring ring' Refused
   unfolding Landed
   refuse-far d ed h ring' code spans places i rd =
-      let l = body-length code i in
-      let n = i .lengthIs in
+      let n = i .nextIs in
+      let l = i .leftIs in
       let f : length code - nextAt code at < d = omega arith in
       far-refused code at u spans heads places sizes ring rd (i .here) (i .fine) (i .stage) (rw (distance-is code i d (ed .1)) at f)
 
   pub take-instruction : (p : Bool) → Passed ring (at + 1) next p → p ≡ true → (d f : ℕ)
-      → Landed kind body heads sizes u (Ahead d) → d ≤ length body - len
+      → Landed kind body heads sizes u (Ahead d) → d ≤ left
       → f ≡ farthest (u .reach) (next - at) d
-      → Instructed kind len body at next u heads sizes ring (set (set ring (at % 65536) 0) ((next % 65536 + d) % 65536) 1)
+      → Instructed kind body left at next u heads sizes ring (set (set ring (at % 65536) 0) ((next % 65536 + d) % 65536) 1)
       (Next next (instructionRead u f))
   unfolding Landed
   take-instruction p passed clear d f ed near ef code spans places i rd =
       let n = i .nextIs in
-      let l = body-length code i in
-      let m = i .lengthIs in
+      let l = i .leftIs in
       let w = next-inside code at u spans heads places sizes ring rd (i .here) (i .fine) in
       let t =
       instruction-turn code at u spans heads places sizes ring rd (i .here) (i .fine) (i .stage)

@@ -10,13 +10,14 @@ use mathlib.Core.Bool.{Bool, true, false}
 use mathlib.Core.List.{List}
 use mathlib.Core.Logic.{⊎-elim}
 use native.Mathlib.Omega.{arith}
-use lib.ListN.{length, getD, take, drop, length-drop}
-use lib.Seq.{getD-drop, take-all, length-take-le}
+use lib.ListN.{length, getD, drop, length-drop}
+use lib.Seq.{getD-drop, length-take-le}
 use lib.Dec.{eqb}
 use borrow.Author.Tests.{eqb-true, eqb-false}
 use Rattle.laws.proofs.Booleans.{decide}
 use Rattle.machine.specs.Blocks.{stageOf}
 use Rattle.record.specs.Kinds.{shapeIn}
+use Rattle.record.specs.Record.{bodyAt}
 use Rattle.record.specs.declared.Shape.{Shape}
 use Rattle.record.specs.declared.Medium.the-variants.{Code}
 use Rattle.verifier.specs.Pass.{faultyAt, VariableRoom, VariableNoted, Reading, AtInstruction, AtHeading, Beginning, SubRoom, SubRead, Stepped, Instructing}
@@ -98,29 +99,35 @@ module _ (code : List ℕ) (at : ℕ) (u : Progress) (spans heads places sizes r
     four : stageOf (getD code at 0) ≡ 4
     four = sym stage-is ∙ is-four
 
-    pub makes-instructing : Instructing (s .length) (take (length code - (at + 1)) (drop (at + 1) code)) at (at + 1 + s .length) u ring
-    makes-instructing =
-        let l = length-take-le (length code - (at + 1)) (drop (at + 1) code) (rw length-drop (omega arith)) in
-        let w = next-within in
-        let o = in-order (u .stage) (stageOf (getD code at 0)) (is-clean code at u spans heads places sizes ring r here ok .ordered)
-        (rw four (omega arith)) in
-        record {
-          ringRoom = λ d h. r .sized .ringRoom d (omega arith);
-          nextIs = refl;
-          whole = omega arith;
-          short = rw es (length-below (getD code at 0));
-          blocks = r .busy (o .0) .head .room;
-        }
+    module _ (body : List ℕ) (eb : body ≡ bodyAt code at (s .length)) where
+      -- the body is whole
+      body-length : length body ≡ s .length
+      unfolding bodyAt
+      body-length = let w = next-within in rw eb (length-take-le (s .length) (drop (at + 1) code) (rw length-drop (omega arith)))
 
-    pub at-instruction : (kind : ℕ) → kind ≡ getD code at 0
-        → AtInstruction code kind (s .length) (take (length code - (at + 1)) (drop (at + 1) code)) at (at + 1 + s .length) u
-    at-instruction kind ek =
-        record {
-          here = here;
-          fine = ok;
-          kindIs = ek;
-          lengthIs = ap (λ (y : Shape). y .length) es;
-          bodyIs = take-all (length code - (at + 1)) (drop (at + 1) code) (rw length-drop (omega arith));
-          stage = four;
-          nextIs = next-is;
-        }
+      pub makes-instructing : Instructing body (length code - (at + 1 + s .length)) at (at + 1 + s .length) u ring
+      makes-instructing =
+          let l = body-length in
+          let w = next-within in
+          let m : s .length ≤ 4 = rw es (length-below (getD code at 0)) in
+          let o = in-order (u .stage) (stageOf (getD code at 0)) (is-clean code at u spans heads places sizes ring r here ok .ordered)
+          (rw four (omega arith)) in
+          record {
+            ringRoom = λ d h. r .sized .ringRoom d (omega arith);
+            nextIs = omega arith;
+            short = omega arith;
+            blocks = r .busy (o .0) .head .room;
+          }
+
+      pub at-instruction : (kind : ℕ) → kind ≡ getD code at 0
+          → AtInstruction code kind body (length code - (at + 1 + s .length)) at (at + 1 + s .length) u
+      at-instruction kind ek =
+          record {
+            here = here;
+            fine = ok;
+            kindIs = ek;
+            bodyIs = eb ∙ ap (λ (y : Shape). bodyAt code at (y .length)) es;
+            stage = four;
+            nextIs = next-is;
+            leftIs = refl;
+          }

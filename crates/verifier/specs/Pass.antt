@@ -8,6 +8,7 @@ use lib.Dec.{eqb, ltb}
 use Rattle.book.specs.Scopes.{sum}
 use Rattle.book.specs.Syntax.{typeOf}
 use Rattle.book.specs.declared.ValueType.the-variants.{YesNo}
+use Rattle.record.specs.Record.{bodyAt}
 use Rattle.machine.specs.Blocks.{Block, Parsed, emptyBlock, bodyLength, stageOf, parse, hasBlock, variablesOf}
 use Rattle.machine.specs.Acceptance.{Count, start, counted, faulty, sound, lands, allFit, weightIn, allWellFormed, accepted}
 use Rattle.verifier.specs.Instructions.{namingOf, distancePlace, named, distanceOf}
@@ -47,7 +48,7 @@ weightAt sizes i = getD sizes (i * 2) 0
 unfoldable pub widthAt : List ℕ → ℕ → ℕ
 widthAt sizes i = getD sizes (i * 2 + 1) 0
 
--- the numbers of an instruction, by what they name and all bytes after its kind, name something in the present block, as the tables have it
+-- the numbers of an instruction, by what they name and its body, name something in the present block, as the tables have it
 unfoldable pub namesAt : ℕ → List ℕ → List ℕ → List ℕ → Progress → Bool
 namesAt naming body heads sizes u =
     let a = getD body 0 0 in
@@ -64,7 +65,7 @@ abbrev pub aheadIf : Bool → ℕ → Landing
 aheadIf true d = Ahead d
 aheadIf false d = landing.Refused
 
--- an instruction, by its kind and all bytes after it, is refused where its numbers name nothing; else it lands where its distance says
+-- an instruction, by its kind and body, is refused where its numbers name nothing; else it lands where its distance says
 unfoldable pub Landed : ℕ → List ℕ → List ℕ → List ℕ → Progress → Landing → Type 0
 Landed kind body heads sizes u landing.Refused = namesAt (namingOf kind) body heads sizes u ≡ false
 Landed kind body heads sizes u (Ahead d) =
@@ -246,26 +247,25 @@ pub record AtHeading (code : List ℕ) (at : ℕ) (u : Progress) (spans heads pl
   pub here : at < length code
   pub noInstruction : stageOf (getD code at 0) ≡ 4 → ⊥
 
--- the record at a position is an instruction without fault, of a kind and a body's length, with all bytes after its kind
-pub record AtInstruction (code : List ℕ) (kind len : ℕ) (body : List ℕ) (at next : ℕ) (u : Progress) : Type 0 where
+-- the record at a position is an instruction without fault, of a kind and a body, with so many bytes of code left after it
+pub record AtInstruction (code : List ℕ) (kind : ℕ) (body : List ℕ) (left at next : ℕ) (u : Progress) : Type 0 where
   pub here : at < length code
   pub fine : faultyAt code at u ≡ false
   pub kindIs : kind ≡ getD code at 0
-  pub lengthIs : len ≡ bodyLength (getD code at 0)
-  pub bodyIs : body ≡ drop (at + 1) code
+  pub bodyIs : body ≡ bodyAt code at (bodyLength (getD code at 0))
   pub stage : stageOf (getD code at 0) ≡ 4
   pub nextIs : next ≡ at + 1 + bodyLength (getD code at 0)
+  pub leftIs : left ≡ length code - next
 
-pub record Instructing (len : ℕ) (body : List ℕ) (at next : ℕ) (u : Progress) (ring : List ℕ) : Type 0 where
-  pub ringRoom : RingRoom ring (at + 1 + length body)
-  pub nextIs : next ≡ at + 1 + len
-  pub whole : len ≤ length body
-  pub short : len ≤ 4
+pub record Instructing (body : List ℕ) (left at next : ℕ) (u : Progress) (ring : List ℕ) : Type 0 where
+  pub ringRoom : RingRoom ring (next + left)
+  pub nextIs : next ≡ at + 1 + length body
+  pub short : length body ≤ 4
   pub blocks : u .blocks < 32
 
-abbrev pub Instructed : ℕ → ℕ → List ℕ → ℕ → ℕ → Progress → List ℕ → List ℕ → List ℕ → List ℕ → Step → Type 0
-Instructed kind len body at next u heads sizes ring ring' r =
-    (code spans places : List ℕ) → AtInstruction code kind len body at next u → Reading code at u spans heads places sizes ring
+abbrev pub Instructed : ℕ → List ℕ → ℕ → ℕ → ℕ → Progress → List ℕ → List ℕ → List ℕ → List ℕ → Step → Type 0
+Instructed kind body left at next u heads sizes ring ring' r =
+    (code spans places : List ℕ) → AtInstruction code kind body left at next u → Reading code at u spans heads places sizes ring
     → Stepped code at spans heads places sizes ring' r
 
 -- the present block ends at a position

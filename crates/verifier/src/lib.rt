@@ -2,8 +2,20 @@
 //   sizes   of each of 32 scopes the weight of its block, then the number of its variables; 0 where it has no block
 //   ring    the landings of distances that lie ahead: a mark for each position, by its remainder modulo 65,536; short code has no more
 //           positions than a ring of 8,192 marks, or of 1,024
+use record::KIND_CALLED;
+use record::KIND_CONSTANT;
+use record::KIND_ENTER;
+use record::KIND_JUMP;
+use record::KIND_JUMP_IF_GIVEN;
+use record::KIND_JUMP_IF_NO;
+use record::KIND_OVERRIDE;
+use record::KIND_OWN;
+use record::KIND_SETTLE;
+use record::KIND_STORE;
+use record::KIND_TRY;
 use record::Medium;
 use record::Shape;
+use record::body_at;
 use record::shape_in;
 use slices::byte_at;
 use validity::is_invalid;
@@ -125,10 +137,10 @@ fn is_faulty(code: &[u8], at: usize, kind: u8, shape: Shape, u: Progress) -> boo
         return true;
     }
     if stage == 2 {
-        return is_invalid(kind, &code[start..]);
+        return is_invalid(kind, body_at(code, at, length));
     }
-    if kind == 4 {
-        return is_invalid(kind, &code[start..]);
+    if kind == KIND_CONSTANT {
+        return is_invalid(kind, body_at(code, at, length));
     }
     false
 }
@@ -223,29 +235,29 @@ fn ahead_if(there: bool, d: usize) -> Landing
     Landing::Refused
 }
 
-// Where an instruction lands, by its kind and all bytes after it, if its numbers name something: 6, 41 and 44 an own variable, 7 and 42 a
-// sub-scope and its variable, 43 a sub-scope. One without a distance lands at its own end.
+// Where an instruction lands, by its kind and body, if its numbers name something: an own variable, a sub-scope and its variable, or a
+// sub-scope. One without a distance lands at its own end.
 fn landing_of(kind: u8, body: &[u8], u: Progress, heads: &[u8], sizes: &[usize]) -> Landing
     requires { ⌜ u .blocks < 32 ⌝ }
     ensures { λ r. ⌜ Landed kind (now (body .entry)) (now (heads .entry)) (now (sizes .entry)) u r ⌝ }
 {
     match kind {
-        6 | 41 => ahead_if(names_below(body, u.variables), 0),
-        7 | 42 => ahead_if(names_called(body, u, heads, sizes), 0),
-        34 | 36 | 40 => Landing::Ahead(distance(body, 0)),
-        35 => Landing::Ahead(distance(body, 0)),
-        43 => ahead_if(names_below(body, u.subs), 0),
-        44 => ahead_if(names_below(body, u.variables), distance(body, 1)),
+        KIND_OWN | KIND_STORE => ahead_if(names_below(body, u.variables), 0),
+        KIND_CALLED | KIND_OVERRIDE => ahead_if(names_called(body, u, heads, sizes), 0),
+        KIND_JUMP | KIND_TRY | KIND_SETTLE => Landing::Ahead(distance(body, 0)),
+        KIND_JUMP_IF_NO => Landing::Ahead(distance(body, 0)),
+        KIND_ENTER => ahead_if(names_below(body, u.subs), 0),
+        KIND_JUMP_IF_GIVEN => ahead_if(names_below(body, u.variables), distance(body, 1)),
         _ => Landing::Ahead(0),
     }
 }
 
-// An instruction at a position, by its kind, its body's length and all bytes after its kind, up to the next record. One that lands past the
-// code's end, where the ring need not have a mark, is refused.
+// An instruction at a position, by its kind and body, up to the next record, with so many bytes of code left from there on. One that lands
+// past the code's end, where the ring need not have a mark, is refused.
 fn instruction(
     kind: u8,
-    length: usize,
     body: &[u8],
+    left: usize,
     at: usize,
     next: usize,
     u: Progress,
@@ -253,9 +265,9 @@ fn instruction(
     sizes: &[usize],
     ring: &mut [u8],
 ) -> Step
-    requires { ⌜ Instructing length (now body) at next u (now ring) ⌝ }
+    requires { ⌜ Instructing (now body) left at next u (now ring) ⌝ }
     ensures { λ r.
-        ⌜ Instructed kind length (now (body .entry)) at next u (now (heads .entry)) (now (sizes .entry)) (now (ring .entry)) (now (ring .exit)) r ⌝ }
+        ⌜ Instructed kind (now (body .entry)) left at next u (now (heads .entry)) (now (sizes .entry)) (now (ring .entry)) (now (ring .exit)) r ⌝ }
 {
     match landing_of(kind, body, u, heads, sizes) {
         Landing::Refused => Step::Refused,
@@ -263,7 +275,7 @@ fn instruction(
             if !unmarked(ring, at + 1, next) {
                 return Step::Refused;
             }
-            if body.len() - length < d {
+            if left < d {
                 return Step::Refused;
             }
             ring[at % 65536] = 0;
@@ -462,14 +474,14 @@ fn step_at(
     if is_faulty(code, at, kind, shape, u) {
         return Step::Refused;
     }
-    let start = at + 1;
     let length = shape.length;
+    let next = at + 1 + length;
     instruction(
         kind,
-        length,
-        &code[start..],
+        body_at(code, at, length),
+        code.len() - next,
         at,
-        start + length,
+        next,
         u,
         heads,
         sizes,

@@ -1,7 +1,6 @@
 -- `scan::step_at` meets its contract.
 -- Assumes nothing.
-use mathlib.Core.Path.{refl, sym, _∙_}
-use native.Mathlib.Omega.{arith}
+use mathlib.Core.Path.{sym, _∙_}
 use Rattle.record.specs.declared.Record.the-variants.{End, Unknown, Truncated}
 use Rattle.scan.proofs.Steps.{as-record, by-record, whole-step, whole-record}
 use borrow.Author.Needs.{needs}
@@ -23,20 +22,11 @@ enum-told-3 c = search needs
 enum-known-kind : tie.Need-enum-known-kind
 enum-known-kind c = search needs
 
-add-body : tie.Need-add-body
-add-body c = let w = whole-record _ _ _ _ _ _ (sym (c .before .kind .given .1) ∙ as-record _ _ _ (c .before .before .before .read-from .ensures)) in omega arith
-
-sub-body : tie.Need-sub-body
-sub-body c = search needs
-
-part-body-start : tie.Need-part-body-start
-part-body-start c = search needs
-
-part-body-end : tie.Need-part-body-end
-part-body-end c = let w = whole-record _ _ _ _ _ _ (sym (c .before .kind .given .1) ∙ as-record _ _ _ (c .before .before .before .read-from .ensures)) in omega arith
+body-at-requires : tie.Need-body-at-requires
+body-at-requires c κs = search needs
 
 step-over-requires : tie.Need-step-over-requires
-step-over-requires c κs = let w = whole-record _ _ _ _ _ _ (sym (c .before .before .kind .given .1) ∙ as-record _ _ _ (c .before .before .before .before .read-from .ensures)) in (c .before .before .before .before .before .before .before .pre .1, w .known, w .below)
+step-over-requires c κs = let w = whole-record _ _ _ _ _ (sym (c .before .before .kind .given .1) ∙ as-record _ _ _ (c .before .before .before .before .read-from .ensures)) in (c .before .before .before .before .before .before .before .pre .1, w .known, w .below)
 
 returns : tie.Need-returns
 returns c = by-record _ _ _ _ _ (c .before .before .before .before .before .pre .0) End (sym (c .enum-told .given .1) ∙ as-record _ _ _ (c .before .before .read-from .ensures))
@@ -48,7 +38,7 @@ returns-3 : tie.Need-returns-3
 returns-3 c = by-record _ _ _ _ _ (c .before .before .before .before .before .pre .0) Truncated (sym (c .enum-told3 .given .1) ∙ as-record _ _ _ (c .before .before .read-from .ensures))
 
 returns-4 : tie.Need-returns-4
-returns-4 c = c .step-over .ensures ∙ whole-step _ _ _ _ _ (c .before .before .before .before .before .before .before .before .pre .0) _ _ _ _ (sym (c .before .before .before .kind .given .1) ∙ as-record _ _ _ (c .before .before .before .before .before .read-from .ensures)) _ refl
+returns-4 c = c .step-over .ensures ∙ whole-step _ _ _ _ _ (c .before .before .before .before .before .before .before .before .pre .0) _ _ _ (sym (c .before .before .before .kind .given .1) ∙ as-record _ _ _ (c .before .before .before .before .before .read-from .ensures)) _ (c .before .body-at .ensures)
 
 pub step-at-spec : {M : Type 1} → statement M
 step-at-spec =
@@ -59,10 +49,7 @@ step-at-spec =
     enum-told-2
     enum-told-3
     enum-known-kind
-    add-body
-    sub-body
-    part-body-start
-    part-body-end
+    body-at-requires
     step-over-requires
     returns
     returns-2

@@ -2,6 +2,7 @@
 -- Assumes nothing.
 use lib.ListN.{length-set}
 use Rattle.verifier.proofs.Steps.{here-room, ahead-room, refuse-names, refuse-marks, refuse-far, take-instruction}
+use Rattle.verifier.proofs.Landings.{near-landing}
 use borrow.Author.Tests.{not-true, not-false}
 use mathlib.Core.List.{[]}
 use native.Mathlib.Omega.{arith}
@@ -30,9 +31,6 @@ same-length c = search needs
 returns : tie.Need-returns
 returns c = refuse-marks _ _ _ _ _ _ _ _ _ _ (c .before .unmarked .ensures) (not-true _ (c .if1 .taken)) []
 
-sub-if2 : tie.Need-sub-if2
-sub-if2 c = search needs
-
 same-length-2 : tie.Need-same-length-2
 same-length-2 c = search needs
 
@@ -43,7 +41,7 @@ slice-write-ring : tie.Need-slice-write-ring
 slice-write-ring c = here-room _ _ _ _ _ _ (c .before .before .before .before .before .before .before .before .before .before .before .before .pre)
 
 add-ring : tie.Need-add-ring
-add-ring c = search needs
+add-ring c = let l = near-landing _ _ _ _ _ _ (rw (c .before .before .before .before .before .d .given .1) at (c .before .before .before .before .before .before .before .landing-of .ensures)) in omega arith
 
 slice-write-ring-2 : tie.Need-slice-write-ring-2
 slice-write-ring-2 c = simp length-set (ahead-room _ _ _ _ _ _ (c .before .before .before .before .before .before .before .before .before .before .before .before .pre) _ (c .if2 .left))
@@ -74,7 +72,6 @@ instruction-spec =
     unmarked-requires
     same-length
     returns
-    sub-if2
     same-length-2
     returns-2
     slice-write-ring

@@ -30,35 +30,23 @@ too-many-requires c κs = search needs
 returns-4 : tie.Need-returns-4
 returns-4 c = fault-limit _ _ _ _ (c .before .before .before .before .before .before .before .pre .3) (c .before .before .before .before .before .if1 .left) (c .before .before .before .before .if2 .left) _ (c .before .before .before .may-follow .ensures) (not-false _ (c .before .before .if3 .left)) _ (c .before .too-many .ensures) (c .if4 .taken)
 
-sub-is-invalid : tie.Need-sub-is-invalid
-sub-is-invalid c = search needs
-
-part-is-invalid-start : tie.Need-part-is-invalid-start
-part-is-invalid-start c = search needs
-
-part-is-invalid-end : tie.Need-part-is-invalid-end
-part-is-invalid-end c = search needs
+body-at-requires : tie.Need-body-at-requires
+body-at-requires c κs = search needs
 
 is-invalid-requires : tie.Need-is-invalid-requires
 is-invalid-requires c κs = search needs
 
 returns-5 : tie.Need-returns-5
-returns-5 c = fault-byte _ _ _ _ (c .before .before .before .before .before .before .before .before .before .before .pre .3) (c .before .before .before .before .before .before .before .before .if1 .left) (c .before .before .before .before .before .before .before .if2 .left) _ (c .before .before .before .before .before .before .may-follow .ensures) (not-false _ (c .before .before .before .before .before .if3 .left)) _ (c .before .before .before .before .too-many .ensures) (c .before .before .before .if4 .left) _ (c .before .before .before .before .before .before .before .before .before .before .pre .2) _ (c .is-invalid .ensures)
+returns-5 c = fault-byte _ _ _ _ (c .before .before .before .before .before .before .before .before .before .before .pre .3) (c .before .before .before .before .before .before .before .before .if1 .left) (c .before .before .before .before .before .before .before .if2 .left) _ (c .before .before .before .before .before .before .may-follow .ensures) (not-false _ (c .before .before .before .before .before .if3 .left)) _ (c .before .before .before .before .too-many .ensures) (c .before .before .before .if4 .left) _ (c .before .before .before .before .before .before .before .before .before .before .pre .2) _ (c .before .body-at .ensures) _ (c .is-invalid .ensures)
 
-sub-is-invalid-2 : tie.Need-sub-is-invalid-2
-sub-is-invalid-2 c = search needs
-
-part-is-invalid-start-2 : tie.Need-part-is-invalid-start-2
-part-is-invalid-start-2 c = search needs
-
-part-is-invalid-end-2 : tie.Need-part-is-invalid-end-2
-part-is-invalid-end-2 c = search needs
+body-at-requires-2 : tie.Need-body-at-requires-2
+body-at-requires-2 c κs = search needs
 
 is-invalid-requires-2 : tie.Need-is-invalid-requires-2
 is-invalid-requires-2 c κs = search needs
 
 returns-6 : tie.Need-returns-6
-returns-6 c = fault-byte _ _ _ _ (c .before .before .before .before .before .before .before .before .before .before .before .pre .3) (c .before .before .before .before .before .before .before .before .before .if1 .left) (c .before .before .before .before .before .before .before .before .if2 .left) _ (c .before .before .before .before .before .before .before .may-follow .ensures) (not-false _ (c .before .before .before .before .before .before .if3 .left)) _ (c .before .before .before .before .before .too-many .ensures) (c .before .before .before .before .if4 .left) _ (c .before .before .before .before .before .before .before .before .before .before .before .pre .2) _ (c .is-invalid2 .ensures)
+returns-6 c = fault-byte _ _ _ _ (c .before .before .before .before .before .before .before .before .before .before .before .pre .3) (c .before .before .before .before .before .before .before .before .before .if1 .left) (c .before .before .before .before .before .before .before .before .if2 .left) _ (c .before .before .before .before .before .before .before .may-follow .ensures) (not-false _ (c .before .before .before .before .before .before .if3 .left)) _ (c .before .before .before .before .before .too-many .ensures) (c .before .before .before .before .if4 .left) _ (c .before .before .before .before .before .before .before .before .before .before .before .pre .2) _ (c .before .body-at2 .ensures) _ (c .is-invalid2 .ensures)
 
 returns-7 : tie.Need-returns-7
 returns-7 c = fault-none _ _ _ _ (c .before .before .before .before .before .before .before .before .before .pre .3) (c .before .before .before .before .before .before .before .if1 .left) (c .before .before .before .before .before .before .if2 .left) _ (c .before .before .before .before .before .may-follow .ensures) (not-false _ (c .before .before .before .before .if3 .left)) _ (c .before .before .before .too-many .ensures) (c .before .before .if4 .left) (c .before .if5 .left) _ (c .before .before .before .before .before .before .before .before .before .pre .2) (c .if6 .left)
@@ -75,14 +63,10 @@ is-faulty-spec =
     returns-3
     too-many-requires
     returns-4
-    sub-is-invalid
-    part-is-invalid-start
-    part-is-invalid-end
+    body-at-requires
     is-invalid-requires
     returns-5
-    sub-is-invalid-2
-    part-is-invalid-start-2
-    part-is-invalid-end-2
+    body-at-requires-2
     is-invalid-requires-2
     returns-6
     returns-7)

@@ -41,23 +41,20 @@ is-faulty-requires c κs = search needs
 returns-2 : tie.Need-returns-2
 returns-2 c = faulty-refused _ _ _ (c .before .before .before .before .before .before .before .before .before .before .before .before .pre .0) (c .before .before .before .before .before .before .before .before .before .before .before .before .pre .1 .sound) (sym (c .before .is-faulty .ensures) ∙ c .if2 .taken)
 
-add-start : tie.Need-add-start
-add-start c = search needs
+add-next : tie.Need-add-next
+add-next c = search needs
+
+add-next-2 : tie.Need-add-next-2
+add-next-2 c = let h = next-within _ _ _ _ _ _ _ _ (c .before .before .before .before .before .before .before .before .before .before .before .before .pre .1) (c .before .before .before .before .before .before .before .before .before .before .before .before .pre .0) _ (c .before .is-faulty .ensures) (c .if2 .left) _ (c .before .before .before .before .shape-in .ensures) in omega arith
+
+body-at-requires : tie.Need-body-at-requires
+body-at-requires c κs = search needs
 
 sub-instruction : tie.Need-sub-instruction
-sub-instruction c = search needs
-
-part-instruction-start : tie.Need-part-instruction-start
-part-instruction-start c = search needs
-
-part-instruction-end : tie.Need-part-instruction-end
-part-instruction-end c = search needs
-
-add-instruction : tie.Need-add-instruction
-add-instruction c = let h = next-within _ _ _ _ _ _ _ _ (c .before .before .before .before .before .before .before .before .before .before .before .before .before .pre .1) (c .before .before .before .before .before .before .before .before .before .before .before .before .before .pre .0) _ (c .before .before .is-faulty .ensures) (c .before .if2 .left) _ (c .before .before .before .before .before .shape-in .ensures) in omega arith
+sub-instruction c = let h = next-within _ _ _ _ _ _ _ _ (c .before .before .before .before .before .before .before .before .before .before .before .before .before .pre .1) (c .before .before .before .before .before .before .before .before .before .before .before .before .before .pre .0) _ (c .before .before .is-faulty .ensures) (c .before .if2 .left) _ (c .before .before .before .before .before .shape-in .ensures) in omega arith
 
 instruction-requires : tie.Need-instruction-requires
-instruction-requires c κs = makes-instructing _ _ _ _ _ _ _ _ (c .before .before .before .before .before .before .before .before .before .before .before .before .before .before .before .before .pre .1) (c .before .before .before .before .before .before .before .before .before .before .before .before .before .before .before .before .pre .0) _ (c .before .before .before .before .before .is-faulty .ensures) (c .before .before .before .before .if2 .left) _ (c .before .before .before .before .before .before .before .before .shape-in .ensures) (c .before .before .before .before .before .before .if1 .left)
+instruction-requires c κs = makes-instructing _ _ _ _ _ _ _ _ (c .before .before .before .before .before .before .before .before .before .before .before .before .before .before .before .before .pre .1) (c .before .before .before .before .before .before .before .before .before .before .before .before .before .before .before .before .pre .0) _ (c .before .before .before .before .before .is-faulty .ensures) (c .before .before .before .before .if2 .left) _ (c .before .before .before .before .before .before .before .before .shape-in .ensures) (c .before .before .before .before .before .before .if1 .left) _ (c .before .before .before .body-at .ensures)
 
 same-length-6 : tie.Need-same-length-6
 same-length-6 c = search needs
@@ -69,7 +66,7 @@ same-length-8 : tie.Need-same-length-8
 same-length-8 c = search needs
 
 returns-3 : tie.Need-returns-3
-returns-3 c = c .before .before .instruction .ensures _ _ _ (at-instruction _ _ _ _ _ _ _ _ (c .before .before .before .before .before .before .before .before .before .before .before .before .before .before .before .before .before .before .before .pre .1) (c .before .before .before .before .before .before .before .before .before .before .before .before .before .before .before .before .before .before .before .pre .0) _ (c .before .before .before .before .before .before .before .before .is-faulty .ensures) (c .before .before .before .before .before .before .before .if2 .left) _ (c .before .before .before .before .before .before .before .before .before .before .before .shape-in .ensures) (c .before .before .before .before .before .before .before .before .before .if1 .left) _ refl) (c .before .before .before .before .before .before .before .before .before .before .before .before .before .before .before .before .before .before .before .pre .1)
+returns-3 c = c .before .before .instruction .ensures _ _ _ (at-instruction _ _ _ _ _ _ _ _ (c .before .before .before .before .before .before .before .before .before .before .before .before .before .before .before .before .before .before .before .pre .1) (c .before .before .before .before .before .before .before .before .before .before .before .before .before .before .before .before .before .before .before .pre .0) _ (c .before .before .before .before .before .before .before .before .is-faulty .ensures) (c .before .before .before .before .before .before .before .if2 .left) _ (c .before .before .before .before .before .before .before .before .before .before .before .shape-in .ensures) (c .before .before .before .before .before .before .before .before .before .if1 .left) _ (c .before .before .before .before .before .before .body-at .ensures) _ refl) (c .before .before .before .before .before .before .before .before .before .before .before .before .before .before .before .before .before .before .before .pre .1)
 
 pub step-at-spec : {M : Type 1} → statement M
 step-at-spec =
@@ -86,11 +83,10 @@ step-at-spec =
     returns
     is-faulty-requires
     returns-2
-    add-start
+    add-next
+    add-next-2
+    body-at-requires
     sub-instruction
-    part-instruction-start
-    part-instruction-end
-    add-instruction
     instruction-requires
     same-length-6
     same-length-7
