@@ -6,6 +6,8 @@ use lib.ListN.{getD, drop}
 use Rattle.record.specs.Kinds.{shapeIn}
 use Rattle.record.specs.Record.{recordAt}
 use Rattle.record.specs.declared.Record.{Record}
+use Rattle.record.specs.declared.Record.the-variants.{End, Unknown, Whole}
+use Rattle.record.specs.declared.Record.the-variants.{Truncated as Record·Truncated}
 use Rattle.record.specs.declared.Medium.the-variants.{Book}
 use Rattle.book.specs.declared.Tally.{Tally}
 use Rattle.answers.specs.declared.Fault.the-variants.{Truncated, UnknownKind, OutOfOrder, LimitExceeded, InvalidByte}
@@ -27,6 +29,17 @@ stepOf m =
 -- what stands at a position of a book
 unfoldable pub bookRecordAt : List ℕ → ℕ → Record
 bookRecordAt bytes at = recordAt Book bytes at
+
+-- where a record that stands at a position ends; at that position, if it is not whole
+abbrev pub endOf : ℕ → Record → ℕ
+endOf at End = at
+endOf at Unknown = at
+endOf at Record·Truncated = at
+endOf at (Whole k s n) = at + 1 + n
+
+-- "reading goes on from the record after the last one read"
+unfoldable pub endAt : List ℕ → ℕ → ℕ
+endAt bytes at = endOf at (bookRecordAt bytes at)
 
 -- the record that begins at a position
 unfoldable pub metAt : List ℕ → ℕ → Tally → Met

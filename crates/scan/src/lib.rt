@@ -14,7 +14,7 @@ use validity::may_follow;
 ghost use mathlib.Core.Path.{_≡_};
 ghost use Prim.Native.Nat.{_<_, _≤_};
 ghost use lib.ListN.{length};
-ghost use Rattle.scan.specs.Step.{bookRecordAt, stepAt, stepOver};
+ghost use Rattle.scan.specs.Step.{bookRecordAt, endAt, stepAt, stepOver};
 ghost use Rattle.scan.specs.Counting.{slotOf, numberOf, scopesWith, tallyOf, Counts, Counting};
 ghost use Rattle.scan.specs.Filling.{Room, stored, Blank, Recorded};
 
@@ -85,6 +85,18 @@ fn book_record_at(book: &[u8], at: usize) -> Record
     record_at(Medium::Book, book, at)
 }
 
+// The position after the record at a position; the same position where no whole record stands.
+fn end_at(book: &[u8], at: usize) -> usize
+    ensures { λ r. ⌜ r ≡ endAt (now (book .entry)) at ⌝ }
+{
+    match book_record_at(book, at) {
+        Record::End => at,
+        Record::Unknown => at,
+        Record::Truncated => at,
+        Record::Whole(_, _, length) => at + 1 + length,
+    }
+}
+
 // A reader of a book, from a position on.
 fn open_at<'a>(src: &'a [u8], at: usize) -> Reader<'a>
     ensures { λ r. ⌜ (r .src ≡ src .entry) × (r .at ≡ at) ⌝ }
@@ -92,18 +104,35 @@ fn open_at<'a>(src: &'a [u8], at: usize) -> Reader<'a>
     Reader { src, at }
 }
 
-// The record that a reader reads next. Reading goes on where its body ends.
+// What stands at a reader's position.
 fn next<'a>(r: Reader<'a>) -> Record
     ensures { λ s. ⌜ s ≡ bookRecordAt (now (r .entry .src)) (r .entry .at) ⌝ }
 {
     book_record_at(r.src, r.at)
 }
 
-// From a book and a position to a reader and back.
+// The reader after the record at a reader's position.
+fn after<'a>(r: Reader<'a>) -> Reader<'a>
+    ensures { λ s. ⌜ (s .src ≡ r .entry .src) × (s .at ≡ endAt (now (r .entry .src)) (r .entry .at)) ⌝ }
+{
+    Reader {
+        src: r.src,
+        at: end_at(r.src, r.at),
+    }
+}
+
+// From a book and a position to a reader and back: what stands there, and the position of the reader after it.
 fn read_from(book: &[u8], at: usize) -> Record
     ensures { λ r. ⌜ r ≡ bookRecordAt (now (book .entry)) at ⌝ }
 {
     next(open_at(book, at))
+}
+
+fn read_on(book: &[u8], at: usize) -> usize
+    ensures { λ r. ⌜ r ≡ endAt (now (book .entry)) at ⌝ }
+{
+    let reader = after(open_at(book, at));
+    reader.at
 }
 
 // A whole record after one of the stage `last`, the index having those before it.
