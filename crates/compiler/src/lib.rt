@@ -4,9 +4,11 @@ use answers::Judged;
 use answers::Refusal;
 use emitter::emit_blocks;
 use judge::load;
+use scan::has_few_scopes;
 ghost use mathlib.Core.Path.{_≡_};
 ghost use lib.ListN.{length};
 ghost use Rattle.compiler.specs.Compile.{Compiles};
+ghost use Rattle.scan.specs.Filling.{Unfilled};
 ghost use Rattle.emitter.specs.Pieces.{Tabled};
 
 // Copies bytes into memory of their length.
@@ -72,17 +74,29 @@ fn compile_accepted(
     compile_through(book, index, blocks, orders, n, &mut room, code)
 }
 
+// Compiles a book into lent memory, with an empty index.
+fn compile_in(book: &[u8], index: &mut [u16], code: &mut [u8]) -> Compiled
+    requires { ⌜ Unfilled (now book) (now index) ⌝ }
+    ensures { λ r. ⌜ Compiles (now (book .entry)) (now (code .entry)) r (now (code .exit)) ⌝ }
+{
+    let mut blocks = [0u8; 32];
+    let mut weights = [0u16; 32];
+    let mut orders = [0u8; 1280];
+    let judged = load(book, index, &mut blocks, &mut weights, &mut orders);
+    match judged {
+        Judged::Accepted(n) => { compile_accepted(book, index, &blocks, &orders, n, code) }
+        Judged::Refused(f) => Compiled::Refused(Refusal::Book(f)),
+    }
+}
+
 // Compiles a book into lent memory: the length written. A refusal leaves every byte as it was.
 pub fn compile(book: &[u8], code: &mut [u8]) -> Compiled
     ensures { λ r. ⌜ Compiles (now (book .entry)) (now (code .entry)) r (now (code .exit)) ⌝ }
 {
-    let mut index = [0u16; 13504];
-    let mut blocks = [0u8; 32];
-    let mut weights = [0u16; 32];
-    let mut orders = [0u8; 1280];
-    let judged = load(book, &mut index, &mut blocks, &mut weights, &mut orders);
-    match judged {
-        Judged::Accepted(n) => { compile_accepted(book, &index, &blocks, &orders, n, code) }
-        Judged::Refused(f) => Compiled::Refused(Refusal::Book(f)),
+    if has_few_scopes(book) {
+        let mut few = [0u16; 3376];
+        return compile_in(book, &mut few, code);
     }
+    let mut all = [0u16; 13504];
+    compile_in(book, &mut all, code)
 }

@@ -7,6 +7,8 @@ use judge::load;
 use links::fill_all_links;
 use loaded::run_loaded;
 use results::result_length;
+use scan::has_few_scopes;
+ghost use Rattle.scan.specs.Filling.{Unfilled};
 ghost use Rattle.links.specs.Links.{Blanks};
 ghost use Rattle.loaded.specs.Loaded.{Replied};
 ghost use Rattle.evaluator.specs.Service.{Tabled, Asked, Evaluated};
@@ -92,19 +94,37 @@ fn evaluate_accepted(
     run(book, index, orders, n, i, &given, results)
 }
 
+// Evaluates a scope of a book with an empty index.
+fn evaluate_in(
+    book: &[u8],
+    index: &mut [u16],
+    scope: usize,
+    inputs: &[u8],
+    results: &mut [u8],
+) -> Answer
+    requires { ⌜ Unfilled (now book) (now index) ⌝ }
+    ensures { λ r. ⌜ Evaluated (now (book .entry)) scope (now (inputs .entry)) (now (results .entry)) r (now (results .exit)) ⌝ }
+{
+    let mut blocks = [0u8; 32];
+    let mut weights = [0u16; 32];
+    let mut orders = [0u8; 1280];
+    let judged = load(book, index, &mut blocks, &mut weights, &mut orders);
+    match judged {
+        Judged::Accepted(n) => {
+            evaluate_accepted(book, index, &orders, n, scope, inputs, results)
+        }
+        Judged::Refused(f) => Answer::Refused(Refusal::Book(f)),
+    }
+}
+
 // Evaluates a scope of a book with an input list. The results are written only where the run ends in values.
 pub fn evaluate(book: &[u8], scope: usize, inputs: &[u8], results: &mut [u8]) -> Answer
     ensures { λ r. ⌜ Evaluated (now (book .entry)) scope (now (inputs .entry)) (now (results .entry)) r (now (results .exit)) ⌝ }
 {
-    let mut index = [0u16; 13504];
-    let mut blocks = [0u8; 32];
-    let mut weights = [0u16; 32];
-    let mut orders = [0u8; 1280];
-    let judged = load(book, &mut index, &mut blocks, &mut weights, &mut orders);
-    match judged {
-        Judged::Accepted(n) => {
-            evaluate_accepted(book, &index, &orders, n, scope, inputs, results)
-        }
-        Judged::Refused(f) => Answer::Refused(Refusal::Book(f)),
+    if has_few_scopes(book) {
+        let mut few = [0u16; 3376];
+        return evaluate_in(book, &mut few, scope, inputs, results);
     }
+    let mut all = [0u16; 13504];
+    evaluate_in(book, &mut all, scope, inputs, results)
 }

@@ -1,19 +1,19 @@
 -- Laws of the index, and of the records that are found by it.
---     no-row, column                       a column of a row
+--     no-row, row-past, column             a column of a row, and where there is none
 --     Standing, standing, past             a record below the count of its sort, and a number past it, for every sort
 --     variable-here .. clause-past         the same for each sort
 -- Assumes nothing.
 use Prim.Native.Nat.{ℕ, _+_, _*_, _<_, _≤_}
-use mathlib.Core.Path.{_≡_, sym}
-use mathlib.Core.Bool.{true, false}
-use mathlib.Core.List.{List}
+use mathlib.Core.Path.{_≡_, refl, sym}
+use mathlib.Core.Bool.{Bool, true, false, cond, _&&_}
+use mathlib.Core.List.{List, []}
 use mathlib.Core.Logic.{⊎-elim}
 use native.Mathlib.Omega.{arith}
 use lib.ListN.{length, getD, List·getD-eq-default}
 use lib.Dec.{ltb}
-use borrow.Author.Tests.{lt-ltb, le-ltb, ltb-true}
+use borrow.Author.Tests.{lt-ltb, le-ltb, ltb-true, ltb-false}
 use Rattle.laws.proofs.Booleans.{decide}
-use Rattle.book.specs.Syntax.{noNode}
+use Rattle.book.specs.Syntax.{Scope, emptyScope, noNode}
 use Rattle.book.specs.Decode.{scopesOf}
 use Rattle.book.specs.References.{scopeAt, noClause}
 use Rattle.book.specs.Positions.{variableAt, subScopeAt, nodeAt, clauseAt, variableFrom, subScopeFrom, nodeFrom, clauseFrom, nodeLength, Found}
@@ -25,30 +25,51 @@ module _ (index : List ℕ) (i k : ℕ) where
   unfolding indexAt
   no-row h = simp (le-ltb i 32 h)
 
+  pub row-past : length index ≤ i * 422 + k → _≡_ {A = ℕ} 0 (indexAt index i k)
+  unfolding indexAt
+  row-past h = go (ltb i 32 && ltb k 422)
+    where
+      go : (b : Bool) → _≡_ {A = ℕ} 0 (cond b (getD index (i * 422 + k) 0) 0)
+      go true = sym (List·getD-eq-default index 0 h)
+      go false = refl
+
   pub column : i < 32 → k < 422 → getD index (i * 422 + k) 0 ≡ indexAt index i k
   unfolding indexAt
   column h l = rw (lt-ltb i 32 h, lt-ltb k 422 l)
 
-  row-of : (n : ℕ) → n < indexAt index i k → i < 32
-  unfolding indexAt
-  row-of n l =
-      ⊎-elim
-      (λ (q : ltb i 32 ≡ true). ltb-true i 32 q)
-      (λ (q : ltb i 32 ≡ false). let h : n < 0 = rw q at l in absurd (omega arith))
-      (decide (ltb i 32))
+-- a scope that has records is there
+there : {A : Type 0} (book : List Scope) (i : ℕ) (part : Scope → List A) → part emptyScope ≡ [] → (n : ℕ) → n < length (part (scopeAt book i)) → i < length book
+there book i part none n l =
+    ⊎-elim
+    (λ (q : ltb i (length book) ≡ true). ltb-true i (length book) q)
+    (λ (q : ltb i (length book) ≡ false).
+    let e : scopeAt book i ≡ emptyScope = List·getD-eq-default book emptyScope (ltb-false i (length book) q) in
+    let z : length (part (scopeAt book i)) ≡ 0 = rw (e, none) in
+    absurd (omega arith))
+    (decide (ltb i (length book)))
 
 -- the record at a column of a scope's row is x
 pub record Standing {A : Type 0} (from : List ℕ → ℕ → A) (long : ℕ → ℕ) (bytes index : List ℕ) (i k : ℕ) (x : A) : Type 0 where
   pub row : i < 32
   pub column : k < 422
+  pub inside : i * 422 + k < length index
   pub found : Found from long bytes (indexAt index i k) x
 
-module _ {A : Type 0} (from : List ℕ → ℕ → A) (long : ℕ → ℕ) (bytes index : List ℕ) (i base sort : ℕ) (xs : List A) (d : A)
-    (counted : indexAt index i sort ≡ length xs) (n count : ℕ) (e : count ≡ indexAt index i sort) where
+module _ {A : Type 0} (from : List ℕ → ℕ → A) (long : ℕ → ℕ) (bytes index : List ℕ) (laid : Laid bytes index) (i base sort : ℕ) (part : Scope → List A) (none : part emptyScope ≡ []) (d : A)
+    (counted : indexAt index i sort ≡ length (part (scopeAt (scopesOf bytes) i))) (n count : ℕ) (e : count ≡ indexAt index i sort) where
+  abbrev xs : List A
+  xs = part (scopeAt (scopesOf bytes) i)
+
   standing : Placed from long bytes index i base xs → n < count → Standing from long bytes index i (base + n) (getD xs n d)
   standing placed l =
       let p = placed n d (omega arith) in
-      record { row = row-of index i sort n (omega arith); column = p .0; found = p .1 }
+      let t = there (scopesOf bytes) i part none n (omega arith) in
+      record {
+        row = omega (arith, laid .within .scopes);
+        column = p .0;
+        inside = omega (arith, laid .rows, p .0);
+        found = p .1;
+      }
 
   past : count ≤ n → d ≡ getD xs n d
   past l = sym (List·getD-eq-default xs d (omega arith))
@@ -56,32 +77,32 @@ module _ {A : Type 0} (from : List ℕ → ℕ → A) (long : ℕ → ℕ) (byte
 module _ (bytes index : List ℕ) (laid : Laid bytes index) (i n count : ℕ) where
   pub variable-here : count ≡ indexAt index i 0 → n < count → Standing variableFrom (λ k. 1) bytes index i (4 + n) (variableAt (scopesOf bytes) i n)
   unfolding variableAt
-  variable-here e = standing variableFrom (λ k. 1) bytes index i 4 0 (scopeAt (scopesOf bytes) i .variables) (record { holds = YesNo }) (laid .variableCount i) n count e (laid .variables i)
+  variable-here e = standing variableFrom (λ k. 1) bytes index laid i 4 0 (λ s. s .variables) refl (record { holds = YesNo }) (laid .variableCount i) n count e (laid .variables i)
 
   pub variable-past : count ≡ indexAt index i 0 → count ≤ n → record { holds = YesNo } ≡ variableAt (scopesOf bytes) i n
   unfolding variableAt
-  variable-past e = past variableFrom (λ k. 1) bytes index i 4 0 (scopeAt (scopesOf bytes) i .variables) (record { holds = YesNo }) (laid .variableCount i) n count e
+  variable-past e = past variableFrom (λ k. 1) bytes index laid i 4 0 (λ s. s .variables) refl (record { holds = YesNo }) (laid .variableCount i) n count e
 
   pub sub-scope-here : count ≡ indexAt index i 1 → n < count → Standing subScopeFrom (λ k. 1) bytes index i (36 + n) (subScopeAt (scopesOf bytes) i n)
   unfolding subScopeAt
-  sub-scope-here e = standing subScopeFrom (λ k. 1) bytes index i 36 1 (scopeAt (scopesOf bytes) i .subScopes) 0 (laid .subScopeCount i) n count e (laid .subScopes i)
+  sub-scope-here e = standing subScopeFrom (λ k. 1) bytes index laid i 36 1 (λ s. s .subScopes) refl 0 (laid .subScopeCount i) n count e (laid .subScopes i)
 
   pub sub-scope-past : count ≡ indexAt index i 1 → count ≤ n → 0 ≡ subScopeAt (scopesOf bytes) i n
   unfolding subScopeAt
-  sub-scope-past e = past subScopeFrom (λ k. 1) bytes index i 36 1 (scopeAt (scopesOf bytes) i .subScopes) 0 (laid .subScopeCount i) n count e
+  sub-scope-past e = past subScopeFrom (λ k. 1) bytes index laid i 36 1 (λ s. s .subScopes) refl 0 (laid .subScopeCount i) n count e
 
   pub node-here : count ≡ indexAt index i 2 → n < count → Standing nodeFrom nodeLength bytes index i (44 + n) (nodeAt (scopesOf bytes) i n)
   unfolding nodeAt
-  node-here e = standing nodeFrom nodeLength bytes index i 44 2 (scopeAt (scopesOf bytes) i .nodes) noNode (laid .nodeCount i) n count e (laid .nodes i)
+  node-here e = standing nodeFrom nodeLength bytes index laid i 44 2 (λ s. s .nodes) refl noNode (laid .nodeCount i) n count e (laid .nodes i)
 
   pub node-past : count ≡ indexAt index i 2 → count ≤ n → noNode ≡ nodeAt (scopesOf bytes) i n
   unfolding nodeAt
-  node-past e = past nodeFrom nodeLength bytes index i 44 2 (scopeAt (scopesOf bytes) i .nodes) noNode (laid .nodeCount i) n count e
+  node-past e = past nodeFrom nodeLength bytes index laid i 44 2 (λ s. s .nodes) refl noNode (laid .nodeCount i) n count e
 
   pub clause-here : count ≡ indexAt index i 3 → n < count → Standing clauseFrom (λ k. 5) bytes index i (294 + n) (clauseAt (scopesOf bytes) i n)
   unfolding clauseAt
-  clause-here e = standing clauseFrom (λ k. 5) bytes index i 294 3 (scopeAt (scopesOf bytes) i .clauses) noClause (laid .clauseCount i) n count e (laid .clauses i)
+  clause-here e = standing clauseFrom (λ k. 5) bytes index laid i 294 3 (λ s. s .clauses) refl noClause (laid .clauseCount i) n count e (laid .clauses i)
 
   pub clause-past : count ≡ indexAt index i 3 → count ≤ n → noClause ≡ clauseAt (scopesOf bytes) i n
   unfolding clauseAt
-  clause-past e = past clauseFrom (λ k. 5) bytes index i 294 3 (scopeAt (scopesOf bytes) i .clauses) noClause (laid .clauseCount i) n count e
+  clause-past e = past clauseFrom (λ k. 5) bytes index laid i 294 3 (λ s. s .clauses) refl noClause (laid .clauseCount i) n count e

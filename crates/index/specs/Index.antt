@@ -1,5 +1,5 @@
 -- The index of a book: for each scope a row that says how many records of each sort it has, and where each begins.
-use Prim.Native.Nat.{ℕ, _+_, _*_, _<_}
+use Prim.Native.Nat.{ℕ, _+_, _*_, _<_, _≤_}
 use mathlib.Core.Path.{_≡_}
 use mathlib.Core.Bool.{cond, _&&_}
 use mathlib.Core.List.{List}
@@ -20,9 +20,9 @@ abbrev pub Placed : {A : Type 0} → (List ℕ → ℕ → A) → (ℕ → ℕ) 
 Placed {A} from long bytes index i base xs =
     (n : ℕ) (d : A) → n < length xs → (base + n < 422) × Found from long bytes (indexAt index i (base + n)) (getD xs n d)
 
--- the index is that of a book within the limits
+-- the index is that of a book within the limits, and has a row for each of its scopes
 pub record Laid (bytes index : List ℕ) : Type 0 where
-  pub indexLength : length index ≡ 13504
+  pub rows : length (scopesOf bytes) * 422 ≤ length index
   pub within : Within (scopesOf bytes)
   pub variableCount : (i : ℕ) → indexAt index i 0 ≡ length (scopeAt (scopesOf bytes) i .variables)
   pub subScopeCount : (i : ℕ) → indexAt index i 1 ≡ length (scopeAt (scopesOf bytes) i .subScopes)

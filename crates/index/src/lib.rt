@@ -25,14 +25,14 @@ use record::KIND_OWN;
 use record::KIND_SUBTRACT;
 use types::type_of;
 ghost use mathlib.Core.Path.{_≡_};
-ghost use Prim.Native.Nat.{_+_, _<_};
+ghost use Prim.Native.Nat.{_+_, _*_, _<_};
 ghost use lib.ListN.{length, getD};
 ghost use Rattle.book.specs.Decode.{scopesOf};
 ghost use Rattle.book.specs.References.{scopeAt};
 ghost use Rattle.book.specs.Positions.{nodeFrom, clauseFrom, nodeLength, variableAt, subScopeAt, nodeAt, clauseAt};
 ghost use Rattle.index.specs.Index.{indexAt, Laid};
 
-// The rows of an index, and where each sort of records begins in one: four counts stand before them.
+// The scopes that a book may have, and where each sort of records begins in a scope's row: four counts stand before them.
 const SCOPES: usize = 32;
 
 pub const ROW: usize = 422;
@@ -97,18 +97,21 @@ fn clause_of(book: &[u8], at: usize) -> Clause
 
 // Column k of scope i's row.
 fn column_at(index: &[u16], i: usize, k: usize) -> usize
-    requires { ⌜ (length (now index) ≡ 13504) × (i < 32) × (k < 422) ⌝ }
+    requires { ⌜ (i < 32) × (k < 422) × (i * 422 + k < length (now index)) ⌝ }
     ensures { λ r. ⌜ r ≡ indexAt (now (index .entry)) i k ⌝ }
 {
     index[i * ROW + k] as usize
 }
 
-// How many records of a sort scope i has: 0 variables, 1 sub-scopes, 2 nodes, 3 clauses.
+// How many records of a sort scope i has: 0 variables, 1 sub-scopes, 2 nodes, 3 clauses. A number without a row has none.
 fn count_at(index: &[u16], i: usize, sort: usize) -> usize
-    requires { ⌜ (length (now index) ≡ 13504) × (sort < 4) ⌝ }
+    requires { ⌜ sort < 4 ⌝ }
     ensures { λ r. ⌜ r ≡ indexAt (now (index .entry)) i sort ⌝ }
 {
     if SCOPES <= i {
+        return 0;
+    }
+    if index.len() <= i * ROW + sort {
         return 0;
     }
     column_at(index, i, sort)

@@ -4,15 +4,16 @@ use answers::Judged;
 use checks::find_faults;
 use mixing::has_mixed;
 use scan::Reading;
+use scan::has_few_scopes;
 use scan::read_records;
 use steps::block_order;
 use steps::fill_steps;
 use weights::fill_weights;
 ghost use mathlib.Core.Path.{_≡_};
-ghost use lib.ListN.{replicate};
 ghost use Rattle.book.specs.Decode.{scopesOf};
 ghost use Rattle.book.specs.Judge.{wholeBook};
 ghost use Rattle.book.specs.Judge.{judge as Judge·judge};
+ghost use Rattle.scan.specs.Filling.{Unfilled};
 ghost use Rattle.judge.specs.Verdict.{Room, SoundRecords, Checked, Loads, orderFaults};
 
 // Faults 10 to 12, over calls and steps: fills the orders and the weights.
@@ -77,7 +78,7 @@ pub fn load(
     weights: &mut [u16],
     orders: &mut [u8],
 ) -> Judged
-    requires { ⌜ (now index ≡ replicate 13504 0) × Room (now blocks) (now weights) (now orders) ⌝ }
+    requires { ⌜ Unfilled (now book) (now index) × Room (now blocks) (now weights) (now orders) ⌝ }
     ensures { λ r.
         ⌜ Loads (now (book .entry)) (now (index .exit)) (now (blocks .exit)) (now (weights .exit)) (now (orders .exit)) (Judge·judge (now (book .entry))) r ⌝ }
 {
@@ -90,13 +91,25 @@ pub fn load(
     }
 }
 
+// Judges a book with an empty index.
+fn judge_in(book: &[u8], index: &mut [u16]) -> Judged
+    requires { ⌜ Unfilled (now book) (now index) ⌝ }
+    ensures { λ r. ⌜ r ≡ Judge·judge (now (book .entry)) ⌝ }
+{
+    let mut blocks = [0u8; 32];
+    let mut weights = [0u16; 32];
+    let mut orders = [0u8; 1280];
+    load(book, index, &mut blocks, &mut weights, &mut orders)
+}
+
 // Judges a book: accepted with the number of its scopes, or refused with the first fault.
 pub fn judge(book: &[u8]) -> Judged
     ensures { λ r. ⌜ r ≡ Judge·judge (now (book .entry)) ⌝ }
 {
-    let mut index = [0u16; 13504];
-    let mut blocks = [0u8; 32];
-    let mut weights = [0u16; 32];
-    let mut orders = [0u8; 1280];
-    load(book, &mut index, &mut blocks, &mut weights, &mut orders)
+    if has_few_scopes(book) {
+        let mut few = [0u16; 3376];
+        return judge_in(book, &mut few);
+    }
+    let mut all = [0u16; 13504];
+    judge_in(book, &mut all)
 }

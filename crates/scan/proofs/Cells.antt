@@ -3,16 +3,15 @@
 --     stored-other                a column that is neither the record's own nor its sort's count
 --     count-own, place-own        these two
 -- Assumes nothing.
-use Prim.Native.Nat.{ℕ, _+_, _*_, _<_}
+use Prim.Native.Nat.{ℕ, _+_, _*_, _≤_, _<_}
 use mathlib.Core.Path.{_≡_, refl, _∙_}
 use mathlib.Core.Bool.{Bool, true, false, cond, _&&_}
 use mathlib.Core.List.{List}
 use native.Mathlib.Omega.{arith}
-use lib.ListN.{length, getD, set, replicate, length-set}
+use lib.ListN.{length, getD, set, length-set}
 use lib.Seq.{getD-set-same, getD-set-other}
 use lib.Dec.{ltb}
 use borrow.Author.Tests.{ltb-true, lt-ltb}
-use Rattle.laws.proofs.Zeros.{zeros}
 use Rattle.index.specs.Index.{indexAt}
 use Rattle.book.proofs.Sorts.{Sort, number, base, limit, number-below, base-below, base-above}
 
@@ -35,12 +34,12 @@ module _ (xs : List ℕ) (i k v : ℕ) (row : i < 32) (inside : k < 422) where
       go true false e = refl
       go false b e = refl
 
-pub column-zero : (n i k : ℕ) → indexAt (replicate {A = ℕ} n 0) i k ≡ 0
+pub column-zero : (xs : List ℕ) → ((n : ℕ) → getD xs n 0 ≡ 0) → (i k : ℕ) → indexAt xs i k ≡ 0
 unfolding indexAt
-column-zero n i k = go (ltb i 32 && ltb k 422)
+column-zero xs zero i k = go (ltb i 32 && ltb k 422)
   where
-    go : (b : Bool) → _≡_ {A = ℕ} (cond b (getD (replicate n 0) (i * 422 + k) 0) 0) 0
-    go true = zeros n (i * 422 + k)
+    go : (b : Bool) → cond b (getD xs (i * 422 + k) 0) 0 ≡ 0
+    go true = zero (i * 422 + k)
     go false = refl
 
 -- the index with one more record of a sort, the n-th of row i
@@ -59,13 +58,13 @@ module _ (xs : List ℕ) (i : ℕ) (s : Sort) (n at : ℕ) (row : i < 32) (fits 
       column-other (set xs (i * 422 + (base s + n)) at) i (number s) (n + 1) row count-inside i' k nc
       ∙ column-other xs i (base s + n) at row place-inside i' k np
 
-  pub count-own : length xs ≡ 13504 → indexAt (withRecord xs i s n at) i (number s) ≡ n + 1
+  pub count-own : i * 422 + 422 ≤ length xs → indexAt (withRecord xs i s n at) i (number s) ≡ n + 1
   count-own l =
       let b = number-below s in
       let e = length-set xs (i * 422 + (base s + n)) at in
       column-same (set xs (i * 422 + (base s + n)) at) i (number s) (n + 1) row count-inside (omega arith)
 
-  pub place-own : length xs ≡ 13504 → indexAt (withRecord xs i s n at) i (base s + n) ≡ at
+  pub place-own : i * 422 + 422 ≤ length xs → indexAt (withRecord xs i s n at) i (base s + n) ≡ at
   place-own l =
       let b = number-below s in
       let a = base-above s in

@@ -3,11 +3,11 @@
 --     room-here                             there is a place for the record
 --     next-inside                           its body is whole
 -- Assumes nothing.
-use Prim.Native.Nat.{ℕ, suc, _+_, _-_, _≤_, _<_}
+use Prim.Native.Nat.{ℕ, suc, _+_, _-_, _*_, _≤_, _<_}
 use mathlib.Core.Path.{_≡_, refl, sym, ap, _∙_}
 use mathlib.Core.List.{List, []}
 use native.Mathlib.Omega.{arith}
-use lib.ListN.{length, getD, drop, length-replicate, drop-of-length-le}
+use lib.ListN.{length, getD, drop, drop-of-length-le}
 use borrow.Author.Tests.{eqb-false, not-false}
 use Rattle.book.specs.declared.Tally.{Tally}
 use Rattle.answers.specs.declared.Fault.{Fault}
@@ -20,17 +20,18 @@ use Rattle.index.specs.Index.{indexAt, Placed}
 use Rattle.book.specs.Limits.{InLimits, Within}
 use Rattle.scan.specs.Counting.{slotOf, numberOf, scopesWith, tallyOf, Counting}
 use Rattle.scan.specs.Step.{metAt, stepAt}
-use Rattle.scan.specs.Filling.{stored, Room, Blank, Filled, Recorded}
+use Rattle.scan.specs.Filling.{scopeBytes, stored, Room, Blank, Filled, Recorded}
 use Rattle.scan.specs.declared.Step.the-variants.{Stop, Next}
 use Rattle.scan.specs.declared.Reading.the-variants.{Faulty, Complete}
 use Rattle.scan.proofs.Steps as steps
-use Rattle.scan.proofs.Steps.{Read, read, room, records-at, scan-next, scan-stop, scan-end}
+use Rattle.scan.proofs.Steps.{Read, read, records-at, scan-next, scan-stop, scan-end}
 use Rattle.book.proofs.Sorts.{Sort, variable, subScope, node, clause, number, stage, base, limit, count, itemsOf, from, long, Staged, begins, has, staged, base-below, limit-below, stage-two, scopes-new, scopes-turn, begun, scopes-behind}
 use Rattle.book.proofs.Shapes.{stage-below}
 use Rattle.scan.proofs.Positions.{item-here}
 use Rattle.book.proofs.Shapes.{either, in-order}
 use Rattle.book.proofs.Limits.{within, items-within}
-use Rattle.scan.proofs.Tallies.{slot-sort, number-sort, stored-sort, scopes-of, less-than-limit, counts-here, tally-next, counting-next, counting-start}
+use Rattle.scan.proofs.Tallies.{slot-sort, number-sort, stored-sort, scopes-of, less-than-limit, scopes-kept, stored-length, counts-here, tally-next, counting-next, tally-start, counting-start}
+use Rattle.scan.proofs.Beginnings.{begun-turn}
 use Rattle.scan.proofs.Laying.{Parts, parts-start, parts-new, parts-turn, count-end, placed-end}
 
 -- the records from a position on
@@ -43,33 +44,36 @@ pub record Filling (bytes index : List ℕ) (t : Tally) (at : ℕ) : Type 0 wher
   pub parts : Parts bytes (scopesOf bytes) index t (ahead bytes at t)
   pub total : length (scopesOf bytes) ≡ t .scopes + length (ahead bytes at t .scopes)
 
--- before a record; the tables count only where all records are sound
-pub record Going (bytes index : List ℕ) (last scopes at : ℕ) : Type 0 where
+-- before a record; the tables count only where all records are sound. The index has room for a row of each scope that may still begin
+pub record Going (bytes : List ℕ) (room : ℕ) (index : List ℕ) (last scopes at : ℕ) : Type 0 where
   pub inside : at ≤ length bytes
+  pub size : length index ≡ room
+  pub rows : (n : ℕ) → n ≤ 32 → n ≤ scopeBytes bytes → n * 422 ≤ room
+  pub begun : scopes + scopeBytes (drop at bytes) ≤ scopeBytes bytes
   pub counting : Counting index last scopes
   pub same : scan (recordsFrom (drop at bytes) 0 (tallyOf index last scopes)) ≡ scan (records bytes)
   pub filling : scan (records bytes) ≡ Sound → Filling bytes index (tallyOf index last scopes) at
 
-pub blank-length : (bytes index : List ℕ) → Blank bytes index → length index ≡ 13504
-blank-length bytes index b = ap length (b .empty) ∙ length-replicate {A = ℕ} 13504 0
-
-pub going-start : (bytes index : List ℕ) → Blank bytes index → Going bytes index 0 0 0
+pub going-start : (bytes index : List ℕ) → Blank bytes index → Going bytes (length index) index 0 0 0
 unfolding records scopesOf
 going-start bytes index b =
-    let s = counting-start index (b .empty) in
+    let e = tally-start index (b .unfilled .empty) in
     record {
       inside = omega arith;
-      counting = s .1;
-      same = rw (s .0);
-      filling = λ sound. rw (s .0)
+      size = refl;
+      rows = b .unfilled .rows;
+      begun = omega arith;
+      counting = counting-start index (b .unfilled .empty);
+      same = rw e;
+      filling = λ sound. rw e
           (record {
             few = items-within bytes sound;
-            parts = rw (b .empty) (parts-start bytes (scopesOf bytes) 13504 (parse (recordsFrom bytes 0 start)) refl);
+            parts = parts-start bytes (scopesOf bytes) index (parse (recordsFrom bytes 0 start)) refl (b .unfilled .empty);
             total = omega arith;
           });
     }
 
-fill-end : (bytes index : List ℕ) (t : Tally) (at : ℕ) → length bytes ≤ at → length index ≡ 13504 → Within (scopesOf bytes) → Filling bytes index t at → Filled bytes index (t .scopes)
+fill-end : (bytes index : List ℕ) (t : Tally) (at : ℕ) → length bytes ≤ at → t .scopes * 422 ≤ length index → Within (scopesOf bytes) → Filling bytes index t at → Filled bytes index (t .scopes)
 unfolding recordsFrom parse
 fill-end bytes index t at h l w f =
     let q : recordsFrom (drop at bytes) 0 t ≡ [] = rw (drop-of-length-le bytes h) in
@@ -83,7 +87,7 @@ fill-end bytes index t at h l w f =
     record {
       laid =
           record {
-            indexLength = l;
+            rows = omega arith;
             within = w;
             variableCount = n variable;
             subScopeCount = n subScope;
@@ -97,26 +101,26 @@ fill-end bytes index t at h l w f =
       scopes = omega arith;
     }
 
-pub going-end : (bytes index : List ℕ) (last scopes at : ℕ) → length bytes ≤ at → Going bytes index last scopes at
+pub going-end : (bytes : List ℕ) (room : ℕ) (index : List ℕ) (last scopes at : ℕ) → length bytes ≤ at → Going bytes room index last scopes at
     → Recorded bytes index (Complete scopes)
-going-end bytes index last scopes at h g =
+going-end bytes room index last scopes at h g =
     let sound = scan-end bytes at (tallyOf index last scopes) h ∙ g .same in
     record {
       answer = sound;
       laid = λ n e.
           let q : scopes ≡ n = cc e in
-          rw (← q) (rw (scopes-of index last scopes) at (fill-end bytes index (tallyOf index last scopes) at h (g .counting .size) (within bytes (sym sound)) (g .filling (sym sound))));
+          rw (← q) (rw (scopes-of index last scopes) at (fill-end bytes index (tallyOf index last scopes) at h (rw (scopes-of index last scopes) (g .counting .size)) (within bytes (sym sound)) (g .filling (sym sound))));
     }
 
-pub going-stop : (bytes index : List ℕ) (last scopes at : ℕ) → Going bytes index last scopes at → at < length bytes → (f : Fault)
+pub going-stop : (bytes : List ℕ) (room : ℕ) (index : List ℕ) (last scopes at : ℕ) → Going bytes room index last scopes at → at < length bytes → (f : Fault)
     → Stop f ≡ stepAt bytes at (tallyOf index last scopes) → Recorded bytes index (Faulty f)
-going-stop bytes index last scopes at g here f e =
+going-stop bytes room index last scopes at g here f e =
     record {
       answer = scan-stop bytes at (tallyOf index last scopes) f here e ∙ g .same;
       laid = λ n q. let z : _≡_ {A = ℕ} 0 1 = cc in absurd (omega arith);
     }
 
-module _ (bytes index : List ℕ) (last scopes at : ℕ) (g : Going bytes index last scopes at) (here : at < length bytes)
+module _ (bytes : List ℕ) (room : ℕ) (index : List ℕ) (last scopes at : ℕ) (g : Going bytes room index last scopes at) (here : at < length bytes)
     (st n : ℕ) (e : Next st n ≡ stepAt bytes at (tallyOf index last scopes)) where
   abbrev t : Tally
   t = tallyOf index last scopes
@@ -129,7 +133,7 @@ module _ (bytes index : List ℕ) (last scopes at : ℕ) (g : Going bytes index 
   was-read = read m st n e
 
   pub next-inside : at + 1 + n ≤ length bytes
-  next-inside = room bytes at t st n here was-read
+  next-inside = steps.room bytes at t st n here was-read
 
   within-next : InLimits (counted st t)
   within-next = steps.within bytes at t st n here was-read
@@ -213,7 +217,7 @@ module _ (bytes index : List ℕ) (last scopes at : ℕ) (g : Going bytes index 
           parts =
               parts-turn bytes (scopesOf bytes) index at t m p s es
               (item-here bytes at t here (was-read .clean) s es)
-              (scopes - 1) (omega arith) (omega arith) (less-than-limit s t w) (g .counting .size) (f .few) (rw q at (f .parts));
+              (scopes - 1) (omega arith) (omega arith) (less-than-limit s t w) (omega (arith, g .counting .size)) (f .few) (rw q at (f .parts));
           total = omega arith;
         })
 
@@ -222,14 +226,33 @@ module _ (bytes index : List ℕ) (last scopes at : ℕ) (g : Going bytes index 
     turn-staged (begins q) = rw q (turn-new q)
     turn-staged (has s q) = rw q (turn-sort s q)
 
-  pub going-turn : (index' : List ℕ) → index' ≡ stored index at st scopes → (scopes' : ℕ) → scopes' ≡ scopesWith st scopes → Going bytes index' st scopes' (at + 1 + n)
+  begun-next : scopesWith st scopes + scopeBytes (drop (at + 1 + n) bytes) ≤ scopeBytes bytes
+  unfolding metAt
+  begun-next = let b = begun-turn bytes at scopes st n here (was-read .stage) in omega (arith, g .begun)
+
+  few-next : Staged st → scopesWith st scopes ≤ 32
+  unfolding scopesWith
+  few-next (begins q) =
+      let l : counted 1 t .scopes ≤ 32 = (rw q at within-next) .scopes in
+      let sc = scopes-new t in
+      let sn = scopes-of index last scopes in
+      rw q (omega arith)
+  few-next (has s q) = let sn = scopes-of index last scopes in rw (q, scopes-kept s scopes) (omega (arith, g .counting .within .scopes))
+
+  row-next : scopesWith st scopes * 422 ≤ length index
+  row-next = rw (g .size) (g .rows (scopesWith st scopes) (few-next staged-here) (omega (arith, begun-next)))
+
+  pub going-turn : (index' : List ℕ) → index' ≡ stored index at st scopes → (scopes' : ℕ) → scopes' ≡ scopesWith st scopes → Going bytes room index' st scopes' (at + 1 + n)
   unfolding stepAt
   going-turn index' e' scopes' es =
-      let q = tally-next index last scopes (g .counting) at st scope-before within-next from-one below-five in
+      let q = tally-next index last scopes (g .counting) at st scope-before within-next row-next from-one below-five in
       rw (e', es)
       (record {
         inside = next-inside;
-        counting = counting-next index last scopes (g .counting) at st scope-before within-next from-one below-five;
+        size = stored-length index at st scopes ∙ g .size;
+        rows = g .rows;
+        begun = begun-next;
+        counting = counting-next index last scopes (g .counting) at st scope-before within-next row-next from-one below-five;
         same = rw q (scan-next bytes at t st n here was-read e ∙ g .same);
         filling = λ sound. rw q (turn-staged (g .filling sound) staged-here);
       })

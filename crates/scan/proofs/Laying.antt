@@ -3,14 +3,14 @@
 --     parts-new, parts-turn    after a record that begins a scope, and after one of a sort
 --     count-end, placed-end    nothing is left
 -- Assumes nothing.
-use Prim.Native.Nat.{ℕ, suc, _+_, _-_, _≤_, _<_}
+use Prim.Native.Nat.{ℕ, suc, _+_, _-_, _*_, _≤_, _<_}
 use mathlib.Core.Path.{_≡_, refl, sym, ap, _∙_}
 use mathlib.Core.Bool.{Bool, true, false, cond}
 use mathlib.Core.List.{List, [], _∷_}
 use mathlib.Core.Logic.{⊎-elim}
 use native.Mathlib.Omega.{arith}
 use native.Mathlib.Numerals.{add-one}
-use lib.ListN.{length, getD, drop, replicate, length-drop}
+use lib.ListN.{length, getD, drop, length-drop}
 use lib.Seq.{drop-cons}
 use lib.Dec.{eqb, ltb}
 use borrow.Author.Tests.{eqb-true, eqb-false, eq-eqb, ne-eqb, lt-ltb, le-ltb, ltb-true, ltb-false}
@@ -96,9 +96,9 @@ abbrev pub Parts : List ℕ → List Scope → List ℕ → Tally → Parsed →
 Parts bytes book index t p = (s : Sort) (i : ℕ) → Part bytes book index t p s i
 
 -- nothing is placed yet
-pub parts-start : (bytes : List ℕ) (book : List Scope) (n : ℕ) (p : Parsed) → p .scopes ≡ book → Parts bytes book (replicate n 0) start p
-parts-start bytes book n p e s i =
-    let z : indexAt (replicate n 0) i (number s) ≡ 0 = column-zero n i (number s) in
+pub parts-start : (bytes : List ℕ) (book : List Scope) (index : List ℕ) (p : Parsed) → p .scopes ≡ book → ((n : ℕ) → getD index n 0 ≡ 0) → Parts bytes book index start p
+parts-start bytes book index p e empty s i =
+    let z : indexAt index i (number s) ≡ 0 = column-zero index empty i (number s) in
     record {
       placed = λ k d h. absurd (omega arith);
       left = rw (z, rest-start p i, e);
@@ -136,7 +136,7 @@ parts-new bytes book index t m p e old s i =
 -- a record of a sort, placed
 module _ (bytes : List ℕ) (book : List Scope) (index : List ℕ) (at : ℕ) (t : Tally) (m : Met) (p : Parsed) (s' : Sort)
     (e : stageOf m ≡ stage s') (says : Found (from s') (long s') bytes at (item s' m)) (j : ℕ) (here : suc j ≡ t .scopes) (row : j < 32)
-    (fits : count s' t < limit s') (size : length index ≡ 13504)
+    (fits : count s' t < limit s') (size : j * 422 + 422 ≤ length index)
     (few : (s : Sort) (i : ℕ) → length (itemsOf s (scopeAt book i)) ≤ limit s)
     (old : Parts bytes book index t (inFront m p)) where
   abbrev new : List ℕ

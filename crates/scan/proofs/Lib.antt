@@ -6,3 +6,4 @@ mod Laying
 mod Tallies
 mod Stores
 mod Filling
+pub mod Beginnings

@@ -1,16 +1,16 @@
 -- What was read, as the index has it, by sort.
 --     over-limit, in-limit    a record more passes a limit, or does not
---     counting-start          nothing was read
+--     tally-start, counting-start  nothing was read
 --     tally-next, counting-next    after a record
 -- Assumes nothing.
 use Prim.Native.Nat.{ℕ, _+_, _-_, _*_, _≤_, _<_}
 use mathlib.Core.Path.{_≡_, refl, sym, _∙_}
-use mathlib.Core.Bool.{Bool, true, false}
+use mathlib.Core.Bool.{Bool, true, false, cond}
 use mathlib.Core.List.{List}
 use mathlib.Core.Logic.{⊎-elim}
 use native.Mathlib.Omega.{arith}
-use lib.ListN.{length, getD, set, replicate, length-set, length-replicate}
-use lib.Dec.{eqb}
+use lib.ListN.{length, getD, set, length-set}
+use lib.Dec.{eqb, ltb}
 use borrow.Author.Tests.{eqb-true, eqb-false, eq-eqb, lt-ltb, le-ltb}
 use Rattle.laws.proofs.Booleans.{decide}
 use Rattle.book.specs.declared.Tally.{Tally}
@@ -67,7 +67,19 @@ module _ (index : List ℕ) (st scopes : ℕ) where
       let o = c .opened h in
       rw (le-ltb st 2 h, lt-ltb (scopes - 1) 32 (omega (arith, c .few)), lt-ltb (st - 2) 422 (omega (arith, c .stage)))
 
-scopes-kept : (s : Sort) (scopes : ℕ) → scopesWith (stage s) scopes ≡ scopes
+pub stored-length : (index : List ℕ) (at st scopes : ℕ) → length (stored index at st scopes) ≡ length index
+unfolding stored
+stored-length index at st scopes = go (ltb st 2)
+  where
+    go : (b : Bool)
+        → length (cond b index (set (set index ((scopes - 1) * 422 + (slotOf st .base + numberOf index st scopes)) at) ((scopes - 1) * 422 + (st - 2)) (numberOf index st scopes + 1)))
+        ≡ length index
+    go true = refl
+    go false =
+        length-set (set index ((scopes - 1) * 422 + (slotOf st .base + numberOf index st scopes)) at) ((scopes - 1) * 422 + (st - 2)) (numberOf index st scopes + 1)
+        ∙ length-set index ((scopes - 1) * 422 + (slotOf st .base + numberOf index st scopes)) at
+
+pub scopes-kept : (s : Sort) (scopes : ℕ) → scopesWith (stage s) scopes ≡ scopes
 unfolding scopesWith
 scopes-kept variable scopes = refl
 scopes-kept subScope scopes = refl
@@ -182,13 +194,16 @@ module _ (index : List ℕ) (last scopes : ℕ) (c : Counting index last scopes)
     row : scopes - 1 < 32
     row = let l = c .within .scopes in let e = scopes-of index last scopes in omega arith
 
+    row-room : (scopes - 1) * 422 + 422 ≤ length index
+    row-room = omega (arith, c .size)
+
     at-turn : (s' : Sort) → indexAt new (scopes - 1) (number s') ≡ count s' (counted (stage s) u)
     at-turn s' =
         let b = number-below s' in
         let a = base-above s in
         ⊎-elim
         (λ (q : eqb (number s') (number s) ≡ true).
-        rw (same-sort s' s (eqb-true (number s') (number s) q)) (count-own index (scopes - 1) s (count s u) at row fits (c .size) ∙ sym (count-turn s s u ∙ rw (eq-eqb (number s) (number s) refl))))
+        rw (same-sort s' s (eqb-true (number s') (number s) q)) (count-own index (scopes - 1) s (count s u) at row fits row-room ∙ sym (count-turn s s u ∙ rw (eq-eqb (number s) (number s) refl))))
         (λ (q : eqb (number s') (number s) ≡ false).
         stored-other index (scopes - 1) s (count s u) at row fits (scopes - 1) (number s') (λ _ h. eqb-false (number s') (number s) q h) (λ _ h. absurd (omega arith))
         ∙ sym (count-sort s' index last scopes)
@@ -197,12 +212,6 @@ module _ (index : List ℕ) (last scopes : ℕ) (c : Counting index last scopes)
 
     later-turn : (i k : ℕ) → scopes ≤ i → indexAt new i k ≡ 0
     later-turn i k h = stored-other index (scopes - 1) s (count s u) at row fits i k (λ e _. absurd (omega arith)) (λ e _. absurd (omega arith)) ∙ c .later i k h
-
-    size-turn : length new ≡ 13504
-    size-turn =
-        length-set (set index ((scopes - 1) * 422 + (base s + count s u)) at) ((scopes - 1) * 422 + number s) (count s u + 1)
-        ∙ length-set index ((scopes - 1) * 422 + (base s + count s u)) at
-        ∙ c .size
 
   whole-turn : (s : Sort) → counted (stage s) (tallyOf index last scopes)
       ≡ record { stage = stage s; scopes = scopes; variables = counted (stage s) (tallyOf index last scopes) .variables; subs = counted (stage s) (tallyOf index last scopes) .subs; nodes = counted (stage s) (tallyOf index last scopes) .nodes; clauses = counted (stage s) (tallyOf index last scopes) .clauses }
@@ -217,7 +226,10 @@ module _ (index : List ℕ) (last scopes : ℕ) (c : Counting index last scopes)
   unfolding tallyOf
   tally-turn s at o f = rw (at-turn s at o f variable, at-turn s at o f subScope, at-turn s at o f node, at-turn s at o f clause) (sym (whole-turn s))
 
-  module _ (at st : ℕ) (opened : 2 ≤ st → 1 ≤ scopes) (l : InLimits (counted st (tallyOf index last scopes))) where
+  module _ (at st : ℕ) (opened : 2 ≤ st → 1 ≤ scopes) (l : InLimits (counted st (tallyOf index last scopes))) (room : scopesWith st scopes * 422 ≤ length index) where
+    size-next : scopesWith st scopes * 422 ≤ length (stored index at st scopes)
+    size-next = let e = stored-length index at st scopes in omega arith
+
     fits-here : (s : Sort) → st ≡ stage s → count s (tallyOf index last scopes) < limit s
     fits-here s e = less-than-limit s (tallyOf index last scopes) (rw e at l)
 
@@ -233,7 +245,7 @@ module _ (index : List ℕ) (last scopes : ℕ) (c : Counting index last scopes)
     unfolding stored scopesWith
     counting-staged (begins e) =
         record {
-          size = rw e (c .size);
+          size = size-next;
           within = rw (next-staged (begins e)) l;
           opened = λ h. rw e (omega arith);
           later = rw e (λ i k h. c .later i k (omega arith));
@@ -242,7 +254,7 @@ module _ (index : List ℕ) (last scopes : ℕ) (c : Counting index last scopes)
         let o = opened-here s e in
         let f = fits-here s e in
         record {
-          size = rw (e, stored-sort s index at last scopes) (size-turn s at o f);
+          size = size-next;
           within = rw (next-staged (has s e)) l;
           opened = λ h. rw (e, scopes-kept s scopes) o;
           later = rw (e, stored-sort s index at last scopes, scopes-kept s scopes) (later-turn s at o f);
@@ -255,21 +267,18 @@ module _ (index : List ℕ) (last scopes : ℕ) (c : Counting index last scopes)
     counting-next known below = counting-staged (staged st (λ e. absurd (omega arith)) below)
 
 -- nothing was read
-tally-start : tallyOf (replicate 13504 0) 0 0 ≡ start
-unfolding tallyOf
-tally-start =
-    let z : (k : ℕ) → indexAt (replicate 13504 0) 0 k ≡ 0 = column-zero 13504 0 in
-    rw (z 0, z 1, z 2, z 3)
+module _ (index : List ℕ) (empty : (n : ℕ) → getD index n 0 ≡ 0) where
+  pub tally-start : tallyOf index 0 0 ≡ start
+  unfolding tallyOf
+  tally-start =
+      let z : (k : ℕ) → indexAt index 0 k ≡ 0 = column-zero index empty 0 in
+      rw (z 0, z 1, z 2, z 3)
 
-pub counting-start : (index : List ℕ) → index ≡ replicate 13504 0 → (tallyOf index 0 0 ≡ start) × Counting index 0 0
-counting-start index e =
-    rw e
-    ((
-      tally-start,
+  pub counting-start : Counting index 0 0
+  counting-start =
       record {
-        size = length-replicate {A = ℕ} 13504 0;
-        within = start-in-limits (tallyOf (replicate 13504 0) 0 0) tally-start;
+        size = omega arith;
+        within = start-in-limits (tallyOf index 0 0) tally-start;
         opened = λ h. absurd (omega arith);
-        later = λ i k h. column-zero 13504 i k;
-      },
-    ))
+        later = λ i k h. column-zero index empty i k;
+      }

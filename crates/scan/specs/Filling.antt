@@ -1,10 +1,10 @@
 -- Filling the index of a book.
-use Prim.Native.Nat.{ℕ, _+_, _-_, _*_, _≤_, _<_}
+use Prim.Native.Nat.{ℕ, suc, _+_, _-_, _*_, _≤_, _<_}
 use mathlib.Core.Path.{_≡_}
-use mathlib.Core.Bool.{cond}
-use mathlib.Core.List.{List}
-use lib.ListN.{length, set, replicate}
-use lib.Dec.{ltb}
+use mathlib.Core.Bool.{Bool, true, cond}
+use mathlib.Core.List.{List, [], _∷_}
+use lib.ListN.{length, getD, set}
+use lib.Dec.{eqb, ltb}
 use Rattle.book.specs.declared.Scanned.{Scanned}
 use Rattle.book.specs.declared.Scanned.the-variants as scanned
 use Rattle.book.specs.Records.{records}
@@ -28,10 +28,24 @@ pub record Room (index : List ℕ) (at s scopes : ℕ) : Type 0 where
   pub place : 2 ≤ s → slotOf s .base + numberOf index s scopes < 422
   pub number : 2 ≤ s → numberOf index s scopes < 255
 
--- a book that is not too long, and an index that is still empty
+-- how many bytes have the value of the kind that begins a scope: a book has no more scopes than these
+unfoldable pub scopeBytes : List ℕ → ℕ
+scopeBytes [] = 0
+scopeBytes (b ∷ rest) = let n = scopeBytes rest in cond (eqb b 1) (suc n) n
+
+-- a yes says that the book has at most 8 scopes
+abbrev pub FewScopes : List ℕ → Bool → Type 0
+FewScopes bytes r = r ≡ true → scopeBytes bytes ≤ 8
+
+-- an index that is still empty, with a row for each scope that the book may have
+pub record Unfilled (bytes index : List ℕ) : Type 0 where
+  pub empty : (k : ℕ) → getD index k 0 ≡ 0
+  pub rows : (n : ℕ) → n ≤ 32 → n ≤ scopeBytes bytes → n * 422 ≤ length index
+
+-- a book that is not too long, and an index for it
 pub record Blank (bytes index : List ℕ) : Type 0 where
   pub short : length bytes ≤ 32768
-  pub empty : index ≡ replicate 13504 0
+  pub unfilled : Unfilled bytes index
 
 -- the index is that of the book, which has this many scopes
 pub record Filled (bytes index : List ℕ) (n : ℕ) : Type 0 where

@@ -5,6 +5,7 @@ use index::NODES;
 use index::ROW;
 use index::SUB_SCOPES;
 use index::VARIABLES;
+use record::KIND_SCOPE;
 use record::Medium;
 use record::Record;
 use record::body_at;
@@ -16,7 +17,7 @@ ghost use Prim.Native.Nat.{_<_, _≤_};
 ghost use lib.ListN.{length};
 ghost use Rattle.scan.specs.Step.{bookRecordAt, endAt, stepAt, stepOver};
 ghost use Rattle.scan.specs.Counting.{slotOf, numberOf, scopesWith, tallyOf, Counts, Counting};
-ghost use Rattle.scan.specs.Filling.{Room, stored, Blank, Recorded};
+ghost use Rattle.scan.specs.Filling.{Room, stored, scopeBytes, FewScopes, Blank, Recorded};
 
 // A record: its first fault, or its stage and its body's length.
 enum Step {
@@ -199,6 +200,31 @@ fn scopes_with(stage: usize, scopes: usize) -> usize
     ensures { λ r. ⌜ r ≡ scopesWith stage scopes ⌝ }
 {
     if stage == 1 { scopes + 1 } else { scopes }
+}
+
+// How many bytes of a book may begin a scope.
+fn scope_bytes(book: &[u8]) -> usize
+    ensures { λ r. ⌜ r ≡ scopeBytes (now (book .entry)) ⌝ }
+{
+    let mut count: usize = 0;
+    let mut at: usize = 0;
+    while at < book.len() {
+        if book[at] == KIND_SCOPE {
+            count += 1;
+        }
+        at += 1;
+    }
+    count
+}
+
+// Whether a book is seen to have at most 8 scopes: it is short, and few of its bytes may begin one. Such a book needs an index of 8 rows only.
+pub fn has_few_scopes(book: &[u8]) -> bool
+    ensures { λ r. ⌜ FewScopes (now (book .entry)) r ⌝ }
+{
+    if 512 <= book.len() {
+        return false;
+    }
+    scope_bytes(book) <= 8
 }
 
 // Reads the records of a book in one pass: the first faulty one's first fault, or the index by which the records are found.

@@ -194,7 +194,7 @@ module _ {bytes index links orders : List ℕ} {i : ℕ} {given₀ own₀ memo�
     evaluable f =
         record {
           ready = rw f row-ready;
-          scope = scope-few;
+          scope = e .scope;
           ownRoom = omega (arith, r .ownRoom);
           calledRoom = r .calledRoom;
           ownKept = r .ownKept;

@@ -72,7 +72,7 @@ module _ (bytes index links own called : List ℕ) (i : ℕ) (e : Evaluable byte
   row-length : length row ≡ 378
   row-length =
       let l = e .scope in
-      let p = e .ready .sound .laid .indexLength in
+      let p = e .ready .sound .laid .rows in
       part-room index (i * 422 + 44) 378 (omega arith) refl
 
   row-place : (m : ℕ) → 44 + m < 422 → getD row m 0 ≡ indexAt index i (44 + m)
@@ -81,7 +81,7 @@ module _ (bytes index links own called : List ℕ) (i : ℕ) (e : Evaluable byte
       getD-take 378 (drop (i * 422 + 44) index) m 0 (omega arith)
       ∙ getD-drop (i * 422 + 44) index m 0
       ∙ ap (λ (k : ℕ). getD index k 0) q
-      ∙ column index i (44 + m) (e .scope) l
+      ∙ column index i (44 + m) (omega (arith, e .scope, e .ready .sound .laid .within .scopes)) l
 
   -- the record of which the place stands in the row
   in-row : {A : Type 0} (from : List ℕ → ℕ → A) (long : ℕ → ℕ) (m : ℕ) (x : A)

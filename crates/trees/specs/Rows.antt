@@ -55,7 +55,7 @@ Settles bytes row own called at x r = (g : Gathered) → Gathers x g → Codes r
 -- the trees of scope i can be evaluated: 32 own cells and 32 for each of its sub-scopes, with nothing or a value in each
 pub record Evaluable (bytes index links own called : List ℕ) (i : ℕ) : Type 0 where
   pub ready : Ready bytes index links i
-  pub scope : i < 32
+  pub scope : i < length (scopesOf bytes)
   pub ownRoom : 32 ≤ length own
   pub calledRoom : length (scopeAt (scopesOf bytes) i .subScopes) * 32 ≤ length called
   pub ownKept : AllKept own

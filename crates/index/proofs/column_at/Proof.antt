@@ -23,7 +23,7 @@ cast-result : tie.Need-cast-result
 cast-result c = omega (arith, c .shared-slice-known .given (c .before .args .i * 422 + c .before .args .k))
 
 returns : tie.Need-returns
-returns c = column _ _ _ (c .before .pre .1) (c .before .pre .2)
+returns c = column _ _ _ (c .before .pre .0) (c .before .pre .1)
 
 pub column-at-spec : {M : Type 1} → statement M
 column-at-spec =

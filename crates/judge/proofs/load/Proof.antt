@@ -11,7 +11,7 @@ returns : tie.Need-returns
 returns c = refused (long (now (c .before .before .before .before .before .before .args .book)) (c .if1 .taken))
 
 read-records-requires : tie.Need-read-records-requires
-read-records-requires c κs = record { short = c .before .if1 .left; empty = c .before .before .before .before .before .before .before .pre .0 }
+read-records-requires c κs = record { short = c .before .if1 .left; unfilled = c .before .before .before .before .before .before .before .pre .0 }
 
 enum-known-n : tie.Need-enum-known-n
 enum-known-n c = search needs

@@ -23,7 +23,7 @@ mul-result-2 : tie.Need-mul-result-2
 mul-result-2 c = search needs
 
 shared-slice-read-result : tie.Need-shared-slice-read-result
-shared-slice-read-result c = search needs
+shared-slice-read-result c = let o = c .before .before .pre .opened (c .before .if1 .left) in omega arith
 
 cast-result : tie.Need-cast-result
 cast-result c = omega (arith, c .shared-slice-known .given ((c .before .before .args .scopes - 1) * 422 + (c .before .before .args .stage - 2)))
