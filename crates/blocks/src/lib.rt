@@ -9,6 +9,8 @@ use memo::copy_cells;
 use memo::none_given;
 use memo::recall;
 use memo::remember;
+use record::KIND_ENTER;
+use record::LENGTH_SUB_SCOPE;
 use slices::byte_at;
 use slices::part_of;
 ghost use mathlib.Core.Path.{_≡_};
@@ -214,7 +216,7 @@ fn enter_sub(
     match enter(code, spans, heads, places, q, left, open, own, memo) {
         Ran::Values(n) => {
             marks[k] = 1;
-            Went::On(stand(advance(next, 1, body.len()), h, t, count + n))
+            Went::On(stand(advance(next, LENGTH_SUB_SCOPE, body.len()), h, t, count + n))
         }
         Ran::Ended(c, n) => Went::Ended(c, count + n),
         Ran::Stuck => Went::Stuck,
@@ -246,7 +248,7 @@ fn act(
     ensures { λ _. ⌜ Known (now (code .entry)) (now (memo .exit)) ⌝ }
 {
     let at = s.at;
-    if body[at] == 43 {
+    if body[at] == KIND_ENTER {
         return enter_sub(
             code,
             spans,
