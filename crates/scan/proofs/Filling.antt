@@ -1,7 +1,7 @@
 -- The pass over the records: what holds before each of them.
 --     going-start, going-turn, going-end    at the start, after a turn, at the end
 --     room-here                             there is a place for the record
---     next-inside                           its body is whole
+--     next-inside                           the next one lies behind it, or the book's end
 -- Assumes nothing.
 use Prim.Native.Nat.{ℕ, suc, _+_, _-_, _*_, _≤_, _<_}
 use mathlib.Core.Path.{_≡_, refl, sym, ap, _∙_}
@@ -9,6 +9,8 @@ use mathlib.Core.List.{List, []}
 use native.Mathlib.Omega.{arith}
 use lib.ListN.{length, getD, drop, drop-of-length-le}
 use borrow.Author.Tests.{eqb-false, not-false}
+use Rattle.record.specs.Kinds.{shapeIn}
+use Rattle.record.specs.declared.Medium.the-variants.{Book}
 use Rattle.book.specs.declared.Tally.{Tally}
 use Rattle.answers.specs.declared.Fault.{Fault}
 use Rattle.book.specs.declared.Scanned.the-variants.{Sound}
@@ -19,12 +21,12 @@ use Rattle.book.specs.Judge.{scan}
 use Rattle.index.specs.Index.{indexAt, Placed}
 use Rattle.book.specs.Limits.{InLimits, Within}
 use Rattle.scan.specs.Counting.{slotOf, numberOf, scopesWith, tallyOf, Counting}
-use Rattle.scan.specs.Step.{metAt, stepAt}
+use Rattle.scan.specs.Step.{endAt, metAt, stepAt}
 use Rattle.scan.specs.Filling.{scopeBytes, stored, Room, Blank, Filled, Recorded}
 use Rattle.scan.specs.declared.Step.the-variants.{Stop, Next}
 use Rattle.scan.specs.declared.Reading.the-variants.{Faulty, Complete}
 use Rattle.scan.proofs.Steps as steps
-use Rattle.scan.proofs.Steps.{Read, read, records-at, scan-next, scan-stop, scan-end}
+use Rattle.scan.proofs.Steps.{Read, read, records-at, ends-at, scan-next, scan-stop, scan-end}
 use Rattle.book.proofs.Sorts.{Sort, variable, subScope, node, clause, number, stage, base, limit, count, itemsOf, from, long, Staged, begins, has, staged, base-below, limit-below, stage-two, scopes-new, scopes-turn, begun, scopes-behind}
 use Rattle.book.proofs.Shapes.{stage-below}
 use Rattle.scan.proofs.Positions.{item-here}
@@ -121,19 +123,27 @@ going-stop bytes room index last scopes at g here f e =
     }
 
 module _ (bytes : List ℕ) (room : ℕ) (index : List ℕ) (last scopes at : ℕ) (g : Going bytes room index last scopes at) (here : at < length bytes)
-    (st n : ℕ) (e : Next st n ≡ stepAt bytes at (tallyOf index last scopes)) where
+    (st next : ℕ) (e : Next st next ≡ stepAt bytes at (tallyOf index last scopes)) where
   abbrev t : Tally
   t = tallyOf index last scopes
 
   abbrev m : Met
   m = metAt bytes at t
 
-  was-read : Read m st n
-  unfolding stepAt
-  was-read = read m st n e
+  -- its body's length
+  abbrev n : ℕ
+  n = shapeIn Book (getD bytes at 0) .length
 
-  pub next-inside : at + 1 + n ≤ length bytes
-  next-inside = steps.room bytes at t st n here was-read
+  was-read : Read m st n
+  unfolding stepAt metAt
+  was-read = read m (endAt bytes at) st next e .0
+
+  next-is : next ≡ at + 1 + n
+  unfolding stepAt
+  next-is = read m (endAt bytes at) st next e .1 ∙ ends-at bytes at t st n here was-read
+
+  pub next-inside : (at < next) × (next ≤ length bytes)
+  next-inside = let i = steps.room bytes at t st n here was-read in let q = next-is in (omega arith, omega arith)
 
   within-next : InLimits (counted st t)
   within-next = steps.within bytes at t st n here was-read
@@ -242,17 +252,16 @@ module _ (bytes : List ℕ) (room : ℕ) (index : List ℕ) (last scopes at : �
   row-next : scopesWith st scopes * 422 ≤ length index
   row-next = rw (g .size) (g .rows (scopesWith st scopes) (few-next staged-here) (omega (arith, begun-next)))
 
-  pub going-turn : (index' : List ℕ) → index' ≡ stored index at st scopes → (scopes' : ℕ) → scopes' ≡ scopesWith st scopes → Going bytes room index' st scopes' (at + 1 + n)
-  unfolding stepAt
+  pub going-turn : (index' : List ℕ) → index' ≡ stored index at st scopes → (scopes' : ℕ) → scopes' ≡ scopesWith st scopes → Going bytes room index' st scopes' next
   going-turn index' e' scopes' es =
       let q = tally-next index last scopes (g .counting) at st scope-before within-next row-next from-one below-five in
-      rw (e', es)
+      rw (e', es, next-is)
       (record {
-        inside = next-inside;
+        inside = steps.room bytes at t st n here was-read;
         size = stored-length index at st scopes ∙ g .size;
         rows = g .rows;
         begun = begun-next;
         counting = counting-next index last scopes (g .counting) at st scope-before within-next row-next from-one below-five;
-        same = rw q (scan-next bytes at t st n here was-read e ∙ g .same);
+        same = rw q (scan-next bytes at t st n here was-read next e ∙ g .same);
         filling = λ sound. rw q (turn-staged (g .filling sound) staged-here);
       })

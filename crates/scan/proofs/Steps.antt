@@ -1,6 +1,6 @@
 -- The record at a position, as the code takes it, against `stepAt`; and what reading on does.
 --     step-record       what stands at a position, as the pass takes it; whole-record, of a whole record where it ends
---     read              what a record that does not stop the pass leaves
+--     read              what a record that does not stop the pass leaves; ends-at, where it ends
 --     records-at        the records from a position on
 --     scan-stop, scan-next, scan-end    the pass from a position on, after each outcome
 -- Assumes nothing.
@@ -33,35 +33,35 @@ use Rattle.scan.specs.declared.Step.{Step}
 use Rattle.scan.specs.declared.Step.the-variants.{Stop, Next}
 use Rattle.book.specs.Limits.{InLimits}
 use Rattle.scan.specs.Counting.{tallyOf}
-use Rattle.scan.specs.Step.{bookRecordAt, stepOf, metAt, stepAt, stepOver}
+use Rattle.scan.specs.Step.{bookRecordAt, endAt, stepOf, metAt, stepAt, stepOver}
 
 -- what stands at a position, as the pass takes it
-abbrev pub byRecord : List ℕ → ℕ → ℕ → List ℕ → ℕ → Record → Step
-byRecord index last scopes s at End = Stop Truncated
-byRecord index last scopes s at Unknown = Stop UnknownKind
-byRecord index last scopes s at Record·Truncated = Stop Truncated
-byRecord index last scopes s at (Whole k st n) = stepOver index last scopes k st n (bodyAt s at n)
+abbrev pub byRecord : List ℕ → ℕ → ℕ → List ℕ → ℕ → ℕ → Record → Step
+byRecord index last scopes s at next End = Stop Truncated
+byRecord index last scopes s at next Unknown = Stop UnknownKind
+byRecord index last scopes s at next Record·Truncated = Stop Truncated
+byRecord index last scopes s at next (Whole k st n) = stepOver index last scopes k st next (bodyAt s at n)
 
-module _ (index : List ℕ) (last scopes : ℕ) (s : List ℕ) (at k st n : ℕ) where
+module _ (index : List ℕ) (last scopes : ℕ) (s : List ℕ) (at next k st n : ℕ) where
   by-tests : (a b : Bool)
-      → byRecord index last scopes s at (pickRecord a Unknown (pickRecord b Record·Truncated (Whole k st n)))
+      → byRecord index last scopes s at next (pickRecord a Unknown (pickRecord b Record·Truncated (Whole k st n)))
       ≡ cond a (Stop UnknownKind)
       (cond b (Stop Truncated)
       (cond (not (a || follows last st)) (Stop OutOfOrder)
       (cond (exceeds (counted st (tallyOf index last scopes))) (Stop LimitExceeded)
       (cond (not b && invalid k (bodyAt s at n)) (Stop InvalidByte)
-      (Next st n)))))
+      (Next st next)))))
   unfolding stepOver
   by-tests true b = refl
   by-tests false true = refl
   by-tests false false = refl
 
 pub step-record : (book : List ℕ) (at : ℕ) (index : List ℕ) (last scopes : ℕ) → at < length book
-    → byRecord index last scopes book at (recordAt Book book at) ≡ stepAt book at (tallyOf index last scopes)
+    → byRecord index last scopes book at (endAt book at) (recordAt Book book at) ≡ stepAt book at (tallyOf index last scopes)
 unfolding stepAt stepOf recordAt metAt tallyOf bodyAt
 step-record book at index last scopes h =
     rw (lt-ltb at (length book) h, length-drop (at + 1) book)
-    (by-tests index last scopes book at (getD book at 0) (shapeIn Book (getD book at 0) .stage) (shapeIn Book (getD book at 0) .length)
+    (by-tests index last scopes book at (endAt book at) (getD book at 0) (shapeIn Book (getD book at 0) .stage) (shapeIn Book (getD book at 0) .length)
     (eqb (shapeIn Book (getD book at 0) .stage) 0) (ltb (length book - (at + 1)) (shapeIn Book (getD book at 0) .length)))
 
 pub as-record : (book : List ℕ) (at : ℕ) (r : Record) → r ≡ bookRecordAt book at → r ≡ recordAt Book book at
@@ -69,12 +69,13 @@ unfolding bookRecordAt
 as-record book at r e = e
 
 pub by-record : (book : List ℕ) (at : ℕ) (index : List ℕ) (last scopes : ℕ) → at < length book → (r : Record) → r ≡ recordAt Book book at
-    → byRecord index last scopes book at r ≡ stepAt book at (tallyOf index last scopes)
+    → byRecord index last scopes book at (endAt book at) r ≡ stepAt book at (tallyOf index last scopes)
 by-record book at index last scopes h r e = rw e (step-record book at index last scopes h)
 
 pub whole-step : (book : List ℕ) (at : ℕ) (index : List ℕ) (last scopes : ℕ) → at < length book → (k st n : ℕ) → Whole k st n ≡ recordAt Book book at
-    → (body : List ℕ) → body ≡ bodyAt book at n → stepOver index last scopes k st n body ≡ stepAt book at (tallyOf index last scopes)
-whole-step book at index last scopes h k st n r body eb = rw eb (by-record book at index last scopes h (Whole k st n) r)
+    → (body : List ℕ) → body ≡ bodyAt book at n → (next : ℕ) → next ≡ endAt book at
+    → stepOver index last scopes k st next body ≡ stepAt book at (tallyOf index last scopes)
+whole-step book at index last scopes h k st n r body eb next en = rw (eb, en) (by-record book at index last scopes h (Whole k st n) r)
 
 -- a whole record ends within the book, and has a stage
 pub record Standing (book : List ℕ) (at st n : ℕ) : Type 0 where
@@ -110,9 +111,9 @@ push : (b : Bool) (f : Fault) (y : Step) (r : Scanned) → answer (cond b (Stop 
 push true f y r = refl
 push false f y r = refl
 
-pub scan-answer : (m : Met) (ms : List Met) → scan (m ∷ ms) ≡ answer (stepOf m) (scan ms)
+pub scan-answer : (m : Met) (next : ℕ) (ms : List Met) → scan (m ∷ ms) ≡ answer (stepOf m next) (scan ms)
 unfolding scan stepOf
-scan-answer m ms = sym (simp push)
+scan-answer m next ms = sym (simp push)
 
 past : (s n : ℕ) (b : Bool) (f : Fault) (y : Step) → Next s n ≡ cond b (Stop f) y → (b ≡ false) × (Next s n ≡ y)
 past s n true f y e = let z : _≡_ {A = ℕ} 0 1 = cc in absurd (omega arith)
@@ -123,24 +124,25 @@ pub record Read (m : Met) (s n : ℕ) : Type 0 where
   pub stage : s ≡ stageOf m
   pub body : n ≡ shapeIn Book (m .kind) .length
 
-pub read : (m : Met) (s n : ℕ) → Next s n ≡ stepOf m → Read m s n
+pub read : (m : Met) (end s next : ℕ) → Next s next ≡ stepOf m end → Read m s (shapeIn Book (m .kind) .length) × (next ≡ end)
 unfolding stepOf
-read m s n e =
-    let next = Next (stageOf m) (shapeIn Book (m .kind) .length) in
-    let five = cond (invalidByte m) (Stop InvalidByte) next in
+read m end s next e =
+    let five = cond (invalidByte m) (Stop InvalidByte) (Next (stageOf m) end) in
     let four = cond (limitExceeded m) (Stop LimitExceeded) five in
     let three = cond (outOfOrder m) (Stop OutOfOrder) four in
     let one = cond (truncated m) (Stop Truncated) three in
-    let a = past s n (unknownKind m) UnknownKind one e in
-    let b = past s n (truncated m) Truncated three (a .1) in
-    let d = past s n (outOfOrder m) OutOfOrder four (b .1) in
-    let f = past s n (limitExceeded m) LimitExceeded five (d .1) in
-    let g = past s n (invalidByte m) InvalidByte next (f .1) in
-    record {
-      clean = record { known = a .0; whole = b .0; ordered = d .0; few = f .0; valid = g .0 };
-      stage = cc (g .1);
-      body = cc (g .1);
-    }
+    let a = past s next (unknownKind m) UnknownKind one e in
+    let b = past s next (truncated m) Truncated three (a .1) in
+    let d = past s next (outOfOrder m) OutOfOrder four (b .1) in
+    let f = past s next (limitExceeded m) LimitExceeded five (d .1) in
+    let g = past s next (invalidByte m) InvalidByte (Next (stageOf m) end) (f .1) in (
+      record {
+        clean = record { known = a .0; whole = b .0; ordered = d .0; few = f .0; valid = g .0 };
+        stage = cc (g .1);
+        body = refl;
+      },
+      cc (g .1),
+    )
 
 -- Reading on
 
@@ -182,11 +184,19 @@ module _ (book : List ℕ) (at : ℕ) (t : Tally) (s n : ℕ) (inside : at < len
       (ap (λ (l : List Met). metAt book at t ∷ l)
       (skip n (drop (at + 1) book) (counted s t) (rw length-drop (omega (arith, room))) ∙ ap (λ (l : List ℕ). recordsFrom l 0 (counted s t)) (drop-drop n (at + 1) book)))
 
-  pub scan-next : Next s n ≡ stepOf (metAt book at t) → scan (recordsFrom (drop (at + 1 + n) book) 0 (counted s t)) ≡ scan (recordsFrom (drop at book) 0 t)
-  scan-next e =
+  -- it is whole
+  pub ends-at : endAt book at ≡ at + 1 + n
+  unfolding endAt bookRecordAt recordAt metAt
+  ends-at =
+      let w : ltb (length book - (at + 1)) (shapeIn Book (getD book at 0) .length) ≡ false = rw length-drop at (r .clean .whole) in
+      rw (lt-ltb at (length book) inside, r .clean .known, w, r .body)
+
+  pub scan-next : (next : ℕ) → Next s next ≡ stepAt book at t → scan (recordsFrom (drop (at + 1 + n) book) 0 (counted s t)) ≡ scan (recordsFrom (drop at book) 0 t)
+  unfolding stepAt
+  scan-next next e =
       sym
       (ap scan records-at
-      ∙ scan-answer (metAt book at t) (recordsFrom (drop (at + 1 + n) book) 0 (counted s t))
+      ∙ scan-answer (metAt book at t) (endAt book at) (recordsFrom (drop (at + 1 + n) book) 0 (counted s t))
       ∙ rw (← e))
 
 pub scan-stop : (book : List ℕ) (at : ℕ) (t : Tally) (f : Fault) → at < length book → Stop f ≡ stepAt book at t
@@ -195,7 +205,7 @@ unfolding stepAt
 scan-stop book at t f h e =
     sym
     (ap scan (records-head book at t h)
-    ∙ scan-answer (metAt book at t) _
+    ∙ scan-answer (metAt book at t) (endAt book at) _
     ∙ rw (← e))
 
 pub scan-end : (book : List ℕ) (at : ℕ) (t : Tally) → length book ≤ at → Sound ≡ scan (recordsFrom (drop at book) 0 t)

@@ -3,7 +3,6 @@ use Prim.Native.Nat.{ℕ, _+_}
 use mathlib.Core.Bool.{cond, not}
 use mathlib.Core.List.{List}
 use lib.ListN.{getD, drop}
-use Rattle.record.specs.Kinds.{shapeIn}
 use Rattle.record.specs.Record.{recordAt}
 use Rattle.record.specs.declared.Record.{Record}
 use Rattle.record.specs.declared.Record.the-variants.{End, Unknown, Whole}
@@ -16,15 +15,15 @@ use Rattle.scan.specs.Counting.{tallyOf}
 use Rattle.scan.specs.declared.Step.{Step}
 use Rattle.scan.specs.declared.Step.the-variants.{Stop, Next}
 
--- a record's first fault, in the order 2, 1, 3, 4, 5, or its stage and its body's length
-unfoldable pub stepOf : Met → Step
-stepOf m =
+-- a record's first fault, in the order 2, 1, 3, 4, 5, or its stage and the position after it
+unfoldable pub stepOf : Met → ℕ → Step
+stepOf m next =
     cond (unknownKind m) (Stop UnknownKind)
     (cond (truncated m) (Stop Truncated)
     (cond (outOfOrder m) (Stop OutOfOrder)
     (cond (limitExceeded m) (Stop LimitExceeded)
     (cond (invalidByte m) (Stop InvalidByte)
-    (Next (stageOf m) (shapeIn Book (m .kind) .length))))))
+    (Next (stageOf m) next)))))
 
 -- what stands at a position of a book
 unfoldable pub bookRecordAt : List ℕ → ℕ → Record
@@ -46,12 +45,12 @@ unfoldable pub metAt : List ℕ → ℕ → Tally → Met
 metAt bytes at t = record { before = t; kind = getD bytes at 0; rest = drop (at + 1) bytes }
 
 unfoldable pub stepAt : List ℕ → ℕ → Tally → Step
-stepAt bytes at t = stepOf (metAt bytes at t)
+stepAt bytes at t = stepOf (metAt bytes at t) (endAt bytes at)
 
--- of a whole record, the faults 3, 4 and 5
+-- of a whole record, up to the next one, the faults 3, 4 and 5
 unfoldable pub stepOver : List ℕ → ℕ → ℕ → ℕ → ℕ → ℕ → List ℕ → Step
-stepOver index last scopes k s n body =
+stepOver index last scopes k s next body =
     cond (not (follows last s)) (Stop OutOfOrder)
     (cond (exceeds (counted s (tallyOf index last scopes))) (Stop LimitExceeded)
     (cond (invalid k body) (Stop InvalidByte)
-    (Next s n)))
+    (Next s next)))

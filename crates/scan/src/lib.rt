@@ -19,7 +19,7 @@ ghost use Rattle.scan.specs.Step.{bookRecordAt, endAt, stepAt, stepOver}
 ghost use Rattle.scan.specs.Counting.{slotOf, numberOf, scopesWith, tallyOf, Counts, Counting};
 ghost use Rattle.scan.specs.Filling.{Room, stored, scopeBytes, FewScopes, Blank, Recorded};
 
-// A record: its first fault, or its stage and its body's length.
+// A record: its first fault, or its stage and the position after it.
 enum Step {
     Stop(Fault),
     Next(usize, usize),
@@ -136,18 +136,18 @@ fn read_on(book: &[u8], at: usize) -> usize
     reader.at
 }
 
-// A whole record after one of the stage `last`, the index having those before it.
+// A whole record, up to the next one, after one of the stage `last`, the index having those before it.
 fn step_over(
     index: &[u16],
     last: usize,
     scopes: usize,
     kind: u8,
     stage: usize,
-    length: usize,
+    next: usize,
     body: &[u8],
 ) -> Step
     requires { ⌜ Counting (now index) last scopes × (1 ≤ stage) × (stage ≤ 5) ⌝ }
-    ensures { λ r. ⌜ r ≡ stepOver (now (index .entry)) last scopes kind stage length (now (body .entry)) ⌝ }
+    ensures { λ r. ⌜ r ≡ stepOver (now (index .entry)) last scopes kind stage next (now (body .entry)) ⌝ }
 {
     if !may_follow(last, stage) {
         return Step::Stop(Fault::OutOfOrder);
@@ -159,7 +159,7 @@ fn step_over(
     if is_invalid(kind, body) {
         return Step::Stop(Fault::InvalidByte);
     }
-    Step::Next(stage, length)
+    Step::Next(stage, next)
 }
 
 // The record at a position, after one of the stage `last`, the index having those before it.
@@ -173,7 +173,8 @@ fn step_at(book: &[u8], index: &[u16], at: usize, last: usize, scopes: usize) ->
         Record::Truncated => Step::Stop(Fault::Truncated),
         Record::Whole(kind, stage, length) => {
             let body = body_at(book, at, length);
-            step_over(index, last, scopes, kind, stage, length, body)
+            let next = read_on(book, at);
+            step_over(index, last, scopes, kind, stage, next, body)
         }
     }
 }
@@ -240,11 +241,11 @@ pub fn read_records(book: &[u8], index: &mut [u16]) -> Reading
             Step::Stop(f) => {
                 return Reading::Faulty(f);
             }
-            Step::Next(stage, n) => {
+            Step::Next(stage, next) => {
                 store(index, at, stage, scopes);
                 scopes = scopes_with(stage, scopes);
                 last = stage;
-                at = at + 1 + n;
+                at = next;
             }
         }
     }

@@ -41,14 +41,8 @@ scopes-with-requires : tie.Need-scopes-with-requires Inv-loop μ-loop
 unfolding tallyOf
 scopes-with-requires c κs = c .before .before .before .before .before .before .before .before .before .before .loop .inv .counting .within .scopes
 
-add-at : tie.Need-add-at Inv-loop μ-loop
-add-at c = omega arith
-
-add-at-2 : tie.Need-add-at-2 Inv-loop μ-loop
-add-at-2 c = let r = next-inside _ _ _ _ _ _ (c .before .before .before .before .before .before .before .before .before .before .before .loop .inv) (c .before .before .before .before .before .before .before .before .before .before .loop-test .taken) _ _ (sym (c .before .before .before .before .before .before .stage .given .1) ∙ c .before .before .before .before .before .before .before .before .step-at .ensures) in omega arith
-
 loop-less : tie.Need-loop-less Inv-loop μ-loop
-loop-less c = let r = next-inside _ _ _ _ _ _ (c .before .before .before .before .before .before .before .before .before .before .before .loop .inv) (c .before .before .before .before .before .before .before .before .before .before .loop-test .taken) _ _ (sym (c .before .before .before .before .before .before .stage .given .1) ∙ c .before .before .before .before .before .before .before .before .step-at .ensures) in omega arith
+loop-less c = let r = next-inside _ _ _ _ _ _ (c .before .before .before .before .before .before .before .before .before .before .before .loop .inv) (c .before .before .before .before .before .before .before .before .before .before .loop-test .taken) _ _ (sym (c .before .before .before .before .before .before .stage .given .1) ∙ c .before .before .before .before .before .before .before .before .step-at .ensures) in let l = r .0 in let i = r .1 in omega arith
 
 loop-again : tie.Need-loop-again Inv-loop μ-loop
 loop-again c = going-turn _ _ _ _ _ _ (c .before .before .before .before .before .before .before .before .before .before .before .loop .inv) (c .before .before .before .before .before .before .before .before .before .before .loop-test .taken) _ _ (sym (c .before .before .before .before .before .before .stage .given .1) ∙ c .before .before .before .before .before .before .before .before .step-at .ensures) _ (c .before .before .before .store .ensures) _ (c .scopes-with .ensures)
@@ -73,8 +67,6 @@ read-records-spec =
     enum-known-stage
     store-requires
     scopes-with-requires
-    add-at
-    add-at-2
     loop-less
     loop-again
     same-length-2
