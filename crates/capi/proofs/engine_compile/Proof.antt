@@ -1,9 +1,7 @@
 -- `capi::engine_compile` meets its contract.
 -- Assumes nothing.
 use borrow.Author.Needs.{needs}
-use Rattle.answers.specs.Numbers.{compiledNumbers}
-use Rattle.engine.proofs.Placed.{compile-placed}
-use Rattle.capi.proofs.Replies.{said}
+use Rattle.capi.proofs.Replies.{compiled}
 use Rattle.capi.proofs.engine_compile.Statement.{statement}
 use Rattle.capi.proofs.engine_compile.Tie as tie
 
@@ -17,11 +15,7 @@ same-length : tie.Need-same-length
 same-length c = search needs
 
 returns : tie.Need-returns
-returns c =
-    record {
-      answer = said compiledNumbers (compile-placed _ _) (c .before .before .before .compile .ensures .answer) (c .pack-compiled .ensures);
-      memory = c .before .before .before .compile .ensures .memory;
-    }
+returns c = compiled (c .before .before .before .compile .ensures) (c .pack-compiled .ensures)
 
 pub engine-compile-spec : {M : Type 1} → statement M
 engine-compile-spec =

@@ -1,8 +1,7 @@
 -- `capi::engine_evaluate` meets its contract.
 -- Assumes nothing.
 use borrow.Author.Needs.{needs}
-use Rattle.engine.proofs.Placed.{evaluate-placed}
-use Rattle.capi.proofs.Replies.{replied}
+use Rattle.capi.proofs.Replies.{evaluated}
 use Rattle.capi.proofs.engine_evaluate.Statement.{statement}
 use Rattle.capi.proofs.engine_evaluate.Tie as tie
 
@@ -16,7 +15,7 @@ same-length : tie.Need-same-length
 same-length c = search needs
 
 returns : tie.Need-returns
-returns c = replied (evaluate-placed _ _ _ _) (c .before .before .before .evaluate .ensures) (c .pack-answer .ensures)
+returns c = evaluated _ _ _ (c .before .before .before .evaluate .ensures) (c .pack-answer .ensures)
 
 pub engine-evaluate-spec : {M : Type 1} → statement M
 engine-evaluate-spec = tie.close (tie.spec evaluate-requires pack-answer-requires same-length returns)

@@ -1,8 +1,7 @@
 -- `capi::engine_run` meets its contract.
 -- Assumes nothing.
 use borrow.Author.Needs.{needs}
-use Rattle.engine.proofs.Placed.{run-placed}
-use Rattle.capi.proofs.Replies.{replied}
+use Rattle.capi.proofs.Replies.{ran}
 use Rattle.capi.proofs.engine_run.Statement.{statement}
 use Rattle.capi.proofs.engine_run.Tie as tie
 
@@ -16,7 +15,7 @@ same-length : tie.Need-same-length
 same-length c = search needs
 
 returns : tie.Need-returns
-returns c = replied (run-placed _ _ _ _) (c .before .before .before .run .ensures) (c .pack-answer .ensures)
+returns c = ran _ _ _ (c .before .before .before .run .ensures) (c .pack-answer .ensures)
 
 pub engine-run-spec : {M : Type 1} → statement M
 engine-run-spec = tie.close (tie.spec run-requires pack-answer-requires same-length returns)
