@@ -127,7 +127,7 @@ fn clause_edges(book: &Rulebook, scope: usize, clause: &Clause) -> Vec<Edge> {
             Node::Subscope(k, _) => Some(call(k)),
             _ => None,
         };
-        let place = book.names[scope].nodes[usize::from(number)];
+        let place = book.names[scope].nodes[usize::from(number)].place;
         edges.extend(to.map(|to| Edge { from, to, place }));
         open.extend(node.operands());
     }

@@ -5,8 +5,8 @@ use second::cases::random::Random;
 
 /// What damage puts in: every word and sign, names as the printer makes them.
 const PIECES: &str = "scope variable sub-scope define rule label exception to under condition as \
-    if then else and not yes no empty conflict default none number yes/no unused record \
-    + - = < ( ) [ ] , | : . @ v0 v1 s0 scope0 scope1 c0 0 1 7 255 2147483647 2147483648 ? é";
+    if then else and or not yes no empty conflict default none number yes/no unused record \
+    + - = < > <= >= <> ( ) [ ] , | : . @ v0 v1 s0 scope0 scope1 c0 0 1 7 255 2147483647 2147483648 ? é";
 
 /// A few words of the text left out, doubled, exchanged or replaced.
 pub fn damaged(rng: &mut Random, text: &str) -> String {

@@ -1,39 +1,24 @@
 //! Tokens to nodes. Tightest first: `-` before an operand, `+` and `-`, at most one
-//! `=` or `<`, `not`, `and`; an `if` is open to the right.
+//! comparison, `not`, `and`, `or`; an `if` is open to the right.
 
 use crate::lexer::Kind;
+use crate::operations::{of_sign, Operation, COMPARISON, NEGATION, NOT, OR};
 use crate::parser::{within, Parser};
 use crate::place::{Checked, Fault, Place};
 use crate::syntax::{Form, Node};
 use second::kind;
-
-/// How tightly signs bind.
-pub const AND: u8 = 1;
-pub const NOT: u8 = 2;
-pub const COMPARISON: u8 = 3;
-pub const SUM: u8 = 4;
-pub const NEGATION: u8 = 5;
 
 pub const MAX_NODES: usize = 250;
 
 /// More than any text of 250 nodes needs.
 const MAX_DEPTH: usize = 700;
 
-/// Sign or word, record kind and level of each operation with two operands.
-pub const OPERATIONS: [(&str, u8, u8); 5] = [
-    ("and", kind::AND, AND),
-    ("=", kind::EQUAL, COMPARISON),
-    ("<", kind::LESS, COMPARISON),
-    ("+", kind::ADD, SUM),
-    ("-", kind::SUBTRACT, SUM),
-];
-
 impl Parser {
     /// Reads an expression; hands back its node.
     pub(crate) fn expression(&mut self) -> Checked<usize> {
         self.deeper(|parser| match parser.at_word("if") {
             true => parser.conditional(),
-            false => parser.operation(AND),
+            false => parser.operation(OR),
         })
     }
 
@@ -48,12 +33,23 @@ impl Parser {
     }
 
     fn add(&mut self, place: Place, form: Form) -> Checked<usize> {
+        self.add_signed(place, form, None)
+    }
+
+    /// Adds a node for which, with others, a sign stands.
+    pub(crate) fn add_signed(
+        &mut self,
+        place: Place,
+        form: Form,
+        sign: Option<&'static str>,
+    ) -> Checked<usize> {
         let have = self.scope.nodes.len();
         within(have, MAX_NODES, place, "nodes in a scope")?;
         self.scope.nodes.push(Node {
             place,
             form,
             fixed: None,
+            sign,
         });
         Ok(have)
     }
@@ -70,32 +66,29 @@ impl Parser {
     }
 
     /// Operations of a level or tighter, from the left.
-    fn operation(&mut self, level: u8) -> Checked<usize> {
+    pub(crate) fn operation(&mut self, level: u8) -> Checked<usize> {
+        let start = self.scope.nodes.len();
         let mut left = self.operand(level)?;
         let mut compared = false;
-        while let Some((record, own)) = self.sign().filter(|&(_, own)| own >= level) {
-            if own == COMPARISON && compared {
-                let message = "only one '=' or '<' may stand here; use parentheses";
+        while let Some(operation) = self.sign().filter(|o| o.level >= level) {
+            if operation.level == COMPARISON && compared {
+                let message = "only one comparison may stand here; say 'a < b and b < c', \
+                               or use parentheses";
                 return Err(Fault::at(self.place(), message));
             }
-            compared = own == COMPARISON;
+            compared = operation.level == COMPARISON;
             self.advance();
-            let right = self.operation(own + 1)?;
-            let place = self.scope.nodes[left].place;
-            left = self.add(place, Form::Binary(record, left, right))?;
+            left = self.operate(operation, start, left)?;
         }
         Ok(left)
     }
 
-    /// Record kind and level of the operation whose sign stands here.
-    fn sign(&self) -> Option<(u8, u8)> {
-        let written = match &self.token().kind {
-            Kind::Sign(sign) => sign.to_string(),
-            Kind::Word(word) => word.to_string(),
-            _ => return None,
-        };
-        let found = OPERATIONS.iter().find(|(sign, _, _)| *sign == written);
-        found.map(|&(_, record, level)| (record, level))
+    /// The operation whose sign stands here.
+    fn sign(&self) -> Option<&'static Operation> {
+        match self.token().kind {
+            Kind::Sign(sign) | Kind::Word(sign) => of_sign(sign),
+            _ => None,
+        }
     }
 
     /// An operand of an operation of a level: `not` only where it binds more tightly.
@@ -105,7 +98,7 @@ impl Parser {
             let node = self.deeper(|parser| parser.operation(NOT))?;
             return self.add(place, Form::Unary(kind::NOT, node));
         }
-        if self.take_sign('-') {
+        if self.take_sign("-") {
             return self.negated(place);
         }
         self.atom()
@@ -137,8 +130,8 @@ impl Parser {
                 let reference = self.reference()?;
                 self.add(place, Form::Read(reference))
             }
-            Kind::Sign('(') => self.parenthesis(),
-            Kind::Sign('@') => self.fixed(),
+            Kind::Sign("(") => self.parenthesis(),
+            Kind::Sign("@") => self.fixed(),
             Kind::Word(word) => self.word(word),
             _ => self.expected("a number, a name or '('"),
         }
@@ -171,16 +164,16 @@ impl Parser {
     }
 
     fn parenthesis(&mut self) -> Checked<usize> {
-        self.need_sign('(')?;
+        self.need_sign("(")?;
         let node = self.expression()?;
-        self.need_sign(')')?;
+        self.need_sign(")")?;
         Ok(node)
     }
 
     /// `@7 (a + b)`: the node of what follows gets number 7.
     fn fixed(&mut self) -> Checked<usize> {
         let place = self.place();
-        self.need_sign('@')?;
+        self.need_sign("@")?;
         let Kind::Number(n) = self.token().kind else {
             return self.expected("the number of a node");
         };
@@ -199,13 +192,13 @@ impl Parser {
     fn default_term(&mut self) -> Checked<usize> {
         let place = self.place();
         self.need_word("default")?;
-        self.need_sign('[')?;
+        self.need_sign("[")?;
         let exceptions = self.exceptions()?;
-        self.need_sign('|')?;
+        self.need_sign("|")?;
         let justification = self.expression()?;
-        self.need_sign(':')?;
+        self.need_sign(":")?;
         let consequence = self.expression()?;
-        self.need_sign(']')?;
+        self.need_sign("]")?;
         let form = Form::Default(exceptions, justification, consequence);
         self.add(place, form)
     }
@@ -213,14 +206,14 @@ impl Parser {
     /// Up to three, separated by commas; `none` leaves a place free.
     fn exceptions(&mut self) -> Checked<[Option<usize>; 3]> {
         let mut exceptions = [None; 3];
-        if self.at_sign('|') {
+        if self.at_sign("|") {
             return Ok(exceptions);
         }
         for place in 0..3 {
             if !self.take_word("none") {
                 exceptions[place] = Some(self.expression()?);
             }
-            if !self.take_sign(',') {
+            if !self.take_sign(",") {
                 return Ok(exceptions);
             }
         }

@@ -3,7 +3,7 @@
 use crate::place::{Checked, Fault, Place};
 
 /// The words of the language; none of them can be a name.
-pub const WORDS: [&str; 26] = [
+pub const WORDS: [&str; 27] = [
     "scope",
     "variable",
     "sub-scope",
@@ -19,6 +19,7 @@ pub const WORDS: [&str; 26] = [
     "then",
     "else",
     "and",
+    "or",
     "not",
     "yes",
     "no",
@@ -32,7 +33,10 @@ pub const WORDS: [&str; 26] = [
     "record",
 ];
 
-const SIGNS: &str = "+-=<()[],|:.@";
+/// The signs of the language; of two that fit, the longer one stands first.
+pub const SIGNS: [&str; 17] = [
+    "<=", ">=", "<>", "<", ">", "=", "+", "-", "(", ")", "[", "]", ",", "|", ":", ".", "@",
+];
 
 #[derive(Clone, Debug, PartialEq, Eq)]
 pub enum Kind {
@@ -40,7 +44,7 @@ pub enum Kind {
     Word(&'static str),
     /// Digits; a number too large for any use is the largest.
     Number(u64),
-    Sign(char),
+    Sign(&'static str),
     End,
 }
 
@@ -97,13 +101,22 @@ impl<'a> Lexer<'a> {
             None => Kind::End,
             Some(c) if c.is_alphabetic() => self.word(),
             Some(c) if c.is_ascii_digit() => self.number()?,
-            Some(c) if SIGNS.contains(c) => {
-                self.advance();
-                Kind::Sign(c)
+            Some(c) => {
+                let sign = self.sign();
+                sign.ok_or_else(|| Fault::at(place, unknown(c, self.rest)))?
             }
-            Some(c) => return Err(Fault::at(place, unknown(c))),
         };
         Ok(Token { kind, place })
+    }
+
+    /// A sign, unless one of other languages begins with it.
+    fn sign(&mut self) -> Option<Kind> {
+        if foreign(self.rest).is_some() {
+            return None;
+        }
+        let sign = SIGNS.iter().find(|&&sign| self.rest.starts_with(sign))?;
+        sign.chars().for_each(|_| self.advance());
+        Some(Kind::Sign(sign))
     }
 
     /// Goes past spaces, line ends and comments.
@@ -180,9 +193,34 @@ fn is_inner(c: char) -> bool {
     c.is_alphanumeric() || c == '_'
 }
 
-fn unknown(c: char) -> String {
+/// Signs of other languages or of print, and what they are here.
+const FOREIGN: [(&str, &str); 12] = [
+    ("==", "="),
+    ("=>", ">="),
+    ("=<", "<="),
+    ("!=", "<>"),
+    ("!", "not"),
+    ("&", "and"),
+    ("||", "or"),
+    ("≥", ">="),
+    ("≤", "<="),
+    ("≠", "<>"),
+    ("−", "-"),
+    ("–", "-"),
+];
+
+/// The foreign sign that a text begins with, and what it is here.
+fn foreign(text: &str) -> Option<(&'static str, &'static str)> {
+    let begins = |&&(sign, _): &&(&str, &str)| text.starts_with(sign);
+    FOREIGN.iter().find(begins).copied()
+}
+
+/// What is wrong with a text that begins with a character of no sign.
+fn unknown(c: char, text: &str) -> String {
+    if let Some((sign, here)) = foreign(text) {
+        return format!("there is no '{sign}'; write '{here}'");
+    }
     match c {
-        '>' => "there is no '>'; turn the comparison around and use '<'".to_string(),
         '*' | '/' => format!("there is no '{c}'; numbers are added and subtracted only"),
         _ => format!("the character '{}' has no meaning here", c.escape_debug()),
     }
@@ -208,7 +246,7 @@ mod tests {
         assert_eq!(kinds("yes/no"), [Kind::Word("yes/no"), Kind::End]);
         let apart = [
             Kind::Name("sub".to_string()),
-            Kind::Sign('-'),
+            Kind::Sign("-"),
             Kind::Name("scopes".to_string()),
             Kind::End,
         ];
@@ -236,7 +274,9 @@ mod tests {
 
     #[test]
     fn unknown_characters() {
-        assert!(fault("a\n >").starts_with("f:2:2: there is no '>'"));
+        assert!(fault("a\n ≥").starts_with("f:2:2: there is no '≥'; write '>='"));
+        assert_eq!(fault("a != b"), "f:1:3: there is no '!='; write '<>'");
+        assert_eq!(fault("a == b"), "f:1:3: there is no '=='; write '='");
         assert!(fault("?").starts_with("f:1:1: the character '?'"));
     }
 }

@@ -2,7 +2,8 @@
 //! books and back; explanations of an evaluation; drawings of default trees. The
 //! language is described in docs/LANGUAGE.md.
 //!
-//! - text to book (`reading`): `lexer`, `parser` and `expression` give the `syntax`;
+//! - text to book (`reading`): `lexer`, `parser`, `expression` and `operations` give the
+//!   `syntax`;
 //!   `names`, `typing`, `numbering` and `cycles` make it a `rulebook`; `writer` gives
 //!   the bytes
 //! - book to text: `printer`, and `records` for books that the judge refuses
@@ -23,6 +24,7 @@ pub mod inputs;
 pub mod lexer;
 pub mod names;
 pub mod numbering;
+pub mod operations;
 pub mod parser;
 pub mod place;
 pub mod printer;

@@ -1,8 +1,8 @@
 //! Names to numbers: every name must name one thing, declared before or after its use.
 
 use crate::place::{Fault, Faults};
-use crate::rulebook::{ClauseName, Names};
-use crate::syntax::{Clause, Consequence, Exception, Form, Reference, Scope, Word};
+use crate::rulebook::{ClauseName, Names, NodeName};
+use crate::syntax::{self, Clause, Consequence, Exception, Form, Reference, Scope, Word};
 use second::kind::NONE;
 use second::scope::{self, Node, Target};
 use second::value::Type;
@@ -164,6 +164,13 @@ fn is_typed(form: &Form) -> bool {
     !matches!(form, Form::Raise(_, None))
 }
 
+fn node_name(node: &syntax::Node) -> NodeName {
+    NodeName {
+        place: node.place,
+        sign: node.sign,
+    }
+}
+
 fn names_of(scope: &Scope) -> Names {
     let clause = |clause: &Clause| ClauseName {
         place: clause.place,
@@ -173,7 +180,7 @@ fn names_of(scope: &Scope) -> Names {
         scope: scope.name.clone(),
         variables: scope.variables.iter().map(|v| v.name.clone()).collect(),
         subscopes: scope.subscopes.iter().map(|s| s.name.clone()).collect(),
-        nodes: scope.nodes.iter().map(|node| node.place).collect(),
+        nodes: scope.nodes.iter().map(node_name).collect(),
         clauses: scope.clauses.iter().map(clause).collect(),
     }
 }

@@ -3,6 +3,7 @@
 
 use crate::names::Resolved;
 use crate::place::{Fault, Faults, Place};
+use crate::rulebook::NodeName;
 use crate::syntax;
 use second::kind::NONE;
 use second::scope::{Clause, Consequence, Node, Scope};
@@ -24,8 +25,8 @@ pub fn number_nodes(
         .iter()
         .map(|&node| with_operands(resolved.nodes[node], renumbered))
         .collect();
-    let places = order.iter().map(|&node| resolved.names.nodes[node]);
-    resolved.names.nodes = places.collect();
+    let names = order.iter().map(|&node| resolved.names.nodes[node]);
+    resolved.names.nodes = names.collect();
     check_order(&moved, &resolved.names.nodes)?;
     let clauses = resolved.clauses.iter();
     let scope = Scope {
@@ -65,7 +66,7 @@ fn numbers(fixed: &[Option<(u8, Place)>]) -> Result<Vec<u8>, Vec<Fault>> {
 }
 
 /// "A node names nodes of lower number only".
-fn check_order(nodes: &[Node], places: &[Place]) -> Result<(), Vec<Fault>> {
+fn check_order(nodes: &[Node], names: &[NodeName]) -> Result<(), Vec<Fault>> {
     let mut faults = Faults::default();
     for (number, node) in nodes.iter().enumerate() {
         if node
@@ -73,7 +74,7 @@ fn check_order(nodes: &[Node], places: &[Place]) -> Result<(), Vec<Fault>> {
             .any(|operand| usize::from(operand) >= number)
         {
             let message = format!("this node is @{number}, and a part of it has a higher number");
-            faults.add(places[number], message);
+            faults.add(names[number].place, message);
         }
     }
     faults.settled()

@@ -56,8 +56,8 @@ impl Parser {
         matches!(self.token().kind, Kind::Word(found) if found == word)
     }
 
-    pub(crate) fn at_sign(&self, sign: char) -> bool {
-        self.token().kind == Kind::Sign(sign)
+    pub(crate) fn at_sign(&self, sign: &str) -> bool {
+        matches!(self.token().kind, Kind::Sign(found) if found == sign)
     }
 
     /// Goes past the word if it stands here.
@@ -69,7 +69,7 @@ impl Parser {
         here
     }
 
-    pub(crate) fn take_sign(&mut self, sign: char) -> bool {
+    pub(crate) fn take_sign(&mut self, sign: &str) -> bool {
         let here = self.at_sign(sign);
         if here {
             self.advance();
@@ -92,7 +92,7 @@ impl Parser {
         }
     }
 
-    pub(crate) fn need_sign(&mut self, sign: char) -> Checked<()> {
+    pub(crate) fn need_sign(&mut self, sign: &str) -> Checked<()> {
         match self.take_sign(sign) {
             true => Ok(()),
             false => self.expected(&format!("'{sign}'")),
@@ -161,7 +161,7 @@ impl Parser {
         let place = self.place();
         self.advance();
         let name = self.name("a variable")?;
-        self.need_sign(':')?;
+        self.need_sign(":")?;
         let Some(of) = self.take_type() else {
             return self.expected("yes/no or number");
         };
@@ -175,7 +175,7 @@ impl Parser {
         let place = self.place();
         self.advance();
         let name = self.name("a sub-scope")?;
-        self.need_sign(':')?;
+        self.need_sign(":")?;
         let calls = self.name("the scope that is called")?;
         let have = self.scope.subscopes.len();
         within(have, MAX_SUBSCOPES, place, "sub-scopes in a scope")?;
@@ -239,7 +239,7 @@ impl Parser {
     /// `variable` or `sub-scope.variable`.
     pub(crate) fn reference(&mut self) -> Checked<Reference> {
         let first = self.name("a variable")?;
-        if !self.take_sign('.') {
+        if !self.take_sign(".") {
             return Ok(Reference {
                 subscope: None,
                 variable: first,

@@ -1,11 +1,11 @@
 //! Book to text. A book has no names, so they are made: scope0, v0, s0, and c0 for a
 //! clause that needs a label. What is printed depends on the book alone.
 
-use crate::expression::{AND, COMPARISON, NEGATION, NOT, OPERATIONS, SUM};
 use crate::numbering::to_fix;
+use crate::operations::{of_kind, of_sign, Operation, COMPARISON, NEGATION, NOT, SUM};
 use crate::place::{Fault, Place};
 use crate::records::print_records;
-use crate::rulebook::{type_name, ClauseName, Names, Rulebook};
+use crate::rulebook::{type_name, ClauseName, Names, NodeName, Rulebook};
 use crate::syntax::Word;
 use crate::words::{refusal, wrapped};
 use second::decode::decode;
@@ -48,7 +48,7 @@ fn made_names((number, scope): (usize, &Scope)) -> Names {
         scope: word("scope", number),
         variables: all("v", scope.variables.len()),
         subscopes: all("s", scope.subscopes.len()),
-        nodes: vec![Place::default(); scope.nodes.len()],
+        nodes: vec![NodeName::default(); scope.nodes.len()],
         clauses: clauses.collect(),
     }
 }
@@ -195,8 +195,7 @@ impl<'a> Expressions<'a> {
 
     /// An expression, in parentheses where it binds less tightly than `level`.
     pub fn node(&self, number: u8, level: u8) -> String {
-        let node = &self.book.scopes[self.scope].nodes[usize::from(number)];
-        let (text, own) = self.form(node);
+        let (text, own) = self.form(number);
         if self.fixed[usize::from(number)] {
             return match own {
                 ATOM => format!("@{number} {text}"),
@@ -209,9 +208,17 @@ impl<'a> Expressions<'a> {
         }
     }
 
+    fn at(&self, number: u8) -> Node {
+        self.book.scopes[self.scope].nodes[usize::from(number)]
+    }
+
     /// The expression and how tightly it binds.
-    fn form(&self, node: &Node) -> (String, u8) {
-        match *node {
+    fn form(&self, number: u8) -> (String, u8) {
+        let sign = self.book.names[self.scope].nodes[usize::from(number)].sign;
+        if let Some(operation) = sign.and_then(of_sign) {
+            return self.signed(operation, number);
+        }
+        match self.at(number) {
             Node::Constant(yes) => (if yes { "yes" } else { "no" }.to_string(), ATOM),
             Node::Number(n) => (n.to_string(), if n < 0 { NEGATION } else { ATOM }),
             Node::Own(v) => (self.book.variable_name(self.scope, NONE, v), ATOM),
@@ -240,15 +247,40 @@ impl<'a> Expressions<'a> {
     }
 
     fn operation(&self, kind: u8, a: u8, b: u8) -> (String, u8) {
-        let found = OPERATIONS.iter().find(|(_, own, _)| *own == kind);
-        let (sign, level) = found.map_or(("?", AND), |&(sign, _, level)| (sign, level));
-        // From the left; a comparison has none beside it.
-        let left = match level {
+        match of_kind(kind) {
+            Some(operation) => (self.sides(operation, a, b), operation.level),
+            None => (String::new(), ATOM),
+        }
+    }
+
+    /// Operations stand from the left; a comparison has none beside it.
+    fn sides(&self, operation: &Operation, a: u8, b: u8) -> String {
+        let left = match operation.level {
             COMPARISON => SUM,
             level => level,
         };
-        let (a, b) = (self.node(a, left), self.node(b, level + 1));
-        (format!("{a} {sign} {b}"), level)
+        let (a, b) = (self.node(a, left), self.node(b, operation.level + 1));
+        format!("{a} {} {b}", operation.sign)
+    }
+
+    /// Nodes for which one sign was written.
+    fn signed(&self, operation: &Operation, number: u8) -> (String, u8) {
+        let operand = |number: u8| self.at(number).operands().next().unwrap_or(number);
+        let inner = match operation.negated {
+            true => operand(number),
+            false => number,
+        };
+        let mut sides: Vec<u8> = self.at(inner).operands().collect();
+        if operation.of_negations {
+            sides = sides.into_iter().map(operand).collect();
+        }
+        if operation.exchanged {
+            sides.reverse();
+        }
+        match sides[..] {
+            [a, b] => (self.sides(operation, a, b), operation.level),
+            _ => (String::new(), ATOM),
+        }
     }
 
     fn default_term(&self, exceptions: [u8; 3], j: u8, c: u8) -> String {

@@ -19,8 +19,15 @@ pub struct Names {
     pub scope: Word,
     pub variables: Vec<Word>,
     pub subscopes: Vec<Word>,
-    pub nodes: Vec<Place>,
+    pub nodes: Vec<NodeName>,
     pub clauses: Vec<ClauseName>,
+}
+
+/// Where a node stands, and the sign that stands for it and others.
+#[derive(Clone, Copy, Debug, Default)]
+pub struct NodeName {
+    pub place: Place,
+    pub sign: Option<&'static str>,
 }
 
 /// Where a clause stands, and its label.

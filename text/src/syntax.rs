@@ -68,6 +68,8 @@ pub struct Node {
     pub form: Form,
     /// The number that `@` fixes, and where.
     pub fixed: Option<(u8, Place)>,
+    /// The sign that stands for this node and others; see `operations`.
+    pub sign: Option<&'static str>,
 }
 
 /// What a node is; operands are places in the scope's list of nodes.
@@ -84,6 +86,22 @@ pub enum Form {
     Binary(u8, usize, usize),
     If(usize, usize, usize),
     Default([Option<usize>; 3], usize, usize),
+}
+
+impl Form {
+    /// Gives every operand another place.
+    pub fn rename(&mut self, place: impl Fn(usize) -> usize) {
+        match self {
+            Form::Constant(_) | Form::Number(_) | Form::Read(_) | Form::Raise(..) => {}
+            Form::Unary(_, a) => *a = place(*a),
+            Form::Binary(_, a, b) => (*a, *b) = (place(*a), place(*b)),
+            Form::If(a, b, c) => (*a, *b, *c) = (place(*a), place(*b), place(*c)),
+            Form::Default(exceptions, j, c) => {
+                *exceptions = exceptions.map(|e| e.map(&place));
+                (*j, *c) = (place(*j), place(*c));
+            }
+        }
+    }
 }
 
 #[derive(Debug)]

@@ -28,10 +28,10 @@ fn write_type((node, of): (&mut Node, Option<Type>)) {
 }
 
 /// What a place wants of the node in it.
-#[derive(Clone, Copy)]
+#[derive(Clone)]
 struct Wanted {
     of: Type,
-    by: &'static str,
+    by: String,
 }
 
 struct Typing<'a> {
@@ -92,7 +92,8 @@ impl Typing<'_> {
         }
     }
 
-    fn want(&mut self, node: u8, of: Type, by: &'static str) {
+    fn want(&mut self, node: u8, of: Type, by: impl Into<String>) {
+        let by = by.into();
         self.wanted[usize::from(node)] = Some(Wanted { of, by });
     }
 
@@ -117,32 +118,37 @@ impl Typing<'_> {
 
     /// Compares the node's type with the wanted one and asks for its operands'.
     fn node(&mut self, number: usize, faults: &mut Faults) {
-        let place = self.scope.names.nodes[number];
-        let of = match (self.own[number], self.wanted[number]) {
+        let place = self.scope.names.nodes[number].place;
+        let of = match (self.own[number], &self.wanted[number]) {
             (Some(own), Some(wanted)) if own != wanted.of => {
-                let (by, of, own) = (wanted.by, type_name(wanted.of), type_name(own));
+                let (by, of, own) = (&wanted.by, type_name(wanted.of), type_name(own));
                 faults.add(place, format!("{by} is a {of}, and this is a {own}"));
                 self.own[number]
             }
-            (own, wanted) => own.or(wanted.map(|wanted| wanted.of)),
+            (own, wanted) => own.or(wanted.as_ref().map(|wanted| wanted.of)),
         };
         let Some(of) = of else {
             let message = "the type is not clear here: say which, as in 'empty number'";
             return faults.add(place, message);
         };
         self.own[number] = Some(of);
-        self.ask(self.scope.nodes[number], of);
+        self.ask(number, of);
     }
 
     /// What a node of a type wants of its operands.
-    fn ask(&mut self, node: Node, of: Type) {
-        match node {
-            Node::Unary(kind::NOT, a) => self.want(a, Type::YesNo, "what 'not' takes"),
+    fn ask(&mut self, number: usize, of: Type) {
+        let sign = self.scope.names.nodes[number].sign;
+        match self.scope.nodes[number] {
+            Node::Unary(kind::NOT, a) => {
+                let sign = sign.unwrap_or("not");
+                self.want(a, Type::YesNo, format!("what '{sign}' takes"));
+            }
             Node::Unary(_, a) => self.want(a, Type::Number, "what '-' takes"),
-            Node::Binary(kind::EQUAL, a, b) => self.ask_equal(a, b),
+            Node::Binary(kind::EQUAL, a, b) => self.ask_equal(a, b, sign.unwrap_or("=")),
             Node::Binary(kind, a, b) => {
-                let (operands, by) = operands_of(kind);
-                self.want(a, operands, by);
+                let (operands, own) = operands_of(kind);
+                let by = format!("what '{}' takes", sign.unwrap_or(own));
+                self.want(a, operands, by.clone());
                 self.want(b, operands, by);
             }
             Node::If(condition, then, other) => {
@@ -162,21 +168,22 @@ impl Typing<'_> {
     }
 
     /// "Equal takes two of one type": that of the left one where it is clear.
-    fn ask_equal(&mut self, a: u8, b: u8) {
+    fn ask_equal(&mut self, a: u8, b: u8, sign: &str) {
         let own = |node: u8| self.own[usize::from(node)];
         if let Some(of) = own(a).or(own(b)) {
-            self.want(a, of, "the other side of '='");
-            self.want(b, of, "the other side of '='");
+            self.want(a, of, format!("the other side of '{sign}'"));
+            self.want(b, of, format!("the other side of '{sign}'"));
         }
     }
 }
 
+/// What an operation takes, and its sign.
 fn operands_of(kind: u8) -> (Type, &'static str) {
     match kind {
-        kind::AND => (Type::YesNo, "what 'and' takes"),
-        kind::ADD => (Type::Number, "what '+' takes"),
-        kind::SUBTRACT => (Type::Number, "what '-' takes"),
-        _ => (Type::Number, "what '<' takes"),
+        kind::AND => (Type::YesNo, "and"),
+        kind::ADD => (Type::Number, "+"),
+        kind::SUBTRACT => (Type::Number, "-"),
+        _ => (Type::Number, "<"),
     }
 }
 

@@ -113,3 +113,15 @@ every variable has a value; scopes entered: 2
 ";
     assert_eq!(explained(text, &[]), expected);
 }
+
+#[test]
+fn conditions_are_shown_as_written() {
+    let text = "scope s variable n : number variable y : yes/no
+define y under condition n >= 80 or (n <> 3 and 5 > n) as n <= 7 or n + 1 > 9";
+    let words = explained(text, &["n=4"]);
+    assert!(
+        words.contains("'n >= 80 or n <> 3 and 5 > n' is yes (n = 4)"),
+        "{words}"
+    );
+    assert!(words.contains("says 'n <= 7 or n + 1 > 9'"), "{words}");
+}

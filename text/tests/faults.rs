@@ -70,7 +70,7 @@ fn expressions() {
         ),
         (
             "define y as 1 < 2 < 3",
-            "f:2:19: only one '=' or '<' may stand here; use parentheses",
+            "f:2:19: only one comparison may stand here; say 'a < b and b < c', or use parentheses",
         ),
         (
             "define y as y = not z",
@@ -233,6 +233,22 @@ fn types() {
         (
             "define z as y = n",
             "f:2:17: the other side of '=' is a yes/no, and this is a number",
+        ),
+        (
+            "define y as n >= z",
+            "f:2:18: what '>=' takes is a number, and this is a yes/no",
+        ),
+        (
+            "define y as z > n",
+            "f:2:13: what '>' takes is a number, and this is a yes/no",
+        ),
+        (
+            "define y as z or n",
+            "f:2:18: what 'or' takes is a yes/no, and this is a number",
+        ),
+        (
+            "define y as z <> n",
+            "f:2:18: the other side of '<>' is a yes/no, and this is a number",
         ),
         (
             "define n as if n then 1 else 2",

@@ -91,6 +91,53 @@ fn precedence() {
 }
 
 #[test]
+fn signs_that_stand_for_several_nodes() {
+    same("a > 1", "1 < a");
+    same("a + 2 > 1 - a", "1 - a < a + 2");
+    same("a <= 1", "not (1 < a)");
+    same("a >= 1", "not (a < 1)");
+    same("a <> 1", "not (a = 1)");
+    same("y <> z", "not (y = z)");
+    same("y or z", "not (not y and not z)");
+    same("y or z or y", "(y or z) or y");
+    same("y or z and y", "y or (z and y)");
+    same("not y or z", "(not y) or z");
+    same("not a > 1", "not (1 < a)");
+    same("y or a >= 80 and z", "y or ((not (a < 80)) and z)");
+    same(
+        "(if y or z then a else 1) > -a",
+        "-a < (if not (not y and not z) then a else 1)",
+    );
+    same(
+        "default [y, none, z | a > 1 : y] <> y",
+        "not (default [y, none, z | 1 < a : y] = y)",
+    );
+}
+
+/// Each sign decides as its words say, at and on both sides of the threshold.
+#[test]
+fn thresholds_stay_where_they_are_written() {
+    let table = [
+        ("n > 80", [false, false, true]),
+        ("n >= 80", [false, true, true]),
+        ("n < 80", [true, false, false]),
+        ("n <= 80", [true, true, false]),
+        ("n = 80", [false, true, false]),
+        ("n <> 80", [true, false, true]),
+        ("n < 80 or n > 80", [true, false, true]),
+    ];
+    for (condition, expected) in table {
+        let text =
+            format!("scope s variable n : number variable y : yes/no define y as {condition}");
+        for (n, expected) in [79, 80, 81].into_iter().zip(expected) {
+            let word = if expected { "yes" } else { "no" };
+            let printed = format!("value 1 / 0 {n} / 1 {word}");
+            assert_eq!(answer(&text, &[&format!("n={n}")]), printed, "{condition}");
+        }
+    }
+}
+
+#[test]
 fn a_negative_number_is_no_negated_one() {
     let text = |e: &str| format!("scope s variable x : number define x as {e}");
     assert_ne!(book(&text("-5")), book(&text("-(5)")));
