@@ -4,14 +4,15 @@
     python3 docs/tour.py      from the project's root
 
 An indented block is commands, or what the commands before it print. A block of commands begins with one of the words below. Commands of
-the first block, which prove the engine and build the programs, are run too. Only `text to-book target/wrong.rules` may fail.
+the first block, which prove the engine and build the programs, are run too. Commands that end as below, and the conflict, must fail.
 """
 import re
 import subprocess
 import sys
 
 COMMANDS = ("rt", "cargo", "export", "cat", "text", "sed", "cc", "scanner")
-FAILS = "target/wrong.rules; text to-book target/wrong.rules"
+FAILS = ("text judge target/wrong.book\n", "text judge target/wrong.rules\n")
+CONFLICT = "text evaluate target/speed.rules film shrunken=yes nitrate=yes\n"
 
 
 def blocks(text):
@@ -27,7 +28,7 @@ def commands(block):
 
 def main():
     text = open("docs/TOUR.md", encoding="utf-8").read()
-    setting, printed, passed, failed = "", "", 0, []
+    setting, printed, passed, failed, ran = "", "", 0, [], []
     for block in blocks(text):
         if not block.startswith(COMMANDS):
             ok = block in printed
@@ -39,8 +40,10 @@ def main():
                 setting = command
                 continue
             run = subprocess.run(["bash", "-c", setting + command], capture_output=True, text=True)
+            fails = command.endswith(FAILS) or (command == CONFLICT and command not in ran)
+            ran += [command]
             printed += run.stdout
-            ok = (run.returncode == 0) != (FAILS in command)
+            ok = (run.returncode == 0) != fails
             passed += ok
             failed += [] if ok else [f"{command}{run.stdout}{run.stderr}"]
     for word in re.findall(r"prints `([^`]+)`", text):

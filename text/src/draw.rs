@@ -21,6 +21,7 @@ const WIDEST: usize = 40;
 pub fn draw(book: &Rulebook, scope: usize, target: &str) -> Result<String, String> {
     let title = format!("{target} in scope {}", book.names[scope].scope.text);
     let target = find_target(book, scope, target)?;
+    let (scope, target) = decider(book, scope, target);
     let root = root(book, scope, target);
     let width = root.span() + 2 * GAP;
     let height = root.depth() + 2 * GAP;
@@ -56,6 +57,20 @@ fn find_target(book: &Rulebook, scope: usize, name: &str) -> Result<Target, Stri
         subscope,
         variable: variable as u8,
     })
+}
+
+/// The scope whose clauses decide a target, and what it is there: a variable of a
+/// sub-scope that is not overridden is decided by the scope that is called.
+fn decider(book: &Rulebook, scope: usize, target: Target) -> (usize, Target) {
+    let mut clauses = book.scopes[scope].clauses.iter();
+    if target.subscope == NONE || clauses.any(|clause| clause.target == target) {
+        return (scope, target);
+    }
+    let own = Target {
+        subscope: NONE,
+        ..target
+    };
+    (book.callee(scope, target.subscope), own)
 }
 
 /// A box of a drawing; the first line is its heading.
@@ -260,6 +275,17 @@ mod tests {
         assert_eq!(svg.matches("<rect x=").count(), 1);
         assert!(draw(&book, 0, "other").is_err());
         assert!(draw(&book, 0, "other.speed").is_err());
+    }
+
+    #[test]
+    fn what_is_not_overridden_is_decided_by_the_scope_that_is_called() {
+        let text = "scope s variable m : number sub-scope k : t define k.n as 1
+            scope t variable n : number variable y : yes/no define n as 2 rule y";
+        let book = to_rulebook(text).expect("a sound text");
+        let drawn = |target| draw(&book, 0, target).expect("a target");
+        assert!(drawn("k.n").contains("k.n is 1"));
+        assert!(drawn("k.y").contains("no, unless a rule holds"));
+        assert!(drawn("m").contains("empty, unless given"));
     }
 
     #[test]

@@ -4,10 +4,10 @@
 
 use crate::files::{read_rules, read_text, rule_files};
 use crate::inputs::{find_scope, read_inputs, standard_input};
+use crate::programs::output_of;
 use crate::rulebook::Rulebook;
 use crate::tally::Tally;
-use std::io::Write;
-use std::process::{Command, Stdio};
+use std::path::Path;
 
 /// What to run: the second program's rulerun, or a program by its path.
 #[derive(Clone, Copy)]
@@ -20,25 +20,8 @@ impl Program<'_> {
     fn output(self, input: Vec<u8>) -> Result<String, String> {
         match self {
             Program::Second => Ok(second::rulerun::rulerun(&input)),
-            Program::Path(path) => output_of(path, input),
+            Program::Path(path) => output_of(Path::new(path), &input),
         }
-    }
-}
-
-fn output_of(path: &str, input: Vec<u8>) -> Result<String, String> {
-    let failed = |error: std::io::Error| format!("{path}: {error}");
-    let mut child = Command::new(path)
-        .stdin(Stdio::piped())
-        .stdout(Stdio::piped())
-        .spawn()
-        .map_err(failed)?;
-    let stdin = child.stdin.take();
-    let writer = std::thread::spawn(move || stdin.map(|mut stdin| stdin.write_all(&input)));
-    let output = child.wait_with_output().map_err(failed)?;
-    let _ = writer.join();
-    match output.status.success() {
-        true => Ok(String::from_utf8_lossy(&output.stdout).into_owned()),
-        false => Err(format!("{path}: {}", output.status)),
     }
 }
 

@@ -1,14 +1,113 @@
-//! Texts in files, with every fault under the file's name.
+//! Files to read: texts, or books as bytes; `-` is standard input. Every fault stands under
+//! the file's name.
 
+use crate::answers::refused;
 use crate::place::{Checked, Fault, Place};
-use crate::reading::to_rulebook;
+use crate::printer::to_text;
+use crate::reading::{to_book, to_rulebook};
 use crate::rulebook::Rulebook;
+use std::io::{ErrorKind, Read};
 use std::path::{Path, PathBuf};
 
-pub fn read_text(path: &Path) -> Result<String, String> {
-    let shown = path.display().to_string();
-    let bytes = std::fs::read(path).map_err(|error| format!("{shown}: {error}"))?;
-    as_text(bytes).map_err(|fault| fault.in_file(&shown))
+/// More bytes than any text of a book needs.
+const MAX_FILE: u64 = 1 << 24;
+
+/// What was read, and what it is called in messages.
+pub struct Source {
+    pub name: String,
+    bytes: Vec<u8>,
+}
+
+impl Source {
+    /// Reads a file, or standard input for `-`.
+    pub fn read(file: &str) -> Result<Source, String> {
+        let name = match file {
+            "-" => "standard input",
+            file => file,
+        };
+        let bytes = match file {
+            "-" => limited(std::io::stdin().lock()),
+            file => std::fs::File::open(file).and_then(limited),
+        };
+        let bytes = bytes.map_err(|error| format!("{name}: {}", reason(&error)))?;
+        if bytes.len() as u64 > MAX_FILE {
+            let most = MAX_FILE >> 20;
+            return Err(format!("{name}: longer than {most} MiB, and no book is"));
+        }
+        Ok(Source {
+            name: name.to_string(),
+            bytes,
+        })
+    }
+
+    /// Whether these are the bytes of a book: a text has no such characters.
+    pub fn is_book(&self) -> bool {
+        let strange = |&byte: &u8| byte < 32 && !b"\t\n\r\x0c".contains(&byte);
+        self.bytes.iter().any(strange)
+    }
+
+    pub fn bytes(&self) -> &[u8] {
+        &self.bytes
+    }
+
+    pub fn text(&self) -> Result<String, String> {
+        let text = as_text(self.bytes.clone());
+        text.map_err(|fault| fault.in_file(&self.name))
+    }
+
+    /// The bytes of the book.
+    pub fn book(&self) -> Result<Vec<u8>, String> {
+        if self.is_book() {
+            return Ok(self.bytes.clone());
+        }
+        to_book(&self.text()?).map_err(|faults| listed(&self.name, &faults))
+    }
+
+    /// The book with its names; one that was read as bytes gets those of its text.
+    pub fn rules(&self) -> Result<Rulebook, String> {
+        Ok(self.rules_and_text()?.0)
+    }
+
+    /// The book with its names, and the text that they stand in.
+    pub fn rules_and_text(&self) -> Result<(Rulebook, String), String> {
+        let text = match self.is_book() {
+            false => self.text()?,
+            true => {
+                let wrong = |number| {
+                    let refused = refused(&self.bytes, number);
+                    format!("{}: {}", self.name, refused.trim_end())
+                };
+                second::judge(&self.bytes).map_err(wrong)?;
+                to_text(&self.bytes).map_err(|fault| fault.in_file(&self.name))?
+            }
+        };
+        let book = to_rulebook(&text).map_err(|faults| listed(&self.name, &faults))?;
+        Ok((book, text))
+    }
+
+    /// The names of the scopes of a text; plain records have none.
+    pub fn scope_names(&self) -> Result<Vec<String>, String> {
+        let names = |book: Rulebook| book.names.into_iter().map(|names| names.scope.text);
+        match to_rulebook(&self.text()?) {
+            Ok(book) => Ok(names(book).collect()),
+            Err(_) => Ok(Vec::new()),
+        }
+    }
+}
+
+fn limited(from: impl Read) -> std::io::Result<Vec<u8>> {
+    let mut bytes = Vec::new();
+    from.take(MAX_FILE + 1).read_to_end(&mut bytes)?;
+    Ok(bytes)
+}
+
+/// Why a file cannot be read.
+fn reason(error: &std::io::Error) -> String {
+    match error.kind() {
+        ErrorKind::NotFound => "there is no such file".to_string(),
+        ErrorKind::IsADirectory => "this is a folder, not a file".to_string(),
+        _ => error.to_string(),
+    }
 }
 
 /// Bytes as text, or the place of those that are none.
@@ -25,10 +124,14 @@ fn as_text(bytes: Vec<u8>) -> Checked<String> {
     })
 }
 
+/// The text of a file.
+pub fn read_text(path: &Path) -> Result<String, String> {
+    Source::read(&path.display().to_string())?.text()
+}
+
 /// A text with its names, or all of its faults.
 pub fn read_rules(path: &Path) -> Result<Rulebook, String> {
-    let book = to_rulebook(&read_text(path)?);
-    book.map_err(|faults| listed(&path.display().to_string(), &faults))
+    Source::read(&path.display().to_string())?.rules()
 }
 
 /// Faults, one a line.

@@ -36,7 +36,7 @@ fn read_input(book: &Rulebook, scope: usize, word: &str) -> Result<(usize, Value
         (Type::YesNo, "yes") => Some(Value::YesNo(true)),
         (Type::YesNo, "no") => Some(Value::YesNo(false)),
         (Type::YesNo, _) => None,
-        (Type::Number, digits) => digits.parse().ok().map(Value::Number),
+        (Type::Number, digits) => number(digits).map(Value::Number),
     };
     let wanted = match of {
         Type::YesNo => "neither yes nor no",
@@ -44,6 +44,16 @@ fn read_input(book: &Rulebook, scope: usize, word: &str) -> Result<(usize, Value
     };
     let wrong = || format!("input '{word}': '{value}' is {wanted}");
     Ok((variable, read.ok_or_else(wrong)?))
+}
+
+/// A number, with `_` between its digits where it helps the eye, as in the language.
+fn number(word: &str) -> Option<i32> {
+    let digits = word.strip_prefix('-').unwrap_or(word);
+    let written = |c: char| c.is_ascii_digit() || c == '_';
+    if !digits.starts_with(|c: char| c.is_ascii_digit()) || !digits.chars().all(written) {
+        return None;
+    }
+    word.replace('_', "").parse().ok()
 }
 
 /// Book length, book, scope and input records.

@@ -8,10 +8,13 @@
 //!   the bytes
 //! - book to text: `printer`, and `records` for books that the judge refuses
 //! - `explain` with `evaluation`, and `draw`
-//! - `inputs`, `files`, `place`, `words`
-//! - checking: `roundtrip`, `damage`, `examples`, `check`, `tally`
+//! - `answers`: what the proved `programs` say, in names and words; `locate` for refusals
+//! - `inputs`, `files`, `output`, `place`, `words`; `commands` and `usage`
+//! - checking: `roundtrip`, `damage`, `examples`, `self_check`, `compare`, `tally`
 
-pub mod check;
+pub mod answers;
+pub mod commands;
+pub mod compare;
 pub mod cycles;
 pub mod damage;
 pub mod draw;
@@ -22,18 +25,24 @@ pub mod expression;
 pub mod files;
 pub mod inputs;
 pub mod lexer;
+pub mod locate;
 pub mod names;
+pub mod nearest;
 pub mod numbering;
 pub mod operations;
+pub mod output;
 pub mod parser;
 pub mod place;
 pub mod printer;
+pub mod programs;
 pub mod reading;
 pub mod records;
 pub mod roundtrip;
 pub mod rulebook;
+pub mod self_check;
 pub mod syntax;
 pub mod tally;
 pub mod typing;
+pub mod usage;
 pub mod words;
 pub mod writer;

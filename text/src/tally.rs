@@ -1,12 +1,15 @@
-//! Counts of what passed and what failed.
+//! Counts of what passed and what failed, and what is said of it.
+
+use crate::output::Answer;
 
 #[derive(Debug, Default)]
 pub struct Tally {
     pub passed: usize,
     pub failed: usize,
+    said: Vec<String>,
 }
 
-/// No more failures than this are printed.
+/// No more failures than this are shown.
 const SHOWN: usize = 20;
 
 impl Tally {
@@ -17,15 +20,23 @@ impl Tally {
             Err(wrong) => {
                 self.failed += 1;
                 if self.failed <= SHOWN {
-                    println!("failed: {wrong}");
+                    self.say(format!("failed: {wrong}"));
                 }
             }
         }
     }
 
-    /// Prints the counts; whether all passed and there was something to pass.
-    pub fn finish(&self) -> bool {
-        println!("{} passed, {} failed", self.passed, self.failed);
-        self.failed == 0 && self.passed > 0
+    pub fn say(&mut self, line: String) {
+        self.said.push(line);
+    }
+
+    /// What was said, and the counts: good where all passed and there was something to pass.
+    pub fn finish(mut self) -> Answer {
+        let counts = format!("{} passed, {} failed\n", self.passed, self.failed);
+        self.said.push(counts);
+        Answer {
+            bytes: self.said.join("\n").into_bytes(),
+            good: self.failed == 0 && self.passed > 0,
+        }
     }
 }

@@ -24,6 +24,27 @@ pub fn refusal(number: u8) -> String {
     format!("{words} (number {number})")
 }
 
+/// The short name of a refusal.
+pub fn fault_name(number: u8) -> &'static str {
+    match number {
+        1 => "truncated",
+        2 => "unknown kind",
+        3 => "out of order",
+        4 => "limit exceeded",
+        5 => "invalid byte",
+        6 => "dangling reference",
+        7 => "shared node",
+        8 => "type mismatch",
+        9 => "mixed clauses",
+        10 => "scope cycle",
+        11 => "weight exceeded",
+        12 => "dependency cycle",
+        13 => "no such scope",
+        14 => "bad input",
+        _ => "refused",
+    }
+}
+
 pub fn value(value: Value) -> String {
     match value {
         Value::YesNo(true) => "yes".to_string(),
@@ -36,6 +57,15 @@ pub fn failure(failure: Failure) -> &'static str {
     match failure {
         Failure::Empty => "empty",
         Failure::Conflict => "in conflict",
+        Failure::OutOfRange => "out of range",
+    }
+}
+
+/// What an evaluation without values ended in.
+pub fn outcome(failure: Failure) -> &'static str {
+    match failure {
+        Failure::Empty => "empty",
+        Failure::Conflict => "conflict",
         Failure::OutOfRange => "out of range",
     }
 }

@@ -8,6 +8,7 @@ use crate::examples::{run_examples, Program};
 use crate::explain::explain;
 use crate::files::{read_text, rule_files};
 use crate::inputs::input_records;
+use crate::locate::located;
 use crate::printer::to_text;
 use crate::reading::{to_book, to_rulebook};
 use crate::roundtrip::{book_survives, fault_is_placed, text_survives};
@@ -39,7 +40,7 @@ struct Check {
 /// Round trips of `count` random books and `count` random cases, of all fixed cases and
 /// of the examples in a folder; `count` evaluations, explained and drawn, and `count`
 /// damaged texts.
-pub fn check(count: u64, folder: &str) -> Result<Tally, String> {
+pub fn self_check(count: u64, folder: &str) -> Result<Tally, String> {
     let mut check = Check {
         tally: run_examples(Program::Second, folder)?,
         met: BTreeMap::new(),
@@ -78,6 +79,11 @@ impl Check {
             return self.tally.count(refused.then_some(()).ok_or_else(wrong));
         }
         let refusal = second::judge(bytes).err().unwrap_or(0);
+        if refusal != 0 {
+            let wrong = || format!("no place of fault {refusal} in {bytes:02x?}");
+            let placed = located(bytes, refusal).map(|_| ());
+            self.tally.count(placed.ok_or_else(wrong));
+        }
         *self.met.entry(refusal).or_default() += 1;
         self.tally.count(book_survives(bytes));
         if PLACED.contains(&refusal) {
@@ -113,18 +119,18 @@ impl Check {
     fn all_met(&mut self) {
         for refusal in std::iter::once(0).chain(6..=12) {
             let times = self.met.get(&refusal).copied().unwrap_or(0);
-            match refusal {
-                0 => println!("accepted books: {times}"),
-                number => println!("books refused with {number}: {times}"),
-            }
+            self.tally.say(match refusal {
+                0 => format!("accepted books: {times}"),
+                number => format!("books refused with {number}: {times}"),
+            });
             let wrong = || format!("no book with refusal {refusal} was met");
             self.tally
                 .count((times > 0).then_some(()).ok_or_else(wrong));
         }
-        println!(
+        self.tally.say(format!(
             "damaged texts: {} books, {} with faults",
             self.whole, self.faulty
-        );
+        ));
         self.tally.count(text_survives(""));
     }
 }

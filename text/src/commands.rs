@@ -1,0 +1,134 @@
+//! The commands: words as typed to an answer.
+
+use crate::answers;
+use crate::compare::compare;
+use crate::draw::draw;
+use crate::examples::{run_examples, Program};
+use crate::explain::explain;
+use crate::files::Source;
+use crate::inputs::{find_scope, read_inputs, standard_input, Given};
+use crate::output::{Answer, Answered, Stop};
+use crate::printer::to_text;
+use crate::rulebook::Rulebook;
+use crate::self_check::self_check;
+use crate::usage::{command, help, version, Usage};
+
+/// A command as typed: its words, its options, and the file to write.
+#[derive(Debug, Default, PartialEq, Eq)]
+pub struct Typed<'a> {
+    pub words: Vec<&'a str>,
+    pub options: Vec<&'a str>,
+    pub out: Option<&'a str>,
+}
+
+impl<'a> Typed<'a> {
+    /// Sorts words; `-` alone is standard input, and an input such as `x=-2` is a word.
+    pub fn of(words: &[&'a str]) -> Result<Typed<'a>, Stop> {
+        let mut typed = Typed::default();
+        let mut words = words.iter();
+        while let Some(&word) = words.next() {
+            match word {
+                "-o" => {
+                    let missing = || Stop::Usage("-o needs the file to write".to_string());
+                    typed.out = Some(words.next().copied().ok_or_else(missing)?);
+                }
+                "-" => typed.words.push(word),
+                _ if word.starts_with('-') => typed.options.push(word),
+                _ => typed.words.push(word),
+            }
+        }
+        Ok(typed)
+    }
+
+    fn has(&self, option: &str) -> bool {
+        self.options.contains(&option)
+    }
+}
+
+/// Runs a command.
+pub fn answer(typed: &Typed) -> Answered {
+    if typed.has("--help") || typed.has("-h") || typed.words.first() == Some(&"help") {
+        return Ok(Answer::good(help()));
+    }
+    if typed.has("--version") {
+        return Ok(Answer::good(version()));
+    }
+    let Some((name, words)) = typed.words.split_first() else {
+        return Err(Stop::Usage(help().trim_end().to_string()));
+    };
+    let usage = command(name)?;
+    let unknown = typed.options.iter().find(|o| !usage.options.contains(o));
+    if let Some(option) = unknown {
+        return Err(usage.wrong(&format!("'text {name}' has no option '{option}'")));
+    }
+    match words {
+        [] => Err(usage.wrong(&format!("'text {name}' needs more words"))),
+        words if usage.name == "examples" || words.len() < 3 => few(usage, words),
+        words => many(usage, words),
+    }
+}
+
+/// Commands with one or two words.
+fn few(usage: &Usage, words: &[&str]) -> Answered {
+    match (usage.name, words) {
+        ("judge", [file]) => Ok(answers::judge(&Source::read(file)?)?),
+        ("to-book", [file]) => Ok(Answer::good(Source::read(file)?.book()?)),
+        ("to-text", [file]) => text_of(file),
+        ("examples", [program, folder]) => {
+            Ok(run_examples(Program::Path(program), folder)?.finish())
+        }
+        ("self-check", [times, folder]) => Ok(self_check(count(usage, times)?, folder)?.finish()),
+        ("compare", [times]) => Ok(compare(count(usage, times)?).finish()),
+        _ => many(usage, words),
+    }
+}
+
+/// Commands about a scope of a book.
+fn many(usage: &Usage, words: &[&str]) -> Answered {
+    match (usage.name, words) {
+        ("evaluate", [file, scope, inputs @ ..]) => {
+            let (name, book, scope, given) = asked(file, scope, inputs)?;
+            Ok(answers::evaluate(&book, &name, scope, given)?)
+        }
+        ("explain", [file, scope, inputs @ ..]) => {
+            let (name, book, scope, given) = asked(file, scope, inputs)?;
+            Ok(Answer::good(explain(&book, &name, scope, given)))
+        }
+        ("stdin", [file, scope, inputs @ ..]) => {
+            let (_, book, scope, given) = asked(file, scope, inputs)?;
+            Ok(Answer::good(standard_input(&book, scope, &given)))
+        }
+        ("draw", [file, scope, target]) => {
+            let (_, book, scope, _) = asked(file, scope, &[])?;
+            Ok(Answer::good(draw(&book, scope, target)?))
+        }
+        _ => {
+            let typed = words.join(" ");
+            Err(usage.wrong(&format!("'text {}' does not take '{typed}'", usage.name)))
+        }
+    }
+}
+
+fn count(usage: &Usage, word: &str) -> Result<u64, Stop> {
+    let wrong = || usage.wrong(&format!("'{word}' is no count"));
+    word.parse().map_err(|_| wrong())
+}
+
+fn text_of(file: &str) -> Answered {
+    let source = Source::read(file)?;
+    let text = to_text(source.bytes()).map_err(|fault| fault.in_file(&source.name))?;
+    Ok(Answer::good(text))
+}
+
+/// What a file is called, its book, the scope of a name and its inputs.
+fn asked(
+    file: &str,
+    scope: &str,
+    inputs: &[&str],
+) -> Result<(String, Rulebook, usize, Given), Stop> {
+    let source = Source::read(file)?;
+    let book = source.rules()?;
+    let scope = find_scope(&book, scope)?;
+    let given = read_inputs(&book, scope, inputs)?;
+    Ok((source.name, book, scope, given))
+}
