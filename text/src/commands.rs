@@ -12,6 +12,7 @@ use crate::printer::to_text;
 use crate::rulebook::Rulebook;
 use crate::self_check::self_check;
 use crate::usage::{command, help, version, Usage};
+use crate::warnings::check;
 
 /// A command as typed: its words, its options, and the file to write.
 #[derive(Debug, Default, PartialEq, Eq)]
@@ -72,6 +73,10 @@ pub fn answer(typed: &Typed) -> Answered {
 fn few(usage: &Usage, words: &[&str]) -> Answered {
     match (usage.name, words) {
         ("judge", [file]) => Ok(answers::judge(&Source::read(file)?)?),
+        ("check", [file]) => {
+            let source = Source::read(file)?;
+            Ok(check(&source.rules()?, &source.name))
+        }
         ("to-book", [file]) => Ok(Answer::good(Source::read(file)?.book()?)),
         ("to-text", [file]) => text_of(file),
         ("examples", [program, folder]) => {

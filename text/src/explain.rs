@@ -342,7 +342,7 @@ impl Explanation<'_> {
 }
 
 /// The clause at a place of a row, or the exception under it, that held.
-fn giver(row: &Row, place: usize) -> u8 {
+pub fn giver(row: &Row, place: usize) -> u8 {
     let mut trial = &row.trials[place];
     while let Joined::One(place) = trial.exceptions.joined {
         trial = &trial.exceptions.trials[place];

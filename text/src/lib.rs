@@ -8,17 +8,21 @@
 //!   the bytes
 //! - book to text: `printer`, and `records` for books that the judge refuses
 //! - `explain` with `evaluation`, and `draw`
+//! - `warnings` from a `search` over `choices` of inputs, with `exactness` and `conditions`
 //! - `answers`: what the proved `programs` say, in names and words; `locate` for refusals
 //! - `inputs`, `files`, `output`, `place`, `words`; `commands` and `usage`
 //! - checking: `roundtrip`, `damage`, `examples`, `self_check`, `compare`, `tally`
 
 pub mod answers;
+pub mod choices;
 pub mod commands;
 pub mod compare;
+pub mod conditions;
 pub mod cycles;
 pub mod damage;
 pub mod draw;
 pub mod evaluation;
+pub mod exactness;
 pub mod examples;
 pub mod explain;
 pub mod expression;
@@ -39,10 +43,12 @@ pub mod reading;
 pub mod records;
 pub mod roundtrip;
 pub mod rulebook;
+pub mod search;
 pub mod self_check;
 pub mod syntax;
 pub mod tally;
 pub mod typing;
 pub mod usage;
+pub mod warnings;
 pub mod words;
 pub mod writer;

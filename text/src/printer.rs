@@ -74,6 +74,7 @@ fn scope_text(book: &Rulebook, number: usize) -> String {
         book,
         scope: number,
         fixed: fixed(scope, &statements),
+        signs: false,
     };
     for statement in statements {
         text += &match statement {
@@ -147,6 +148,8 @@ pub struct Expressions<'a> {
     book: &'a Rulebook,
     scope: usize,
     fixed: Vec<bool>,
+    /// Whether a sign that stands for several nodes is shown as it was written.
+    signs: bool,
 }
 
 impl<'a> Expressions<'a> {
@@ -156,6 +159,15 @@ impl<'a> Expressions<'a> {
             book,
             scope,
             fixed: vec![false; book.scopes[scope].nodes.len()],
+            signs: true,
+        }
+    }
+
+    /// Expressions as the nodes are, so that equal ones are written alike.
+    pub fn of_nodes(book: &'a Rulebook, scope: usize) -> Self {
+        Expressions {
+            signs: false,
+            ..Expressions::plain(book, scope)
         }
     }
 
@@ -215,7 +227,7 @@ impl<'a> Expressions<'a> {
     /// The expression and how tightly it binds.
     fn form(&self, number: u8) -> (String, u8) {
         let sign = self.book.names[self.scope].nodes[usize::from(number)].sign;
-        if let Some(operation) = sign.and_then(of_sign) {
+        if let Some(operation) = sign.filter(|_| self.signs).and_then(of_sign) {
             return self.signed(operation, number);
         }
         match self.at(number) {

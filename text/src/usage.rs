@@ -20,7 +20,7 @@ const fn usage(name: &'static str, takes: &'static str, does: &'static str) -> U
     }
 }
 
-pub const COMMANDS: [Usage; 10] = [
+pub const COMMANDS: [Usage; 11] = [
     usage(
         "judge",
         "FILE",
@@ -35,6 +35,11 @@ pub const COMMANDS: [Usage; 10] = [
         "explain",
         "FILE SCOPE [NAME=VALUE ..]",
         "which clause gave each variable, and why",
+    ),
+    usage(
+        "check",
+        "FILE",
+        "warnings: conflicts to come, what can be empty, what is never used",
     ),
     usage(
         "draw",

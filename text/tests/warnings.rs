@@ -1,0 +1,181 @@
+//! Warnings: each with its place and an example, and no case that was overlooked.
+
+use second::cases::books::any_book;
+use second::cases::random::Random;
+use second::value::{Type, Value};
+use text::choices::inputs_of;
+use text::evaluation::{enter, Joined, Row, Taken, Tree};
+use text::printer::to_text;
+use text::reading::to_rulebook;
+use text::rulebook::Rulebook;
+use text::search::{search, Found};
+use text::warnings::check;
+
+fn warned(text: &str) -> String {
+    let book = to_rulebook(text).unwrap_or_else(|faults| panic!("{faults:?} in\n{text}"));
+    let answer = check(&book, "f");
+    let said = String::from_utf8(answer.bytes).expect("text");
+    assert_eq!(answer.good, said.ends_with("\nno warnings\n"), "{said}");
+    said
+}
+
+/// A scope with some variables, then `clauses` from line 2 on.
+fn scope(clauses: &str) -> String {
+    format!(
+        "scope s variable x : number variable n : number variable a : yes/no variable b : yes/no\n{clauses}"
+    )
+}
+
+/// The warnings about the scope are these.
+fn warns(clauses: &str, expected: &[&str]) {
+    let said = warned(&scope(clauses));
+    let lines: Vec<&str> = said.lines().filter(|line| line.starts_with("f:")).collect();
+    assert_eq!(lines, expected, "for\n{clauses}");
+}
+
+const USE: &str = "\nunused n = 1 and a and b";
+
+#[test]
+fn conflicts_to_come() {
+    warns(
+        &format!("define x under condition a as 1\ndefine x under condition b as 2\ndefine x under condition not a and not b as 3{USE}"),
+        &["f:3:1: x can be in conflict: this definition and the definition at 2:1 both hold, for instance with n=0 a=yes b=yes"],
+    );
+    warns(
+        &format!("define x under condition a as 1\ndefine x under condition not a as 2{USE}"),
+        &[],
+    );
+    warns(
+        &format!("label g define x as 1\nlabel p exception to g define x under condition n >= 80 as 2\nlabel q exception to g define x under condition n <= 80 and a as 3{USE}"),
+        &["f:4:1: x can be in conflict: this exception 'q' and the exception 'p' at 3:1 both hold, for instance with n=80 a=yes b=no"],
+    );
+    warns(
+        &format!("label g define x as 1\nexception to g define x under condition n > 80 as 2\nexception to g define x under condition n <= 80 as 3{USE}"),
+        &[],
+    );
+}
+
+#[test]
+fn conflicts_that_are_only_possible() {
+    let text = scope("variable m : number\nlabel g define x as 1\nexception to g define x under condition n + 7 = m + m as 2\nexception to g define x under condition n = m and a and b as 3");
+    let said = warned(&text);
+    assert!(
+        said.starts_with("f:5:1: x may be in conflict: this exception and the exception at 4:1 possibly both hold; none of the "),
+        "{said}"
+    );
+    let text = text.replace("n = m and a", "not n + 7 = m + m and n = m and a");
+    assert!(!warned(&text).contains("conflict"));
+}
+
+#[test]
+fn what_can_be_empty() {
+    warns(
+        &format!("define x under condition a as 1\ndefine x under condition not a and b as 2{USE}"),
+        &["f:2:1: x can be empty: none of its definitions gives a value, for instance with n=0 a=no b=no"],
+    );
+    let said = warned(
+        "scope s variable y : yes/no sub-scope k : t define y as k.z\nscope t variable z : yes/no variable w : yes/no rule z under condition w",
+    );
+    assert!(
+        said.starts_with("f:1:39: k.w can be empty: it is not overridden, and nothing defines it, with no inputs\n"),
+        "{said}"
+    );
+    warns(
+        &format!("define x under condition n < 5 as default [1, if a then 2 else empty | yes : 3]\ndefine x under condition not n < 5 as n{USE}"),
+        &["f:2:1: x can be in conflict: so is this definition by itself, for instance with n=0 a=yes b=no"],
+    );
+}
+
+#[test]
+fn what_is_unused_never_holds_or_repeats() {
+    warns(
+        "define x as 1 unused a and b",
+        &["f:1:38: the variable 'n' is not used: nothing defines or reads it"],
+    );
+    warns(
+        &format!("define x as 1\nexception define x under condition a and b and not a as 2{USE}"),
+        &["f:3:1: this exception never holds, in none of the 12 cases"],
+    );
+    warns(
+        &format!("define x as 1\nlabel e exception define x under condition n < 4 as 2\nexception to e define x under condition n <= 4 as 3{USE}"),
+        &["f:3:1: this exception 'e' never holds, in none of the 24 cases"],
+    );
+    let said = warned(
+        "scope s variable y : number sub-scope k : t define k.m as 2 + 1 define y as k.m\nscope t variable m : number define m as 3",
+    );
+    assert!(
+        said.starts_with(
+            "f:1:45: this override of k.m repeats scope t's own rule: it changes nothing\n"
+        ),
+        "{said}"
+    );
+}
+
+/// Clauses of one row that both gave a value, and targets that came out empty.
+fn seen(found: &Found, tree: &Tree) {
+    fn row(found: &Found, row_: &Row) {
+        if let Joined::Clash(a, b) = row_.joined {
+            let pair = (row_.trials[a].clause, row_.trials[b].clause);
+            assert!(
+                found.clashes.contains_key(&pair),
+                "a conflict was overlooked"
+            );
+        }
+        for trial in &row_.trials {
+            row(found, &trial.exceptions);
+        }
+    }
+    row(found, &tree.bases);
+    if tree.bases.joined == Joined::Nothing && !tree.bases.trials.is_empty() && tree.result.is_err()
+    {
+        let target = (tree.target.subscope, tree.target.variable);
+        assert!(
+            found.empty.contains_key(&target),
+            "an empty target was overlooked"
+        );
+    }
+}
+
+/// Evaluates a scope with random values for its inputs.
+fn look(book: &Rulebook, scope: usize, found: &Found, rng: &mut Random) {
+    let own = &book.scopes[scope];
+    let mut given = vec![None; own.variables.len()];
+    for input in inputs_of(own) {
+        given[input] = Some(match own.variables[input] {
+            Type::YesNo => Value::YesNo(rng.below(2) == 1),
+            Type::Number => Value::Number(rng.below(40) as i32 - 20),
+        });
+    }
+    for taken in enter(book, scope, given).taken {
+        match taken {
+            Taken::Given(..) => {}
+            Taken::Variable(tree) => seen(found, &tree),
+            Taken::Call(_, overrides, _) => overrides.iter().for_each(|tree| seen(found, tree)),
+        }
+    }
+}
+
+#[test]
+fn nothing_is_overlooked_where_all_cases_were_tried() {
+    let mut exact = 0;
+    for seed in 0..400 {
+        let mut rng = Random::new(seed);
+        let bytes = any_book(&mut rng).bytes();
+        if second::judge(&bytes).is_err() {
+            continue;
+        }
+        let text = to_text(&bytes).expect("a sound book");
+        let book = to_rulebook(&text).expect("a sound text");
+        for scope in 0..book.scopes.len() {
+            if text::choices::Choices::of(&book, scope).count > 512 {
+                continue;
+            }
+            let found = search(&book, scope);
+            exact += usize::from(found.exact);
+            for _ in 0..if found.exact { 20 } else { 0 } {
+                look(&book, scope, &found, &mut rng);
+            }
+        }
+    }
+    assert!(exact > 200, "{exact}");
+}
