@@ -8,8 +8,9 @@ use crate::locate::located;
 use crate::output::Answer;
 use crate::programs::{find, output_of};
 use crate::rulebook::Rulebook;
+use crate::syntax::Word;
 use crate::words::{self, fault_name, refusal};
-use second::value::Failure;
+use second::value::{Failure, Value};
 
 /// Judges the book of a text, or a book, by the proved judge.
 pub fn judge(source: &Source) -> Result<Answer, String> {
@@ -45,44 +46,61 @@ pub fn refused(book: &[u8], number: u8) -> String {
     format!("refused {number}, {}: {place}\n", fault_name(number))
 }
 
-/// Evaluates a scope by the proved evaluator: `name = value` of every variable, or why
-/// there are no values.
-pub fn evaluate(book: &Rulebook, file: &str, scope: usize, given: Given) -> Result<Answer, String> {
-    let input = standard_input(book, scope, &given);
+/// Evaluates a scope by the proved evaluator: the values of its variables, or how the run
+/// ended without them.
+pub fn outcome(
+    book: &Rulebook,
+    scope: usize,
+    given: &Given,
+) -> Result<Result<Vec<Value>, Failure>, String> {
+    let input = standard_input(book, scope, given);
     let printed = output_of(&find("rulerun")?, &input)?;
     let mut lines = printed.lines();
     let first = lines.next().unwrap_or_default();
-    let failure = match first.split_once(' ').unwrap_or_default().0 {
-        "value" => return values(book, scope, lines).map(Answer::good),
-        "empty" => Failure::Empty,
-        "conflict" => Failure::Conflict,
-        "range" => Failure::OutOfRange,
-        _ => return Err(format!("rulerun printed '{}'", printed.trim_end())),
+    let strange = || format!("rulerun printed '{}'", printed.trim_end());
+    match first.split_once(' ').unwrap_or_default().0 {
+        "value" => {
+            let values: Option<Vec<Value>> = lines.map(read_value).collect();
+            let whole = |values: &Vec<Value>| values.len() == book.scopes[scope].variables.len();
+            Ok(Ok(values.filter(whole).ok_or_else(strange)?))
+        }
+        "empty" => Ok(Err(Failure::Empty)),
+        "conflict" => Ok(Err(Failure::Conflict)),
+        "range" => Ok(Err(Failure::OutOfRange)),
+        _ => Err(strange()),
+    }
+}
+
+/// The value of `number value`; every variable has a line.
+fn read_value(line: &str) -> Option<Value> {
+    match line.split_once(' ')?.1 {
+        "yes" => Some(Value::YesNo(true)),
+        "no" => Some(Value::YesNo(false)),
+        digits => digits.parse().ok().map(Value::Number),
+    }
+}
+
+/// `name = value` of every variable, or why there are no values.
+pub fn evaluate(book: &Rulebook, file: &str, scope: usize, given: Given) -> Result<Answer, String> {
+    let failure = match outcome(book, scope, &given)? {
+        Ok(values) => return Ok(Answer::good(lines(book, scope, &values))),
+        Err(failure) => failure,
     };
+    let word = words::outcome(failure);
     let entry = enter(book, scope, given);
     if entry.failure != Some(failure) {
         return Err(format!(
-            "rulerun says '{first}', and the reason that was looked for is another: please report it"
+            "rulerun says {word}, and the reason that was looked for is another: please report it"
         ));
     }
-    let word = words::outcome(failure);
     let why = why_failed(book, file, &entry);
     Ok(Answer::bad(format!("{word}: {why}\n")))
 }
 
-/// `name = value`, a line each, from `number value`.
-fn values<'a>(
-    book: &Rulebook,
-    scope: usize,
-    lines: impl Iterator<Item = &'a str>,
-) -> Result<String, String> {
-    let mut text = String::new();
-    for line in lines {
-        let (number, value) = line.split_once(' ').unwrap_or_default();
-        let number: Option<usize> = number.parse().ok();
-        let name = number.and_then(|number| book.names[scope].variables.get(number));
-        let name = name.ok_or_else(|| format!("rulerun printed '{line}'"))?;
-        text += &format!("{} = {value}\n", name.text);
-    }
-    Ok(text)
+/// `name = value`, a line each.
+fn lines(book: &Rulebook, scope: usize, values: &[Value]) -> String {
+    let names = book.names[scope].variables.iter().zip(values);
+    let line =
+        |(name, value): (&Word, &Value)| format!("{} = {}\n", name.text, words::value(*value));
+    names.map(line).collect()
 }

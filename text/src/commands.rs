@@ -1,6 +1,7 @@
 //! The commands: words as typed to an answer.
 
 use crate::answers;
+use crate::brief::explain_briefly;
 use crate::compare::compare;
 use crate::draw::draw;
 use crate::examples::{run_examples, Program};
@@ -11,6 +12,7 @@ use crate::output::{Answer, Answered, Stop};
 use crate::printer::to_text;
 use crate::rulebook::Rulebook;
 use crate::self_check::self_check;
+use crate::table::Table;
 use crate::usage::{command, help, version, Usage};
 use crate::warnings::check;
 
@@ -64,13 +66,12 @@ pub fn answer(typed: &Typed) -> Answered {
     }
     match words {
         [] => Err(usage.wrong(&format!("'text {name}' needs more words"))),
-        words if usage.name == "examples" || words.len() < 3 => few(usage, words),
-        words => many(usage, words),
+        words => few(usage, words, typed),
     }
 }
 
-/// Commands with one or two words.
-fn few(usage: &Usage, words: &[&str]) -> Answered {
+/// Commands about a file or a folder.
+fn few(usage: &Usage, words: &[&str], typed: &Typed) -> Answered {
     match (usage.name, words) {
         ("judge", [file]) => Ok(answers::judge(&Source::read(file)?)?),
         ("check", [file]) => {
@@ -84,12 +85,12 @@ fn few(usage: &Usage, words: &[&str]) -> Answered {
         }
         ("self-check", [times, folder]) => Ok(self_check(count(usage, times)?, folder)?.finish()),
         ("compare", [times]) => Ok(compare(count(usage, times)?).finish()),
-        _ => many(usage, words),
+        _ => many(usage, words, typed),
     }
 }
 
 /// Commands about a scope of a book.
-fn many(usage: &Usage, words: &[&str]) -> Answered {
+fn many(usage: &Usage, words: &[&str], typed: &Typed) -> Answered {
     match (usage.name, words) {
         ("evaluate", [file, scope, inputs @ ..]) => {
             let (name, book, scope, given) = asked(file, scope, inputs)?;
@@ -97,11 +98,25 @@ fn many(usage: &Usage, words: &[&str]) -> Answered {
         }
         ("explain", [file, scope, inputs @ ..]) => {
             let (name, book, scope, given) = asked(file, scope, inputs)?;
-            Ok(Answer::good(explain(&book, &name, scope, given)))
+            Ok(Answer::good(match typed.has("--full") {
+                true => explain(&book, &name, scope, given),
+                false => explain_briefly(&book, &name, scope, given),
+            }))
         }
         ("stdin", [file, scope, inputs @ ..]) => {
             let (_, book, scope, given) = asked(file, scope, inputs)?;
             Ok(Answer::good(standard_input(&book, scope, &given)))
+        }
+        ("table", [file, scope, choice @ ..]) => {
+            let (_, book, scope, _) = asked(file, scope, &[])?;
+            let table = Table::of(&book, scope, choice)?;
+            Ok(Answer::good(
+                match (typed.has("--csv"), typed.has("--html")) {
+                    (true, _) => table.csv(),
+                    (_, true) => table.html(),
+                    _ => table.text(),
+                },
+            ))
         }
         ("draw", [file, scope, target]) => {
             let (_, book, scope, _) = asked(file, scope, &[])?;

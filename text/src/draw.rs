@@ -1,6 +1,7 @@
 //! The default tree of a target as SVG: a box a clause with its condition and
 //! consequence, exceptions below what they are exceptions to.
 
+use crate::html::escaped;
 use crate::printer::Expressions;
 use crate::rulebook::Rulebook;
 use crate::words::wrapped;
@@ -204,11 +205,6 @@ impl Shape {
             );
         }
     }
-}
-
-fn escaped(text: &str) -> String {
-    let text = text.replace('&', "&amp;").replace('<', "&lt;");
-    text.replace('>', "&gt;").replace('"', "&quot;")
 }
 
 #[cfg(test)]

@@ -11,15 +11,19 @@ use second::scope::{Clause, Consequence, Node, Target};
 use second::steps::Step;
 use second::value::Failure;
 
-/// Explains the evaluation of a scope; `file` is named before each place.
-pub fn explain(book: &Rulebook, file: &str, scope: usize, given: Given) -> String {
+/// `scope film, given shrunken = yes`.
+pub(crate) fn heading(book: &Rulebook, scope: usize, given: &Given) -> String {
     let name = &book.names[scope].scope.text;
-    let inputs = given_words(book, scope, &given);
-    let inputs = match inputs.is_empty() {
-        true => "nothing given".to_string(),
-        false => format!("given {}", inputs.join(", ")),
-    };
-    let mut text = format!("scope {name}, {inputs}\n");
+    let inputs = given_words(book, scope, given);
+    match inputs.is_empty() {
+        true => format!("scope {name}, nothing given"),
+        false => format!("scope {name}, given {}", inputs.join(", ")),
+    }
+}
+
+/// Explains the evaluation of a scope in full; `file` is named before each place.
+pub fn explain(book: &Rulebook, file: &str, scope: usize, given: Given) -> String {
+    let mut text = format!("{}\n", heading(book, scope, &given));
     let entry = enter(book, scope, given);
     let writer = Explanation {
         book,
@@ -58,7 +62,7 @@ pub fn why_failed(book: &Rulebook, file: &str, entry: &Entry) -> String {
     }
 }
 
-fn ending(failure: Failure) -> &'static str {
+pub(crate) fn ending(failure: Failure) -> &'static str {
     match failure {
         Failure::Empty => "empty: something needed has no value",
         Failure::Conflict => "in conflict",
@@ -67,15 +71,16 @@ fn ending(failure: Failure) -> &'static str {
 }
 
 /// Writes about one entered scope.
-struct Explanation<'a> {
-    book: &'a Rulebook,
-    file: &'a str,
-    entry: &'a Entry,
+pub(crate) struct Explanation<'a> {
+    pub(crate) book: &'a Rulebook,
+    /// Named before each place, unless it is empty.
+    pub(crate) file: &'a str,
+    pub(crate) entry: &'a Entry,
     /// How a variable with a value from outside got it.
-    given: &'static str,
+    pub(crate) given: &'static str,
 }
 
-fn line(text: &mut String, depth: usize, words: &str) {
+pub(crate) fn line(text: &mut String, depth: usize, words: &str) {
     *text += &format!("{}{words}\n", "  ".repeat(depth));
 }
 
@@ -184,7 +189,7 @@ impl Explanation<'_> {
     }
 
     /// Why a row has no value, down to the clause in which that began.
-    fn why_none(&self, row: &Row) -> String {
+    pub(crate) fn why_none(&self, row: &Row) -> String {
         match row.joined {
             Joined::Nothing if row.trials.is_empty() => "nothing defines it".to_string(),
             Joined::Clash(a, b) => {
@@ -271,7 +276,7 @@ impl Explanation<'_> {
         }
     }
 
-    fn is(&self, node: u8, value: &str) -> String {
+    pub(crate) fn is(&self, node: u8, value: &str) -> String {
         let (expression, reads) = self.expression(node);
         format!("{expression} is {value}{reads}")
     }
@@ -286,7 +291,7 @@ impl Explanation<'_> {
     }
 
     /// An expression and, unless it is a single thing, the values that it reads.
-    fn expression(&self, node: u8) -> (String, String) {
+    pub(crate) fn expression(&self, node: u8) -> (String, String) {
         let expression = Expressions::plain(self.book, self.entry.scope).node(node, 0);
         let nodes = &self.book.scopes[self.entry.scope].nodes;
         if nodes[usize::from(node)].operands().next().is_none() {
@@ -322,7 +327,7 @@ impl Explanation<'_> {
     }
 
     /// The clause's label, or what it is, and its place.
-    fn clause_name(&self, number: u8) -> String {
+    pub(crate) fn clause_name(&self, number: u8) -> String {
         let clause = &self.book.scopes[self.entry.scope].clauses[usize::from(number)];
         let what = match (clause.parent, clause.is_rule()) {
             (NONE, true) => "the rule",
@@ -334,18 +339,27 @@ impl Explanation<'_> {
 
     fn named(&self, what: &str, number: u8) -> String {
         let name = &self.book.names[self.entry.scope].clauses[usize::from(number)];
+        let place = match self.file.is_empty() {
+            true => name.place.to_string(),
+            false => format!("{}:{}", self.file, name.place),
+        };
         match &name.label {
-            Some(label) => format!("{what} '{label}' at {}:{}", self.file, name.place),
-            None => format!("{what} at {}:{}", self.file, name.place),
+            Some(label) => format!("{what} '{label}' at {place}"),
+            None => format!("{what} at {place}"),
         }
     }
 }
 
-/// The clause at a place of a row, or the exception under it, that held.
-pub fn giver(row: &Row, place: usize) -> u8 {
+/// The trial at a place of a row, or of the exception under it, that held.
+pub fn deciding(row: &Row, place: usize) -> &Trial {
     let mut trial = &row.trials[place];
     while let Joined::One(place) = trial.exceptions.joined {
         trial = &trial.exceptions.trials[place];
     }
-    trial.clause
+    trial
+}
+
+/// The clause of that trial.
+pub fn giver(row: &Row, place: usize) -> u8 {
+    deciding(row, place).clause
 }

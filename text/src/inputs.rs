@@ -1,5 +1,6 @@
 //! Inputs as `name=value`, and the bytes that rulerun reads.
 
+use crate::nearest::{did_you_mean, nearest};
 use crate::rulebook::Rulebook;
 use crate::words;
 use crate::writer::book_bytes;
@@ -24,13 +25,8 @@ fn read_input(book: &Rulebook, scope: usize, word: &str) -> Result<(usize, Value
     let Some((name, value)) = word.split_once('=') else {
         return Err(format!("input '{word}': write it as name=value"));
     };
-    let names = &book.names[scope];
-    let Some(variable) = names.variables.iter().position(|v| v.text == name) else {
-        let scope = &names.scope.text;
-        return Err(format!(
-            "input '{word}': there is no variable '{name}' in scope '{scope}'"
-        ));
-    };
+    let variable = variable_named(book, scope, name);
+    let variable = variable.map_err(|wrong| format!("input '{word}': {wrong}"))?;
     let of = book.scopes[scope].variables[variable];
     let read = match (of, value) {
         (Type::YesNo, "yes") => Some(Value::YesNo(true)),
@@ -44,6 +40,17 @@ fn read_input(book: &Rulebook, scope: usize, word: &str) -> Result<(usize, Value
     };
     let wrong = || format!("input '{word}': '{value}' is {wanted}");
     Ok((variable, read.ok_or_else(wrong)?))
+}
+
+/// The own variable of a name.
+pub fn variable_named(book: &Rulebook, scope: usize, name: &str) -> Result<usize, String> {
+    let names = &book.names[scope];
+    let found = names.variables.iter().position(|v| v.text == name);
+    found.ok_or_else(|| {
+        let hint = did_you_mean(name, names.variables.iter().map(|v| v.text.as_str()));
+        let scope = &names.scope.text;
+        format!("there is no variable '{name}' in scope '{scope}'{hint}")
+    })
 }
 
 /// A number, with `_` between its digits where it helps the eye, as in the language.
@@ -84,7 +91,13 @@ pub fn input_records(given: &Given) -> Vec<u8> {
 /// The scope of a name.
 pub fn find_scope(book: &Rulebook, name: &str) -> Result<usize, String> {
     let found = book.scope_named(name);
-    found.ok_or_else(|| format!("there is no scope '{name}'"))
+    found.ok_or_else(|| {
+        let known: Vec<&str> = book.names.iter().map(|n| n.scope.text.as_str()).collect();
+        match nearest(name, known.iter().copied()) {
+            Some(near) => format!("there is no scope '{name}'; did you mean '{near}'?"),
+            None => format!("there is no scope '{name}'; there is: {}", known.join(", ")),
+        }
+    })
 }
 
 /// `name = value` of each given variable.

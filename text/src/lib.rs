@@ -7,13 +7,14 @@
 //!   `names`, `typing`, `numbering` and `cycles` make it a `rulebook`; `writer` gives
 //!   the bytes
 //! - book to text: `printer`, and `records` for books that the judge refuses
-//! - `explain` with `evaluation`, and `draw`
+//! - `explain` and `brief` with `evaluation`; `table`; `draw`
 //! - `warnings` from a `search` over `choices` of inputs, with `exactness` and `conditions`
 //! - `answers`: what the proved `programs` say, in names and words; `locate` for refusals
 //! - `inputs`, `files`, `output`, `place`, `words`; `commands` and `usage`
 //! - checking: `roundtrip`, `damage`, `examples`, `self_check`, `compare`, `tally`
 
 pub mod answers;
+pub mod brief;
 pub mod choices;
 pub mod commands;
 pub mod compare;
@@ -27,6 +28,7 @@ pub mod examples;
 pub mod explain;
 pub mod expression;
 pub mod files;
+pub mod html;
 pub mod inputs;
 pub mod lexer;
 pub mod locate;
@@ -46,6 +48,7 @@ pub mod rulebook;
 pub mod search;
 pub mod self_check;
 pub mod syntax;
+pub mod table;
 pub mod tally;
 pub mod typing;
 pub mod usage;

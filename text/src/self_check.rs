@@ -1,6 +1,7 @@
 //! The check: generated books, fixed cases and examples go there and back, and what
 //! an explanation says came out is what the second program's evaluation gives.
 
+use crate::brief::explain_briefly;
 use crate::damage::{damaged, is_book_or_placed};
 use crate::draw::draw;
 use crate::evaluation::enter;
@@ -144,6 +145,7 @@ fn explained(book: &Rulebook, case: &Case) -> Result<(), String> {
     let read = read_inputs(&scope.variables, &case.inputs, &mut given);
     read.map_err(|_| "bad inputs".to_string())?;
     let words = explain(book, "book", case.scope, given.clone());
+    let brief = explain_briefly(book, "book", case.scope, given.clone());
     let entry = enter(book, case.scope, given);
     let mut results = [0; 6 * MAX_VARIABLES];
     let answer = second::evaluate(&case.bytes, case.scope, &case.inputs, &mut results);
@@ -155,7 +157,8 @@ fn explained(book: &Rulebook, case: &Case) -> Result<(), String> {
     };
     let same = (outcome, entry.count()) == (answer.outcome, answer.count)
         && written == results[..answer.length]
-        && words.ends_with(&format!("; scopes entered: {}\n", answer.count));
+        && words.ends_with(&format!("; scopes entered: {}\n", answer.count))
+        && brief.lines().last() == words.lines().last();
     let wrong = || format!("{answer:?} and results {results:02x?}, explained as\n{words}");
     same.then_some(()).ok_or_else(wrong)
 }

@@ -20,7 +20,7 @@ const fn usage(name: &'static str, takes: &'static str, does: &'static str) -> U
     }
 }
 
-pub const COMMANDS: [Usage; 11] = [
+pub const COMMANDS: [Usage; 12] = [
     usage(
         "judge",
         "FILE",
@@ -31,16 +31,27 @@ pub const COMMANDS: [Usage; 11] = [
         "FILE SCOPE [NAME=VALUE ..]",
         "the value of every variable, by the proved evaluator",
     ),
-    usage(
-        "explain",
-        "FILE SCOPE [NAME=VALUE ..]",
-        "which clause gave each variable, and why",
-    ),
+    Usage {
+        options: &["--full"],
+        ..usage(
+            "explain",
+            "FILE SCOPE [NAME=VALUE ..]",
+            "what decided each result; in full, with all that was passed over",
+        )
+    },
     usage(
         "check",
         "FILE",
         "warnings: conflicts to come, what can be empty, what is never used",
     ),
+    Usage {
+        options: &["--csv", "--html"],
+        ..usage(
+            "table",
+            "FILE SCOPE [NAME | NAME=VALUE ..]",
+            "every choice of yes/no variables and what comes of it",
+        )
+    },
     usage(
         "draw",
         "FILE SCOPE VARIABLE",

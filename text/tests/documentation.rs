@@ -1,5 +1,6 @@
 //! The example of docs/LANGUAGE.md is a book, and its explanation is the printed one.
 
+use text::brief::explain_briefly;
 use text::explain::explain;
 use text::inputs::{find_scope, read_inputs};
 use text::lexer::WORDS;
@@ -24,6 +25,14 @@ fn the_example_is_explained_as_printed() {
     let book = to_rulebook(&block(&document, "scope film")).expect("a book");
     let film = find_scope(&book, "film").expect("scope film");
     let given = read_inputs(&book, film, &["shrunken=yes", "polyester=no"]).expect("inputs");
+    let printed = block(
+        &document,
+        "vault.rules: scope film, given shrunken = yes, polyester = no",
+    );
+    assert_eq!(
+        explain_briefly(&book, "vault.rules", film, given.clone()),
+        printed
+    );
     let printed = block(
         &document,
         "scope film, given shrunken = yes, polyester = no",

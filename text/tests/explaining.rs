@@ -1,5 +1,6 @@
 //! Explanations, word for word.
 
+use text::brief::explain_briefly;
 use text::explain::explain;
 use text::inputs::read_inputs;
 use text::reading::to_rulebook;
@@ -8,6 +9,12 @@ fn explained(text: &str, inputs: &[&str]) -> String {
     let book = to_rulebook(text).unwrap_or_else(|faults| panic!("{faults:?} in\n{text}"));
     let given = read_inputs(&book, 0, inputs).expect("inputs");
     explain(&book, "f", 0, given)
+}
+
+fn briefly(text: &str, inputs: &[&str]) -> String {
+    let book = to_rulebook(text).unwrap_or_else(|faults| panic!("{faults:?} in\n{text}"));
+    let given = read_inputs(&book, 0, inputs).expect("inputs");
+    explain_briefly(&book, "f", 0, given)
 }
 
 const FILM: &str = "scope film
@@ -124,4 +131,60 @@ define y under condition n >= 80 or (n <> 3 and 5 > n) as n <= 7 or n + 1 > 9";
         "{words}"
     );
     assert!(words.contains("says 'n <= 7 or n + 1 > 9'"), "{words}");
+}
+
+#[test]
+fn briefly_what_decided() {
+    let expected = "\
+f: scope film, given shrunken = yes, polyester = no
+speed = 2, by the exception 'gentle' at 7:1: shrunken is yes; it says '2 + 0'
+every variable has a value; scopes entered: 1
+";
+    assert_eq!(briefly(FILM, &["shrunken=yes", "polyester=no"]), expected);
+    let expected = "\
+f: scope film, given shrunken = no
+polyester is empty: nothing defines it
+the run ends empty: something needed has no value; scopes entered: 1
+";
+    assert_eq!(briefly(FILM, &["shrunken=no"]), expected);
+}
+
+#[test]
+fn briefly_calls_hand_on_and_repeat() {
+    let text = "scope s variable y : yes/no variable z : yes/no variable n : number
+sub-scope k : t sub-scope l : t sub-scope m : t
+define k.a as y define l.a as y
+define m.a under condition y as z
+define m.a under condition not y as y
+define n as k.b + l.b + m.b
+scope t variable a : yes/no variable b : number variable c : number
+define b as 1
+exception define b under condition a as 2
+define c as 3";
+    let expected = "\
+f: scope s, given y = yes, z = no
+k: scope t, with a = yes
+  b = 2, by the exception at 9:1: a is yes
+l: scope t, with a = yes, the same as k
+m: scope t
+  m.a = no, by the definition at 4:1: y is yes
+  b = 1, by the definition at 8:1
+by its one definition: n = 5
+every variable has a value; scopes entered: 4
+";
+    assert_eq!(briefly(text, &["y=yes", "z=no"]), expected);
+}
+
+#[test]
+fn briefly_a_failure_below_a_call() {
+    let text = "scope s variable y : yes/no sub-scope k : t define y as k.z
+scope t variable z : yes/no variable w : yes/no
+rule w rule z under condition w rule z";
+    let expected = "\
+f: scope s, nothing given
+k: scope t
+  z is in conflict: the rule at 3:8 and the rule at 3:33 both held
+the run ends in conflict; scopes entered: 2
+";
+    assert_eq!(briefly(text, &[]), expected);
 }
