@@ -3,18 +3,21 @@
 use crate::answers;
 use crate::brief::explain_briefly;
 use crate::compare::compare;
-use crate::draw::draw;
+use crate::draw::Drawing;
 use crate::examples::{run_examples, Program};
 use crate::explain::explain;
-use crate::files::Source;
+use crate::files::{read_text, Source};
 use crate::inputs::{find_scope, read_inputs, standard_input, Given};
+use crate::map::map;
 use crate::output::{Answer, Answered, Stop};
 use crate::printer::to_text;
+use crate::report::Report;
 use crate::rulebook::Rulebook;
 use crate::self_check::self_check;
 use crate::table::Table;
 use crate::usage::{command, help, version, Usage};
 use crate::warnings::check;
+use std::path::Path;
 
 /// A command as typed: its words, its options, and the file to write.
 #[derive(Debug, Default, PartialEq, Eq)]
@@ -78,10 +81,15 @@ fn few(usage: &Usage, words: &[&str], typed: &Typed) -> Answered {
             let source = Source::read(file)?;
             Ok(check(&source.rules()?, &source.name))
         }
+        ("map", [file]) => {
+            let source = Source::read(file)?;
+            Ok(Answer::good(map(&source.rules()?, &source.name)))
+        }
+        ("report", [file]) => report(file),
         ("to-book", [file]) => Ok(Answer::good(Source::read(file)?.book()?)),
         ("to-text", [file]) => text_of(file),
         ("examples", [program, folder]) => {
-            Ok(run_examples(Program::Path(program), folder)?.finish())
+            Ok(run_examples(Program::Path(Path::new(program)), folder)?.finish())
         }
         ("self-check", [times, folder]) => Ok(self_check(count(usage, times)?, folder)?.finish()),
         ("compare", [times]) => Ok(compare(count(usage, times)?).finish()),
@@ -118,15 +126,37 @@ fn many(usage: &Usage, words: &[&str], typed: &Typed) -> Answered {
                 },
             ))
         }
-        ("draw", [file, scope, target]) => {
-            let (_, book, scope, _) = asked(file, scope, &[])?;
-            Ok(Answer::good(draw(&book, scope, target)?))
+        ("draw", [file, scope, target, inputs @ ..]) => {
+            let (name, book, scope, given) = asked(file, scope, inputs)?;
+            let drawing = Drawing::of(&book, &name, scope, target)?;
+            Ok(Answer::good(match inputs.is_empty() {
+                true => drawing.plain(),
+                false => drawing.with(given),
+            }))
         }
         _ => {
             let typed = words.join(" ");
             Err(usage.wrong(&format!("'text {}' does not take '{typed}'", usage.name)))
         }
     }
+}
+
+/// A report, with the runs that stand beside the file.
+fn report(file: &str) -> Answered {
+    let source = Source::read(file)?;
+    let (book, text) = source.rules_and_text()?;
+    let runs = Path::new(file).with_extension("runs");
+    let runs = match file != "-" && runs.exists() {
+        true => Some(read_text(&runs)?),
+        false => None,
+    };
+    let report = Report {
+        file: &source.name,
+        book: &book,
+        text: &text,
+        runs: runs.as_deref(),
+    };
+    Ok(Answer::good(report.page()?))
 }
 
 fn count(usage: &Usage, word: &str) -> Result<u64, Stop> {

@@ -1,62 +1,113 @@
 //! The default tree of a target as SVG: a box a clause with its condition and
-//! consequence, exceptions below what they are exceptions to.
+//! consequence, exceptions below what they are exceptions to. With inputs, the clause that
+//! held is marked and those passed over are grey.
 
-use crate::html::escaped;
+use crate::evaluation::{enter, Entry, Fate, Row, Taken, Tree};
+use crate::inputs::{given_words, variable_named, Given};
+use crate::nearest::did_you_mean;
 use crate::printer::Expressions;
 use crate::rulebook::Rulebook;
-use crate::words::wrapped;
+use crate::shape::{svg, Mark, Shape};
+use crate::words::{self, wrapped};
 use second::kind::NONE;
 use second::scope::{Clause, Consequence, Target};
 
-/// Sizes in pixels, for letters of one width.
-const LETTER: usize = 8;
-const LINE: usize = 17;
-const PADDING: usize = 9;
-const GAP: usize = 24;
-const DROP: usize = 34;
+/// Longest line of a box, and of a title, in letters.
+const BOX: usize = 40;
+const TITLE: usize = 110;
 
-/// Longest line of a box, in letters.
-const WIDEST: usize = 40;
+/// A target and the file that its drawing names.
+pub struct Drawing<'a> {
+    pub book: &'a Rulebook,
+    pub file: &'a str,
+    pub scope: usize,
+    pub target: Target,
+}
 
-/// Draws the tree of a target, `variable` or `sub-scope.variable`.
-pub fn draw(book: &Rulebook, scope: usize, target: &str) -> Result<String, String> {
-    let title = format!("{target} in scope {}", book.names[scope].scope.text);
-    let target = find_target(book, scope, target)?;
-    let (scope, target) = decider(book, scope, target);
-    let root = root(book, scope, target);
-    let width = root.span() + 2 * GAP;
-    let height = root.depth() + 2 * GAP;
-    let mut svg = format!(
-        "<svg xmlns=\"http://www.w3.org/2000/svg\" width=\"{width}\" height=\"{height}\" \
-         viewBox=\"0 0 {width} {height}\" font-family=\"monospace\" font-size=\"13\">\n\
-         <title>{}</title>\n<rect width=\"{width}\" height=\"{height}\" fill=\"white\"/>\n",
-        escaped(&title)
-    );
-    root.paint(GAP, GAP, &mut svg);
-    Ok(svg + "</svg>\n")
+impl<'a> Drawing<'a> {
+    /// The drawing of `variable` or `sub-scope.variable`.
+    pub fn of(
+        book: &'a Rulebook,
+        file: &'a str,
+        scope: usize,
+        name: &str,
+    ) -> Result<Drawing<'a>, String> {
+        Ok(Drawing {
+            book,
+            file,
+            scope,
+            target: find_target(book, scope, name)?,
+        })
+    }
+
+    /// The tree as it is written.
+    pub fn plain(&self) -> String {
+        self.painted(None, &[])
+    }
+
+    /// The tree with what became of its clauses.
+    pub fn with(&self, given: Given) -> String {
+        let inputs = given_words(self.book, self.scope, &given);
+        let entry = enter(self.book, self.scope, given);
+        let name = self.book.target_name(self.scope, self.target);
+        let tree = tree_of(&entry, self.target);
+        let outcome = match (self.value(&entry), tree.map(|tree| tree.result)) {
+            (Some(value), _) => format!("{name} = {value}"),
+            (None, Some(Err(failure))) => format!("{name} is {}", words::failure(failure)),
+            _ => format!("{name} is not reached"),
+        };
+        let inputs = match inputs.is_empty() {
+            true => format!("nothing given: {outcome}"),
+            false => format!("given {}: {outcome}", inputs.join(", ")),
+        };
+        self.painted(Some(&Marks { tree }), &[inputs])
+    }
+
+    fn value(&self, entry: &Entry) -> Option<String> {
+        let Target { subscope, variable } = self.target;
+        entry.value(subscope, variable).map(words::value)
+    }
+
+    fn painted(&self, marks: Option<&Marks>, more: &[String]) -> String {
+        let (scope, target) = decider(self.book, self.scope, self.target);
+        let name = self.book.target_name(self.scope, self.target);
+        let scope_name = |scope: usize| &self.book.names[scope].scope.text;
+        let mut title = format!("{name} in scope {}", scope_name(self.scope));
+        if scope != self.scope {
+            title += &format!(", as scope {} decides it", scope_name(scope));
+        }
+        let mut lines = wrapped(&format!("{title}, {}", self.file), TITLE, "  ");
+        lines.extend(more.iter().flat_map(|line| wrapped(line, TITLE, "  ")));
+        let root = Trees {
+            book: self.book,
+            scope,
+            marks,
+        }
+        .root(target);
+        let mut boxes = String::new();
+        root.paint(0, 0, &mut boxes);
+        svg(&lines, root.span, root.depth, &boxes)
+    }
 }
 
 fn find_target(book: &Rulebook, scope: usize, name: &str) -> Result<Target, String> {
-    let position = |scope: usize, name: &str| {
-        let variables = &book.names[scope].variables;
-        variables.iter().position(|v| v.text == name)
+    let Some((subscope, variable)) = name.split_once('.') else {
+        let variable = variable_named(book, scope, name)? as u8;
+        return Ok(Target {
+            subscope: NONE,
+            variable,
+        });
     };
-    let found = match name.split_once('.') {
-        None => position(scope, name).map(|variable| (NONE, variable)),
-        Some((subscope, variable)) => {
-            let subscopes = &book.names[scope].subscopes;
-            let k = subscopes.iter().position(|s| s.text == subscope);
-            k.and_then(|k| {
-                let callee = book.callee(scope, k as u8);
-                position(callee, variable).map(|variable| (k as u8, variable))
-            })
-        }
-    };
-    let missing = || format!("there is no variable '{name}' in this scope");
-    let (subscope, variable) = found.ok_or_else(missing)?;
+    let subscopes = &book.names[scope].subscopes;
+    let found = subscopes.iter().position(|s| s.text == subscope);
+    let k = found.ok_or_else(|| {
+        let hint = did_you_mean(subscope, subscopes.iter().map(|s| s.text.as_str()));
+        let scope = &book.names[scope].scope.text;
+        format!("there is no sub-scope '{subscope}' in scope '{scope}'{hint}")
+    })? as u8;
     Ok(Target {
-        subscope,
-        variable: variable as u8,
+        subscope: k,
+        variable: variable_named(book, book.callee(scope, k), variable)? as u8,
     })
 }
 
@@ -74,135 +125,118 @@ fn decider(book: &Rulebook, scope: usize, target: Target) -> (usize, Target) {
     (book.callee(scope, target.subscope), own)
 }
 
-/// A box of a drawing; the first line is its heading.
-struct Shape {
-    lines: Vec<String>,
-    below: Vec<Shape>,
-}
-
-/// One base is the tree; several, or rules, hang below a box of their own.
-fn root(book: &Rulebook, scope: usize, target: Target) -> Shape {
-    let clauses = &book.scopes[scope].clauses;
-    let bases = |clause: &Clause| clause.target == target && clause.parent == NONE;
-    let mut below = row(book, scope, bases);
-    let rules = clauses.iter().any(|c| c.target == target && c.is_rule());
-    if below.len() == 1 && !rules {
-        return below.remove(0);
-    }
-    let otherwise = match (rules, below.is_empty()) {
-        (true, _) => "no, unless a rule holds",
-        (false, true) => "empty, unless given",
-        (false, false) => "empty, unless one holds",
-    };
-    Shape {
-        lines: vec![book.target_name(scope, target), otherwise.to_string()],
-        below,
-    }
-}
-
-fn row(book: &Rulebook, scope: usize, wanted: impl Fn(&Clause) -> bool) -> Vec<Shape> {
-    let clauses = book.scopes[scope].clauses.iter().enumerate();
-    let wanted = clauses.filter(|(_, clause)| wanted(clause));
-    wanted
-        .map(|(number, _)| clause_shape(book, scope, number))
-        .collect()
-}
-
-fn clause_shape(book: &Rulebook, scope: usize, number: usize) -> Shape {
-    let clause = &book.scopes[scope].clauses[number];
-    let expressions = Expressions::plain(book, scope);
-    let condition = match clause.condition {
-        NONE => "always".to_string(),
-        node => format!("if {}", expressions.node(node, 0)),
-    };
-    let target = book.target_name(scope, clause.target);
-    let consequence = match clause.consequence {
-        Consequence::Node(node) => expressions.node(node, 0),
-        Consequence::Constant(true) => "yes".to_string(),
-        Consequence::Constant(false) => "no".to_string(),
-    };
-    let mut lines = vec![heading(book, scope, number)];
-    lines.extend(wrapped(&condition, WIDEST, "  "));
-    lines.extend(wrapped(&format!("{target} is {consequence}"), WIDEST, "  "));
-    let below = row(book, scope, |other| usize::from(other.parent) == number);
-    Shape { lines, below }
-}
-
-fn heading(book: &Rulebook, scope: usize, number: usize) -> String {
-    let clause = &book.scopes[scope].clauses[number];
-    let name = &book.names[scope].clauses[number];
-    let what = match (clause.parent, clause.is_rule()) {
-        (NONE, true) => "rule",
-        (NONE, false) => "definition",
-        _ => "exception",
-    };
-    match &name.label {
-        Some(label) => format!("{what} {label}, {}", name.place),
-        None => format!("{what}, {}", name.place),
-    }
-}
-
-impl Shape {
-    fn width(&self) -> usize {
-        let longest = self.lines.iter().map(|line| line.chars().count()).max();
-        longest.unwrap_or(0) * LETTER + 2 * PADDING
-    }
-
-    fn height(&self) -> usize {
-        self.lines.len() * LINE + 2 * PADDING
-    }
-
-    /// Width of the boxes below, side by side.
-    fn row_width(&self) -> usize {
-        let widths: usize = self.below.iter().map(Shape::span).sum();
-        widths + GAP * self.below.len().saturating_sub(1)
-    }
-
-    /// Width of the whole tree.
-    fn span(&self) -> usize {
-        self.width().max(self.row_width())
-    }
-
-    /// Height of the whole tree.
-    fn depth(&self) -> usize {
-        let below = self.below.iter().map(|shape| DROP + shape.depth()).max();
-        self.height() + below.unwrap_or(0)
-    }
-
-    /// Paints the tree into the part from `left` and `top` on.
-    fn paint(&self, left: usize, top: usize, svg: &mut String) {
-        let middle = left + self.span() / 2;
-        let bottom = top + self.height();
-        let mut start = left + (self.span() - self.row_width()) / 2;
-        for shape in &self.below {
-            let under = start + shape.span() / 2;
-            let half = bottom + DROP / 2;
-            let next = bottom + DROP;
-            *svg += &format!(
-                "<path d=\"M{middle} {bottom} V{half} H{under} V{next}\" fill=\"none\" stroke=\"black\"/>\n"
-            );
-            shape.paint(start, next, svg);
-            start += shape.span() + GAP;
-        }
-        self.paint_box(middle - self.width() / 2, top, svg);
-    }
-
-    fn paint_box(&self, left: usize, top: usize, svg: &mut String) {
-        let (width, height) = (self.width(), self.height());
-        *svg += &format!(
-            "<rect x=\"{left}\" y=\"{top}\" width=\"{width}\" height=\"{height}\" rx=\"4\" \
-             fill=\"white\" stroke=\"black\"/>\n"
-        );
-        for (i, line) in self.lines.iter().enumerate() {
-            let (x, y) = (left + PADDING, top + PADDING + LINE * i + 13);
-            let weight = match i {
-                0 => " font-weight=\"bold\"",
-                _ => "",
+/// The tree of a target as tried, in the entered scope or in the one that it calls.
+fn tree_of(entry: &Entry, target: Target) -> Option<&Tree> {
+    entry.taken.iter().find_map(|taken| match taken {
+        Taken::Variable(tree) if tree.target == target => Some(tree),
+        Taken::Call(k, overrides, called) if *k == target.subscope => {
+            let own = Target {
+                subscope: NONE,
+                ..target
             };
-            let line = escaped(line);
-            *svg += &format!(
-                "<text x=\"{x}\" y=\"{y}\"{weight} xml:space=\"preserve\">{line}</text>\n"
-            );
+            let overridden = overrides.iter().find(|tree| tree.target == target);
+            overridden.or_else(|| tree_of(called.as_ref()?, own))
+        }
+        _ => None,
+    })
+}
+
+/// What became of the clauses of a tree, where it was reached.
+struct Marks<'a> {
+    tree: Option<&'a Tree>,
+}
+
+impl Marks<'_> {
+    fn of(&self, clause: u8) -> Mark {
+        match self.tree {
+            Some(tree) => in_row(&tree.bases, clause, tree.result.is_ok()),
+            None => Mark::Passed,
+        }
+    }
+}
+
+/// A clause that held gave the value, or met another one where the tree has none.
+fn in_row(row: &Row, clause: u8, has_value: bool) -> Mark {
+    for trial in &row.trials {
+        if trial.clause == clause {
+            return match (trial.fate, trial.result) {
+                (Some(Fate::Held), _) if has_value => Mark::Held,
+                (Some(Fate::Held), _) => Mark::Ended,
+                (Some(_), Err(failure)) if failure != second::value::Failure::Empty => Mark::Ended,
+                _ => Mark::Passed,
+            };
+        }
+        let below = in_row(&trial.exceptions, clause, has_value);
+        if below != Mark::Passed {
+            return below;
+        }
+    }
+    Mark::Passed
+}
+
+/// Clauses as boxes.
+struct Trees<'a> {
+    book: &'a Rulebook,
+    scope: usize,
+    marks: Option<&'a Marks<'a>>,
+}
+
+impl Trees<'_> {
+    /// One base is the tree; several, or rules, hang below a box of their own.
+    fn root(&self, target: Target) -> Shape {
+        let clauses = &self.book.scopes[self.scope].clauses;
+        let mut below = self.row(|clause| clause.target == target && clause.parent == NONE);
+        let rules = clauses.iter().any(|c| c.target == target && c.is_rule());
+        if below.len() == 1 && !rules {
+            return below.remove(0);
+        }
+        let otherwise = match (rules, below.is_empty()) {
+            (true, _) => "no, unless a rule holds",
+            (false, true) => "empty, unless given",
+            (false, false) => "empty, unless one holds",
+        };
+        let name = self.book.target_name(self.scope, target);
+        Shape::new(vec![name, otherwise.to_string()], Mark::Plain, below)
+    }
+
+    fn row(&self, wanted: impl Fn(&Clause) -> bool) -> Vec<Shape> {
+        let clauses = (0u8..).zip(&self.book.scopes[self.scope].clauses);
+        let wanted = clauses.filter(|(_, clause)| wanted(clause));
+        wanted.map(|(number, _)| self.clause(number)).collect()
+    }
+
+    fn clause(&self, number: u8) -> Shape {
+        let clause = &self.book.scopes[self.scope].clauses[usize::from(number)];
+        let expressions = Expressions::plain(self.book, self.scope);
+        let condition = match clause.condition {
+            NONE => "always".to_string(),
+            node => format!("if {}", expressions.node(node, 0)),
+        };
+        let target = self.book.target_name(self.scope, clause.target);
+        let consequence = match clause.consequence {
+            Consequence::Node(node) => expressions.node(node, 0),
+            Consequence::Constant(true) => "yes".to_string(),
+            Consequence::Constant(false) => "no".to_string(),
+        };
+        let mut lines = vec![self.heading(number)];
+        lines.extend(wrapped(&condition, BOX, "  "));
+        lines.extend(wrapped(&format!("{target} is {consequence}"), BOX, "  "));
+        let mark = self.marks.map_or(Mark::Plain, |marks| marks.of(number));
+        let below = self.row(|other| other.parent == number);
+        Shape::new(lines, mark, below)
+    }
+
+    fn heading(&self, number: u8) -> String {
+        let clause = &self.book.scopes[self.scope].clauses[usize::from(number)];
+        let name = &self.book.names[self.scope].clauses[usize::from(number)];
+        let what = match (clause.parent, clause.is_rule()) {
+            (NONE, true) => "rule",
+            (NONE, false) => "definition",
+            _ => "exception",
+        };
+        match &name.label {
+            Some(label) => format!("{what} {label}, {}", name.place),
+            None => format!("{what}, {}", name.place),
         }
     }
 }
@@ -211,6 +245,7 @@ impl Shape {
 mod tests {
     use super::*;
     use crate::reading::to_rulebook;
+    use second::value::Value;
 
     const TEXT: &str = "scope film
   variable speed : number
@@ -222,14 +257,20 @@ mod tests {
   exception to general
   define speed under condition 30 < frames as 3";
 
+    fn drawn(text: &str, target: &str) -> Result<String, String> {
+        let book = to_rulebook(text).expect("a sound text");
+        let drawing = Drawing::of(&book, "f", 0, target)?;
+        Ok(drawing.plain())
+    }
+
     #[test]
     fn one_box_a_clause_and_one_line_an_exception() {
-        let book = to_rulebook(TEXT).expect("a sound text");
-        let svg = draw(&book, 0, "speed").expect("a target");
+        let svg = drawn(TEXT, "speed").expect("a target");
         assert_eq!(svg.matches("<rect x=").count(), 3);
         assert_eq!(svg.matches("<path").count(), 2);
         assert!(svg.contains("if frames &lt; 24"));
         assert!(svg.contains("definition general, 4:3"));
+        assert!(svg.contains(">speed in scope film, f</text>"));
     }
 
     /// The first attribute of a name.
@@ -250,13 +291,11 @@ mod tests {
             .collect()
     }
 
-    #[test]
-    fn boxes_stand_apart_and_inside() {
-        let book = to_rulebook(TEXT).expect("a sound text");
-        let svg = draw(&book, 0, "speed").expect("a target");
-        let boxes = boxes(&svg);
+    /// No box touches another one, and all are inside.
+    fn stand_apart(svg: &str) {
+        let boxes = boxes(svg);
         for (i, a) in boxes.iter().enumerate() {
-            assert!(a[2] < number(&svg, "width") && a[3] < number(&svg, "height"));
+            assert!(a[2] < number(svg, "width") && a[3] < number(svg, "height"));
             for b in &boxes[i + 1..] {
                 let apart = a[2] < b[0] || b[2] < a[0] || a[3] < b[1] || b[3] < a[1];
                 assert!(apart, "{a:?} and {b:?}");
@@ -265,22 +304,75 @@ mod tests {
     }
 
     #[test]
+    fn boxes_stand_apart_and_inside() {
+        stand_apart(&drawn(TEXT, "speed").expect("a target"));
+    }
+
+    #[test]
+    fn wide_trees_are_stacked() {
+        let mut text =
+            "scope s variable x : number variable n : number label g define x as 0".to_string();
+        for i in 0..20 {
+            text += &format!("\nlabel e{i} exception to g define x under condition n = {i} as {i}");
+            text +=
+                &format!("\nexception to e{i} define x under condition n = {i} and n < {i} as {i}");
+        }
+        let svg = drawn(&text, "x").expect("a target");
+        assert_eq!(boxes(&svg).len(), 41);
+        assert!(number(&svg, "width") < 1100, "{}", number(&svg, "width"));
+        stand_apart(&svg);
+    }
+
+    #[test]
+    fn deep_trees_are_drawn_at_once() {
+        let mut text = "scope s variable x : number define x as 0".to_string();
+        text += &"\nexception define x as 1".repeat(127);
+        assert_eq!(boxes(&drawn(&text, "x").expect("a target")).len(), 128);
+    }
+
+    #[test]
     fn a_target_without_clauses_is_one_box() {
-        let book = to_rulebook(TEXT).expect("a sound text");
-        let svg = draw(&book, 0, "frames").expect("a target");
+        let svg = drawn(TEXT, "frames").expect("a target");
         assert_eq!(svg.matches("<rect x=").count(), 1);
-        assert!(draw(&book, 0, "other").is_err());
-        assert!(draw(&book, 0, "other.speed").is_err());
+        let wrong = |target| drawn(TEXT, target).expect_err("no target");
+        assert_eq!(
+            wrong("sped"),
+            "there is no variable 'sped' in scope 'film'; did you mean 'speed'?"
+        );
+        assert_eq!(
+            wrong("other.speed"),
+            "there is no sub-scope 'other' in scope 'film'"
+        );
+    }
+
+    #[test]
+    fn what_held_is_marked_and_what_was_passed_over_is_grey() {
+        let book = to_rulebook(TEXT).expect("a sound text");
+        let drawing = Drawing::of(&book, "f", 0, "speed").expect("a target");
+        let marked = |frames: i32| drawing.with(vec![None, Some(Value::Number(frames))]);
+        let svg = marked(20);
+        assert!(svg.contains("given frames = 20: speed = 2"));
+        assert_eq!(svg.matches("stroke=\"#1c6b1c\"").count(), 1);
+        assert_eq!(svg.matches("fill=\"white\" stroke=\"#bbb\"").count(), 2);
+        let text = TEXT.replace("30 < frames", "10 < frames");
+        let book = to_rulebook(&text).expect("a sound text");
+        let drawing = Drawing::of(&book, "f", 0, "speed").expect("a target");
+        let svg = drawing.with(vec![None, Some(Value::Number(20))]);
+        assert!(svg.contains("given frames = 20: speed is in conflict"));
+        assert_eq!(svg.matches("stroke=\"#9c1c1c\"").count(), 2);
+        assert!(drawing
+            .with(vec![None, None])
+            .contains("speed is not reached"));
     }
 
     #[test]
     fn what_is_not_overridden_is_decided_by_the_scope_that_is_called() {
         let text = "scope s variable m : number sub-scope k : t define k.n as 1
             scope t variable n : number variable y : yes/no define n as 2 rule y";
-        let book = to_rulebook(text).expect("a sound text");
-        let drawn = |target| draw(&book, 0, target).expect("a target");
+        let drawn = |target| drawn(text, target).expect("a target");
         assert!(drawn("k.n").contains("k.n is 1"));
         assert!(drawn("k.y").contains("no, unless a rule holds"));
+        assert!(drawn("k.y").contains("k.y in scope s, as scope t decides it, f"));
         assert!(drawn("m").contains("empty, unless given"));
     }
 
@@ -290,9 +382,8 @@ mod tests {
             scope t variable y : yes/no";
         assert!(to_rulebook(text).is_err(), "the call needs itself");
         let text = text.replace("under condition k.y", "under condition yes");
-        let book = to_rulebook(&text).expect("a sound text");
-        let svg = draw(&book, 0, "k.y").expect("a target");
-        assert!(svg.contains("<title>k.y in scope s</title>"));
+        let svg = drawn(&text, "k.y").expect("a target");
+        assert!(svg.contains("<title>k.y in scope s, f</title>"));
         assert!(svg.contains("no, unless a rule holds"));
         assert_eq!(svg.matches("<rect x=").count(), 3);
     }

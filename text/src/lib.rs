@@ -7,11 +7,11 @@
 //!   `names`, `typing`, `numbering` and `cycles` make it a `rulebook`; `writer` gives
 //!   the bytes
 //! - book to text: `printer`, and `records` for books that the judge refuses
-//! - `explain` and `brief` with `evaluation`; `table`; `draw`
+//! - `explain` and `brief` with `evaluation`; `table`; `draw` and `map` with `shape`; `report`, `html`
 //! - `warnings` from a `search` over `choices` of inputs, with `exactness` and `conditions`
 //! - `answers`: what the proved `programs` say, in names and words; `locate` for refusals
 //! - `inputs`, `files`, `output`, `place`, `words`; `commands` and `usage`
-//! - checking: `roundtrip`, `damage`, `examples`, `self_check`, `compare`, `tally`
+//! - checking: `roundtrip`, `damage`, `examples` and `runs`, `self_check`, `compare`, `tally`
 
 pub mod answers;
 pub mod brief;
@@ -32,6 +32,7 @@ pub mod html;
 pub mod inputs;
 pub mod lexer;
 pub mod locate;
+pub mod map;
 pub mod names;
 pub mod nearest;
 pub mod numbering;
@@ -43,10 +44,13 @@ pub mod printer;
 pub mod programs;
 pub mod reading;
 pub mod records;
+pub mod report;
 pub mod roundtrip;
 pub mod rulebook;
+pub mod runs;
 pub mod search;
 pub mod self_check;
+pub mod shape;
 pub mod syntax;
 pub mod table;
 pub mod tally;

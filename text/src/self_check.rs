@@ -3,7 +3,7 @@
 
 use crate::brief::explain_briefly;
 use crate::damage::{damaged, is_book_or_placed};
-use crate::draw::draw;
+use crate::draw::Drawing;
 use crate::evaluation::enter;
 use crate::examples::{run_examples, Program};
 use crate::explain::explain;
@@ -170,7 +170,7 @@ fn drawn(book: &Rulebook, scope: usize) -> Result<(), String> {
         return Ok(());
     };
     for (variable, name) in (0u8..).zip(&book.names[scope].variables) {
-        let svg = draw(book, scope, &name.text)?;
+        let svg = Drawing::of(book, "book", scope, &name.text)?.plain();
         let is_own =
             |clause: &&Clause| clause.target.subscope == NONE && clause.target.variable == variable;
         let clauses = own.clauses.iter().filter(is_own);

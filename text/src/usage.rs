@@ -20,7 +20,7 @@ const fn usage(name: &'static str, takes: &'static str, does: &'static str) -> U
     }
 }
 
-pub const COMMANDS: [Usage; 12] = [
+pub const COMMANDS: [Usage; 14] = [
     usage(
         "judge",
         "FILE",
@@ -54,8 +54,14 @@ pub const COMMANDS: [Usage; 12] = [
     },
     usage(
         "draw",
-        "FILE SCOPE VARIABLE",
-        "the default tree of a variable, as SVG",
+        "FILE SCOPE VARIABLE [NAME=VALUE ..]",
+        "the default tree of a variable as SVG; with inputs, what held",
+    ),
+    usage("map", "FILE", "the scopes and their calls, as SVG"),
+    usage(
+        "report",
+        "FILE",
+        "one page: rules, warnings, trees, tables and example runs",
     ),
     usage("to-book", "FILE", "the bytes of the book of a text"),
     usage("to-text", "BOOK", "the text of a book"),

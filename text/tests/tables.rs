@@ -100,8 +100,9 @@ fn what_cannot_vary_is_named() {
         "{}",
         ran.err
     );
-    assert_eq!(
-        text("table --csv many.rules s y0=no").out.lines().count(),
-        4097
-    );
+    let all: String = (0..13).map(|i| format!(" y{i}=no")).collect();
+    let given = all.replace(" y3=no", "").replace(" y7=no", "");
+    let ran = text(&format!("table --csv many.rules s{given}"));
+    let expected = "y3,y7,outcome\nno,no,values\nno,yes,values\nyes,no,values\nyes,yes,values\n";
+    assert_eq!(ran.out, expected);
 }
