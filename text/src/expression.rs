@@ -58,9 +58,9 @@ impl Parser {
         let place = self.place();
         self.need_word("if")?;
         let condition = self.expression()?;
-        self.need_word("then")?;
+        self.need_closing("then", "if", place)?;
         let then = self.expression()?;
-        self.need_word("else")?;
+        self.need_closing("else", "if", place)?;
         let other = self.expression()?;
         self.add(place, Form::If(condition, then, other))
     }
@@ -164,9 +164,10 @@ impl Parser {
     }
 
     fn parenthesis(&mut self) -> Checked<usize> {
+        let place = self.place();
         self.need_sign("(")?;
         let node = self.expression()?;
-        self.need_sign(")")?;
+        self.need_closing(")", "(", place)?;
         Ok(node)
     }
 
@@ -192,13 +193,14 @@ impl Parser {
     fn default_term(&mut self) -> Checked<usize> {
         let place = self.place();
         self.need_word("default")?;
+        let opened = self.place();
         self.need_sign("[")?;
         let exceptions = self.exceptions()?;
-        self.need_sign("|")?;
+        self.need_closing("|", "[", opened)?;
         let justification = self.expression()?;
-        self.need_sign(":")?;
+        self.need_closing(":", "[", opened)?;
         let consequence = self.expression()?;
-        self.need_sign("]")?;
+        self.need_closing("]", "[", opened)?;
         let form = Form::Default(exceptions, justification, consequence);
         self.add(place, form)
     }

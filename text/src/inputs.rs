@@ -1,6 +1,6 @@
 //! Inputs as `name=value`, and the bytes that rulerun reads.
 
-use crate::nearest::{did_you_mean, nearest};
+use crate::nearest::{did_you_mean, nearest, yes_no_word};
 use crate::rulebook::Rulebook;
 use crate::words;
 use crate::writer::book_bytes;
@@ -38,7 +38,11 @@ fn read_input(book: &Rulebook, scope: usize, word: &str) -> Result<(usize, Value
         Type::YesNo => "neither yes nor no",
         Type::Number => "no number from -2147483648 to 2147483647",
     };
-    let wrong = || format!("input '{word}': '{value}' is {wanted}");
+    let hint = match (of, yes_no_word(value)) {
+        (Type::YesNo, Some(word)) => format!("; write '{word}'"),
+        _ => String::new(),
+    };
+    let wrong = || format!("input '{word}': '{value}' is {wanted}{hint}");
     Ok((variable, read.ok_or_else(wrong)?))
 }
 

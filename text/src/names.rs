@@ -1,5 +1,6 @@
 //! Names to numbers: every name must name one thing, declared before or after its use.
 
+use crate::nearest::{did_you_mean, yes_no_word};
 use crate::place::{Fault, Faults};
 use crate::rulebook::{ClauseName, Names, NodeName};
 use crate::syntax::{self, Clause, Consequence, Exception, Form, Reference, Scope, Word};
@@ -84,7 +85,9 @@ impl<'a> Table<'a> {
         for subscope in &scope.subscopes {
             let called = numbers.get(subscope.calls.text.as_str()).copied();
             if called.is_none() {
-                let message = format!("there is no scope '{}'", subscope.calls.text);
+                let name = &subscope.calls.text;
+                let hint = did_you_mean(name, numbers.keys().copied());
+                let message = format!("there is no scope '{name}'{hint}");
                 faults.add(subscope.calls.place, message);
             }
             calls.push(called);
@@ -232,7 +235,9 @@ impl Resolver<'_> {
             return target.ok_or_else(|| self.no_variable(name));
         };
         let Some(&number) = table.subscopes.get(subscope.text.as_str()) else {
-            let message = format!("there is no sub-scope '{}' in this scope", subscope.text);
+            let name = &subscope.text;
+            let hint = did_you_mean(name, table.subscopes.keys().copied());
+            let message = format!("there is no sub-scope '{name}' in this scope{hint}");
             return Err(Fault::at(subscope.place, message));
         };
         let Some(callee) = table.calls[number] else {
@@ -246,23 +251,46 @@ impl Resolver<'_> {
         });
         target.ok_or_else(|| {
             let scope = &self.scopes[callee].name.text;
-            let message = format!("there is no variable '{}' in scope '{scope}'", name.text);
+            let known = self.tables[callee].variables.keys().copied();
+            let hint = did_you_mean(&name.text, known);
+            let message = format!(
+                "there is no variable '{}' in scope '{scope}'{hint}",
+                name.text
+            );
             Fault::at(name.place, message)
         })
     }
 
     fn no_variable(&self, name: &Word) -> Fault {
+        let text = &name.text;
         let is_subscope = self.tables[self.number]
             .subscopes
-            .contains_key(name.text.as_str());
+            .contains_key(text.as_str());
         let message = match is_subscope {
-            true => format!(
-                "'{0}' is a sub-scope; name one of its variables: {0}.x",
-                name.text
-            ),
-            false => format!("there is no variable '{}' in this scope", name.text),
+            true => format!("'{text}' is a sub-scope; name one of its variables: {text}.x"),
+            false => {
+                let hint = self.instead(text);
+                format!("there is no variable '{text}' in this scope{hint}")
+            }
         };
         Fault::at(name.place, message)
+    }
+
+    /// What may be meant by a name that no variable of the scope has: a word, a variable of
+    /// a sub-scope, a name that is nearly the same.
+    fn instead(&self, name: &str) -> String {
+        if let Some(word) = yes_no_word(name) {
+            return format!("; write '{word}'");
+        }
+        let table = &self.tables[self.number];
+        let called = table.subscopes.iter().filter(|(_, &k)| {
+            let callee = table.calls[k];
+            callee.is_some_and(|callee| self.tables[callee].variables.contains_key(name))
+        });
+        match called.min_by_key(|(_, &k)| k) {
+            Some((subscope, _)) => format!("; did you mean '{subscope}.{name}'?"),
+            None => did_you_mean(name, table.variables.keys().copied()),
+        }
     }
 
     fn clause(&mut self, earlier: &[scope::Clause], clause: &Clause) -> scope::Clause {
@@ -301,7 +329,11 @@ impl Resolver<'_> {
             }
             Some(Exception::To(label)) => {
                 let found = self.tables[self.number].labels.get(label.text.as_str());
-                let message = || format!("there is no label '{}' in this scope", label.text);
+                let message = || {
+                    let labels = self.tables[self.number].labels.keys().copied();
+                    let hint = did_you_mean(&label.text, labels);
+                    format!("there is no label '{}' in this scope{hint}", label.text)
+                };
                 let found = *found.ok_or_else(|| Fault::at(label.place, message()))?;
                 (found, label.place, format!("'{}'", label.text))
             }

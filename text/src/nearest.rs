@@ -20,6 +20,24 @@ pub fn did_you_mean<'a>(word: &str, known: impl IntoIterator<Item = &'a str>) ->
     found.map_or_else(String::new, |found| format!("; did you mean '{found}'?"))
 }
 
+/// The word of the language for what other languages call otherwise: `true`, `Yes`.
+pub fn yes_no_word(name: &str) -> Option<&'static str> {
+    match name.to_lowercase().as_str() {
+        "yes" | "true" => Some("yes"),
+        "no" | "false" => Some("no"),
+        _ => None,
+    }
+}
+
+/// The same for types.
+pub fn type_word(name: &str) -> Option<&'static str> {
+    match name.to_lowercase().as_str() {
+        "yesno" | "yes_no" | "yes" | "bool" | "boolean" | "truth" => Some("yes/no"),
+        "number" | "numbers" | "int" | "integer" | "decimal" | "money" | "amount" => Some("number"),
+        _ => None,
+    }
+}
+
 /// How many letters must be put in, left out, changed or exchanged with the next one;
 /// capitals do not count.
 fn distance(a: &str, b: &str) -> usize {

@@ -1,6 +1,7 @@
 //! Tokens to scopes: statements. Expressions are in `expression`.
 
 use crate::lexer::{tokens, Kind, Token};
+use crate::nearest::{did_you_mean, type_word};
 use crate::place::{Checked, Fault, Place};
 use crate::syntax::{
     Clause, Consequence, Exception, File, Record, Reference, Scope, Subscope, Variable, Word,
@@ -9,6 +10,18 @@ use second::decode::{MAX_SCOPES, MAX_SUBSCOPES, MAX_VARIABLES};
 use second::value::Type;
 
 pub const MAX_CLAUSES: usize = 128;
+
+/// The words that a statement or a scope begins with.
+const STATEMENTS: [&str; 8] = [
+    "variable",
+    "sub-scope",
+    "label",
+    "exception",
+    "define",
+    "rule",
+    "unused",
+    "scope",
+];
 
 /// Parses a whole text.
 pub fn parse(text: &str) -> Checked<File> {
@@ -92,6 +105,14 @@ impl Parser {
         }
     }
 
+    /// A sign or word that belongs to what was opened at a place.
+    pub(crate) fn need_closing(&mut self, wanted: &str, opened: &str, at: Place) -> Checked<()> {
+        match self.take_word(wanted) || self.take_sign(wanted) {
+            true => Ok(()),
+            false => self.expected(&format!("'{wanted}' for the '{opened}' at {at}")),
+        }
+    }
+
     pub(crate) fn need_sign(&mut self, sign: &str) -> Checked<()> {
         match self.take_sign(sign) {
             true => Ok(()),
@@ -125,11 +146,29 @@ impl Parser {
         let mut scopes = Vec::new();
         while self.token().kind != Kind::End {
             let place = self.place();
-            self.need_word("scope")?;
+            if !self.take_word("scope") {
+                return self.no_scope();
+            }
             within(scopes.len(), MAX_SCOPES, place, "scopes in a book")?;
             scopes.push(self.scope()?);
         }
         Ok(scopes)
+    }
+
+    /// What stands where the first scope should begin.
+    fn no_scope<T>(&self) -> Checked<T> {
+        match &self.token().kind {
+            Kind::Word("variable" | "define" | "rule" | "label" | "sub-scope") => {
+                self.expected("'scope' and its name before this")
+            }
+            Kind::Name(name) => {
+                let found = self.token().described();
+                let hint = did_you_mean(name, ["scope"]);
+                let message = format!("expected 'scope', found {found}{hint}");
+                Err(Fault::at(self.place(), message))
+            }
+            _ => self.expected("'scope'"),
+        }
     }
 
     fn scope(&mut self) -> Checked<Scope> {
@@ -152,18 +191,42 @@ impl Parser {
                 self.advance();
                 self.expression().map(|_| ())
             }
-            _ => self
-                .expected("variable, sub-scope, label, exception, define, rule, unused or scope"),
+            _ => self.no_statement(),
         }
+    }
+
+    /// What stands where a statement should begin.
+    fn no_statement(&self) -> Checked<()> {
+        let message = match &self.token().kind {
+            Kind::Word("under") => {
+                "the condition stands before the value: define .. under condition .. as .."
+                    .to_string()
+            }
+            Kind::Word("if") => {
+                "a clause begins with define or rule: define .. under condition .. as .."
+                    .to_string()
+            }
+            Kind::Word("as") => "a value belongs to a definition: define .. as ..".to_string(),
+            Kind::Sign(sign @ (")" | "]")) => format!("this '{sign}' closes nothing"),
+            kind => {
+                let hint = match kind {
+                    Kind::Name(name) => did_you_mean(name, STATEMENTS),
+                    _ => String::new(),
+                };
+                let found = self.token().described();
+                format!("expected {}, found {found}{hint}", either(&STATEMENTS))
+            }
+        };
+        Err(Fault::at(self.place(), message))
     }
 
     fn variable(&mut self) -> Checked<()> {
         let place = self.place();
         self.advance();
         let name = self.name("a variable")?;
-        self.need_sign(":")?;
+        self.need_colon()?;
         let Some(of) = self.take_type() else {
-            return self.expected("yes/no or number");
+            return self.no_type();
         };
         let have = self.scope.variables.len();
         within(have, MAX_VARIABLES, place, "variables in a scope")?;
@@ -171,11 +234,36 @@ impl Parser {
         Ok(())
     }
 
+    /// The colon behind a name that is declared.
+    fn need_colon(&mut self) -> Checked<()> {
+        if self.at_sign("-") {
+            let message = "a name has letters, digits and '_', and no '-'";
+            return Err(Fault::at(self.place(), message));
+        }
+        self.need_sign(":")
+    }
+
+    fn no_type<T>(&self) -> Checked<T> {
+        let word = match &self.token().kind {
+            Kind::Name(name) => type_word(name),
+            Kind::Word(word) => type_word(word),
+            _ => None,
+        };
+        match word {
+            Some(word) => {
+                let found = self.token().described();
+                let message = format!("expected yes/no or number, found {found}; write '{word}'");
+                Err(Fault::at(self.place(), message))
+            }
+            None => self.expected("yes/no or number"),
+        }
+    }
+
     fn subscope(&mut self) -> Checked<()> {
         let place = self.place();
         self.advance();
         let name = self.name("a sub-scope")?;
-        self.need_sign(":")?;
+        self.need_colon()?;
         let calls = self.name("the scope that is called")?;
         let have = self.scope.subscopes.len();
         within(have, MAX_SUBSCOPES, place, "sub-scopes in a scope")?;
@@ -201,7 +289,7 @@ impl Parser {
         let consequence = if rule {
             Consequence::Constant(!negative)
         } else {
-            self.need_word("as")?;
+            self.need_as()?;
             Consequence::Node(self.expression()?)
         };
         let have = self.scope.clauses.len();
@@ -215,6 +303,14 @@ impl Parser {
             consequence,
         });
         Ok(())
+    }
+
+    fn need_as(&mut self) -> Checked<()> {
+        if self.at_sign("=") {
+            let message = "expected 'as' before the value, found '=', which compares";
+            return Err(Fault::at(self.place(), message));
+        }
+        self.need_word("as")
     }
 
     fn exception(&mut self) -> Checked<Option<Exception>> {
@@ -271,6 +367,14 @@ impl Parser {
             self.advance();
         }
         Ok(bytes)
+    }
+}
+
+/// `a, b or c`.
+fn either(words: &[&str]) -> String {
+    match words {
+        [first @ .., last] => format!("{} or {last}", first.join(", ")),
+        [] => String::new(),
     }
 }
 

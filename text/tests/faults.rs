@@ -21,7 +21,14 @@ fn within(text: &str) -> String {
 
 #[test]
 fn syntax() {
-    fault("define", "f:1:1: expected 'scope', found 'define'");
+    fault(
+        "define",
+        "f:1:1: expected 'scope' and its name before this, found 'define'",
+    );
+    fault(
+        "Scope s",
+        "f:1:1: expected 'scope', found the name 'Scope'; did you mean 'scope'?",
+    );
     fault(
         "scope",
         "f:1:6: expected the name of a scope, found the end of the file",
@@ -46,7 +53,10 @@ fn syntax() {
         &within("label a label"),
         "f:2:9: expected define or rule, found 'label'",
     );
-    fault(&within("define n = 3"), "f:2:10: expected 'as', found '='");
+    fault(
+        &within("define n = 3"),
+        "f:2:10: expected 'as' before the value, found '=', which compares",
+    );
     fault(
         &within("define n under y as 3"),
         "f:2:16: expected 'condition', found the name 'y'",
@@ -66,7 +76,7 @@ fn expressions() {
         ),
         (
             "define n as (1",
-            "f:2:15: expected ')', found the end of the file",
+            "f:2:15: expected ')' for the '(' at 2:13, found the end of the file",
         ),
         (
             "define y as 1 < 2 < 3",
@@ -86,7 +96,7 @@ fn expressions() {
         ),
         (
             "define n as if y then 1",
-            "f:2:24: expected 'else', found the end of the file",
+            "f:2:24: expected 'else' for the 'if' at 2:13, found the end of the file",
         ),
         (
             "define n as 2147483648",
@@ -102,7 +112,7 @@ fn expressions() {
         ),
         (
             "define n as default [1 y : 5]",
-            "f:2:24: expected '|', found the name 'y'",
+            "f:2:24: expected '|' for the '[' at 2:21, found the name 'y'",
         ),
         (
             "define n as @ 1 n",
@@ -118,6 +128,114 @@ fn expressions() {
     ];
     for (text, expected) in cases {
         fault(&within(text), expected);
+    }
+}
+
+/// What a newcomer types, and the remedy.
+#[test]
+fn remedies() {
+    let cases = [
+        (
+            "define n as 3 under condition y",
+            "f:2:15: the condition stands before the value: define .. under condition .. as ..",
+        ),
+        (
+            "if y then define n as 3",
+            "f:2:1: a clause begins with define or rule: define .. under condition .. as ..",
+        ),
+        (
+            "rule y as yes",
+            "f:2:8: a value belongs to a definition: define .. as ..",
+        ),
+        ("define n as 1)", "f:2:14: this ')' closes nothing"),
+        (
+            "define n as (m + 1\ndefine m as 2",
+            "f:3:1: expected ')' for the '(' at 2:13, found 'define'",
+        ),
+        (
+            "define n as if y then 1\ndefine m as 2",
+            "f:3:1: expected 'else' for the 'if' at 2:13, found 'define'",
+        ),
+        (
+            "define n as if y 1 else 2",
+            "f:2:18: expected 'then' for the 'if' at 2:13, found the number 1",
+        ),
+        (
+            "Define n as 1",
+            "f:2:1: expected variable, sub-scope, label, exception, define, rule, unused or scope, \
+             found the name 'Define'; did you mean 'define'?",
+        ),
+        (
+            "varaible k : number",
+            "f:2:1: expected variable, sub-scope, label, exception, define, rule, unused or scope, \
+             found the name 'varaible'; did you mean 'variable'?",
+        ),
+        (
+            "variable k : boolean",
+            "f:2:14: expected yes/no or number, found the name 'boolean'; write 'yes/no'",
+        ),
+        (
+            "variable k : yes",
+            "f:2:14: expected yes/no or number, found 'yes'; write 'yes/no'",
+        ),
+        (
+            "variable only-copy : yes/no",
+            "f:2:14: a name has letters, digits and '_', and no '-'",
+        ),
+        (
+            "define y as true",
+            "f:2:13: there is no variable 'true' in this scope; write 'yes'",
+        ),
+        (
+            "define y as z and No",
+            "f:2:19: there is no variable 'No' in this scope; write 'no'",
+        ),
+        ("define y as n => 3", "f:2:15: there is no '=>'; write '>='"),
+        ("define y as y || z", "f:2:15: there is no '||'; write 'or'"),
+        (
+            "define n as 3 * m",
+            "f:2:15: there is no '*'; numbers are added and subtracted only",
+        ),
+    ];
+    for (text, expected) in cases {
+        fault(&within(text), expected);
+    }
+}
+
+#[test]
+fn names_that_are_nearly_right() {
+    let scopes = "scope film variable speed : number variable shrunken : yes/no
+scope store variable humid : yes/no variable limit : number sub-scope print : film
+label usual define limit as print.speed
+";
+    let cases = [
+        (
+            "define limit as limitt",
+            "f:4:17: there is no variable 'limitt' in this scope; did you mean 'limit'?",
+        ),
+        (
+            "define limit as speed",
+            "f:4:17: there is no variable 'speed' in this scope; did you mean 'print.speed'?",
+        ),
+        (
+            "define limit as print.sped",
+            "f:4:23: there is no variable 'sped' in scope 'film'; did you mean 'speed'?",
+        ),
+        (
+            "define limit as prints.speed",
+            "f:4:17: there is no sub-scope 'prints' in this scope; did you mean 'print'?",
+        ),
+        (
+            "exception to usaul define limit as 1",
+            "f:4:14: there is no label 'usaul' in this scope; did you mean 'usual'?",
+        ),
+        (
+            "sub-scope other : flim",
+            "f:4:19: there is no scope 'flim'; did you mean 'film'?",
+        ),
+    ];
+    for (text, expected) in cases {
+        fault(&format!("{scopes}{text}"), expected);
     }
 }
 

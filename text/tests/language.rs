@@ -265,6 +265,10 @@ fn inputs() {
         format!("input 'x=2147483648': '2147483648' {range}")
     );
     assert_eq!(wrong("y=1"), "input 'y=1': '1' is neither yes nor no");
+    assert_eq!(
+        wrong("y=True"),
+        "input 'y=True': 'True' is neither yes nor no; write 'yes'"
+    );
     let twice = read_inputs(&book, 0, &["x=1", "x=1"]).expect_err("twice");
     assert_eq!(twice, "input 'x=1': this variable is given twice");
     let given = read_inputs(&book, 0, &["y=no", "x=-2"]).expect("inputs");
