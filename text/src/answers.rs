@@ -1,12 +1,12 @@
 //! What the proved programs say of a book, with names and words for numbers.
 
 use crate::evaluation::enter;
-use crate::explain::why_failed;
 use crate::files::Source;
 use crate::inputs::{standard_input, Given};
 use crate::locate::located;
 use crate::output::Answer;
 use crate::programs::{find, output_of};
+use crate::reason::why_failed;
 use crate::rulebook::Rulebook;
 use crate::syntax::Word;
 use crate::words::{self, fault_name, refusal};

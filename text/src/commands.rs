@@ -115,30 +115,34 @@ fn many(usage: &Usage, words: &[&str], typed: &Typed) -> Answered {
             let (_, book, scope, given) = asked(file, scope, inputs)?;
             Ok(Answer::good(standard_input(&book, scope, &given)))
         }
-        ("table", [file, scope, choice @ ..]) => {
-            let (_, book, scope, _) = asked(file, scope, &[])?;
-            let table = Table::of(&book, scope, choice)?;
-            Ok(Answer::good(
-                match (typed.has("--csv"), typed.has("--html")) {
-                    (true, _) => table.csv(),
-                    (_, true) => table.html(),
-                    _ => table.text(),
-                },
-            ))
-        }
-        ("draw", [file, scope, target, inputs @ ..]) => {
-            let (name, book, scope, given) = asked(file, scope, inputs)?;
-            let drawing = Drawing::of(&book, &name, scope, target)?;
-            Ok(Answer::good(match inputs.is_empty() {
-                true => drawing.plain(),
-                false => drawing.with(given),
-            }))
-        }
+        ("table", [file, scope, choice @ ..]) => table(file, scope, choice, typed),
+        ("draw", [file, scope, target, inputs @ ..]) => drawing(file, scope, target, inputs),
         _ => {
             let typed = words.join(" ");
             Err(usage.wrong(&format!("'text {}' does not take '{typed}'", usage.name)))
         }
     }
+}
+
+fn table(file: &str, scope: &str, choice: &[&str], typed: &Typed) -> Answered {
+    let (_, book, scope, _) = asked(file, scope, &[])?;
+    let table = Table::of(&book, scope, choice)?;
+    Ok(Answer::good(
+        match (typed.has("--csv"), typed.has("--html")) {
+            (true, _) => table.csv(),
+            (_, true) => table.html(),
+            _ => table.text(),
+        },
+    ))
+}
+
+fn drawing(file: &str, scope: &str, target: &str, inputs: &[&str]) -> Answered {
+    let (name, book, scope, given) = asked(file, scope, inputs)?;
+    let drawing = Drawing::of(&book, &name, scope, target)?;
+    Ok(Answer::good(match inputs.is_empty() {
+        true => drawing.plain(),
+        false => drawing.with(given),
+    }))
 }
 
 /// A report, with the runs that stand beside the file.

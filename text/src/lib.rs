@@ -7,7 +7,7 @@
 //!   `names`, `typing`, `numbering` and `cycles` make it a `rulebook`; `writer` gives
 //!   the bytes
 //! - book to text: `printer`, and `records` for books that the judge refuses
-//! - `explain` and `brief` with `evaluation`; `table`; `draw` and `map` with `shape`; `report`, `html`
+//! - `explain`, `brief` and `reason` with `evaluation`; `table`; `draw` and `map` with `shape`; `report`, `html`
 //! - `warnings` from a `search` over `choices` of inputs, with `exactness` and `conditions`
 //! - `answers`: what the proved `programs` say, in names and words; `locate` for refusals
 //! - `inputs`, `files`, `output`, `place`, `words`; `commands` and `usage`
@@ -43,7 +43,9 @@ pub mod place;
 pub mod printer;
 pub mod programs;
 pub mod reading;
+pub mod reason;
 pub mod records;
+pub mod remedies;
 pub mod report;
 pub mod roundtrip;
 pub mod rulebook;

@@ -1,7 +1,6 @@
 //! Tokens to scopes: statements. Expressions are in `expression`.
 
 use crate::lexer::{tokens, Kind, Token};
-use crate::nearest::{did_you_mean, type_word};
 use crate::place::{Checked, Fault, Place};
 use crate::syntax::{
     Clause, Consequence, Exception, File, Record, Reference, Scope, Subscope, Variable, Word,
@@ -10,18 +9,6 @@ use second::decode::{MAX_SCOPES, MAX_SUBSCOPES, MAX_VARIABLES};
 use second::value::Type;
 
 pub const MAX_CLAUSES: usize = 128;
-
-/// The words that a statement or a scope begins with.
-const STATEMENTS: [&str; 8] = [
-    "variable",
-    "sub-scope",
-    "label",
-    "exception",
-    "define",
-    "rule",
-    "unused",
-    "scope",
-];
 
 /// Parses a whole text.
 pub fn parse(text: &str) -> Checked<File> {
@@ -155,22 +142,6 @@ impl Parser {
         Ok(scopes)
     }
 
-    /// What stands where the first scope should begin.
-    fn no_scope<T>(&self) -> Checked<T> {
-        match &self.token().kind {
-            Kind::Word("variable" | "define" | "rule" | "label" | "sub-scope") => {
-                self.expected("'scope' and its name before this")
-            }
-            Kind::Name(name) => {
-                let found = self.token().described();
-                let hint = did_you_mean(name, ["scope"]);
-                let message = format!("expected 'scope', found {found}{hint}");
-                Err(Fault::at(self.place(), message))
-            }
-            _ => self.expected("'scope'"),
-        }
-    }
-
     fn scope(&mut self) -> Checked<Scope> {
         self.scope = Scope {
             name: self.name("a scope")?,
@@ -195,31 +166,6 @@ impl Parser {
         }
     }
 
-    /// What stands where a statement should begin.
-    fn no_statement(&self) -> Checked<()> {
-        let message = match &self.token().kind {
-            Kind::Word("under") => {
-                "the condition stands before the value: define .. under condition .. as .."
-                    .to_string()
-            }
-            Kind::Word("if") => {
-                "a clause begins with define or rule: define .. under condition .. as .."
-                    .to_string()
-            }
-            Kind::Word("as") => "a value belongs to a definition: define .. as ..".to_string(),
-            Kind::Sign(sign @ (")" | "]")) => format!("this '{sign}' closes nothing"),
-            kind => {
-                let hint = match kind {
-                    Kind::Name(name) => did_you_mean(name, STATEMENTS),
-                    _ => String::new(),
-                };
-                let found = self.token().described();
-                format!("expected {}, found {found}{hint}", either(&STATEMENTS))
-            }
-        };
-        Err(Fault::at(self.place(), message))
-    }
-
     fn variable(&mut self) -> Checked<()> {
         let place = self.place();
         self.advance();
@@ -232,31 +178,6 @@ impl Parser {
         within(have, MAX_VARIABLES, place, "variables in a scope")?;
         self.scope.variables.push(Variable { name, of });
         Ok(())
-    }
-
-    /// The colon behind a name that is declared.
-    fn need_colon(&mut self) -> Checked<()> {
-        if self.at_sign("-") {
-            let message = "a name has letters, digits and '_', and no '-'";
-            return Err(Fault::at(self.place(), message));
-        }
-        self.need_sign(":")
-    }
-
-    fn no_type<T>(&self) -> Checked<T> {
-        let word = match &self.token().kind {
-            Kind::Name(name) => type_word(name),
-            Kind::Word(word) => type_word(word),
-            _ => None,
-        };
-        match word {
-            Some(word) => {
-                let found = self.token().described();
-                let message = format!("expected yes/no or number, found {found}; write '{word}'");
-                Err(Fault::at(self.place(), message))
-            }
-            None => self.expected("yes/no or number"),
-        }
     }
 
     fn subscope(&mut self) -> Checked<()> {
@@ -303,14 +224,6 @@ impl Parser {
             consequence,
         });
         Ok(())
-    }
-
-    fn need_as(&mut self) -> Checked<()> {
-        if self.at_sign("=") {
-            let message = "expected 'as' before the value, found '=', which compares";
-            return Err(Fault::at(self.place(), message));
-        }
-        self.need_word("as")
     }
 
     fn exception(&mut self) -> Checked<Option<Exception>> {
@@ -367,14 +280,6 @@ impl Parser {
             self.advance();
         }
         Ok(bytes)
-    }
-}
-
-/// `a, b or c`.
-fn either(words: &[&str]) -> String {
-    match words {
-        [first @ .., last] => format!("{} or {last}", first.join(", ")),
-        [] => String::new(),
     }
 }
 

@@ -48,7 +48,7 @@ pub const COMMANDS: [Usage; 14] = [
         options: &["--csv", "--html"],
         ..usage(
             "table",
-            "FILE SCOPE [NAME | NAME=VALUE ..]",
+            "FILE SCOPE [NAME[=VALUE] ..]",
             "every choice of yes/no variables and what comes of it",
         )
     },
@@ -98,7 +98,7 @@ is wrong, 2 for a command that was typed wrongly. docs/LANGUAGE.md describes the
 pub fn help() -> String {
     let mut text = "text: rules in words, and the proved engine that reads them\n\n".to_string();
     for command in &COMMANDS {
-        text += &format!("  {:<48} {}\n", command.line(), command.does);
+        text += &format!("  {:<53} {}\n", command.line(), command.does);
     }
     format!("{text}\n{AFTERWARDS}")
 }
@@ -110,7 +110,10 @@ pub fn version() -> String {
 impl Usage {
     /// The command as it is typed.
     fn line(&self) -> String {
-        let options: String = self.options.iter().map(|o| format!(" [{o}]")).collect();
+        let options = match self.options {
+            [] => String::new(),
+            options => format!(" [{}]", options.join("|")),
+        };
         format!("text {}{options} {}", self.name, self.takes)
     }
 
