@@ -40,10 +40,11 @@ impl Source {
         })
     }
 
-    /// Whether these are the bytes of a book: a text has no such characters.
+    /// Whether these are the bytes of a book: it begins with the kind of a record, and most
+    /// have zeros in them; a text does neither.
     pub fn is_book(&self) -> bool {
-        let strange = |&byte: &u8| byte < 32 && !b"\t\n\r\x0c".contains(&byte);
-        self.bytes.iter().any(strange)
+        let kind = |&byte: &u8| byte < 32 && !b"\t\n\r\x0c".contains(&byte);
+        self.bytes.first().is_some_and(kind) || self.bytes.contains(&0)
     }
 
     pub fn bytes(&self) -> &[u8] {
@@ -163,6 +164,19 @@ pub fn rule_files(folder: &str) -> Result<Vec<PathBuf>, String> {
 #[cfg(test)]
 mod tests {
     use super::*;
+
+    #[test]
+    fn books_and_texts_are_told_apart() {
+        let is_book = |bytes: &[u8]| {
+            let source = Source {
+                name: String::new(),
+                bytes: bytes.to_vec(),
+            };
+            source.is_book()
+        };
+        assert!(is_book(&[1]) && is_book(&[1, 2, 2]) && is_book(&[10, 0]));
+        assert!(!is_book(b"") && !is_book(b"scope s") && !is_book(b"\n# \x1b[1m\nscope s"));
+    }
 
     #[test]
     fn bytes_that_are_no_text_have_a_place() {

@@ -85,8 +85,7 @@ impl Report<'_> {
     }
 
     fn warnings(&self) -> String {
-        let (mut warnings, tried) = warnings(self.book);
-        warnings.sort_by_key(|warning| warning.place);
+        let (warnings, tried) = warnings(self.book);
         let mut html = "<h2 id=\"warnings\">Warnings</h2>\n".to_string();
         html += &match warnings.is_empty() {
             true => "<p>None.</p>\n".to_string(),

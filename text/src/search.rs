@@ -1,32 +1,27 @@
-//! A scope evaluated for every choice of its inputs: which clauses met, what came out
-//! empty, which clauses held and which overrides made a difference.
+//! A scope evaluated for every choice of its inputs: how runs without values ended, which
+//! clauses held and which overrides made a difference.
 
 use crate::choices::{typed, Choices};
-use crate::evaluation::{enter, Entry, Fate, Joined, Row, Taken, Tree, Trial};
+use crate::ending::{ending_of, Cause, Ending};
+use crate::evaluation::{enter, Entry, Fate, Row, Taken, Tree, Trial};
 use crate::exactness::is_exact;
-use crate::explain::giver;
 use crate::rulebook::Rulebook;
-use crate::words;
 use second::kind::NONE;
-use second::scope::Target;
-use second::value::{Failure, Value};
-use std::collections::BTreeMap;
+use second::value::Value;
+use std::collections::{BTreeMap, BTreeSet};
 
-/// What the runs of a scope showed. Examples are inputs as they are typed.
+/// What the runs of a scope showed.
 pub struct Found {
     /// How many choices were tried, and whether these are all cases that there are.
     pub tried: u64,
     pub exact: bool,
-    /// Two clauses of one row that both gave a value: the clauses that held, an example.
-    pub clashes: BTreeMap<(u8, u8), (u8, u8, String)>,
-    /// Targets with clauses of which none held.
-    pub empty: BTreeMap<(u8, u8), String>,
-    /// Variables below a sub-scope that nothing gives or defines, by their names.
-    pub never_given: BTreeMap<(u8, String), String>,
-    /// Clauses whose condition or value ends a run by itself, in conflict or out of range.
-    pub ends: BTreeMap<(u8, &'static str), String>,
+    /// Each cause that ended a run, by the scope that it is in and the way there, with
+    /// inputs as they are typed.
+    pub endings: BTreeMap<(String, usize, Cause), (Ending, String)>,
     /// How often each clause was tried, and how often it held.
     pub trials: Vec<(u64, u64)>,
+    /// Clauses of called scopes that held.
+    pub held_below: BTreeSet<(usize, u8)>,
     /// For each override, whether the called scope's own rule always gave the same.
     pub repeats: BTreeMap<(u8, u8), bool>,
 }
@@ -37,32 +32,40 @@ pub fn search(book: &Rulebook, scope: usize) -> Found {
     let mut found = Found {
         tried: choices.count,
         exact: choices.all && is_exact(book, scope),
-        clashes: BTreeMap::new(),
-        empty: BTreeMap::new(),
-        never_given: BTreeMap::new(),
-        ends: BTreeMap::new(),
+        endings: BTreeMap::new(),
         trials: vec![(0, 0); book.scopes[scope].clauses.len()],
+        held_below: BTreeSet::new(),
         repeats: BTreeMap::new(),
     };
     for number in 0..choices.count {
         let given = choices.given(number);
         let entry = enter(book, scope, given.clone());
-        let example = || typed(book, scope, &given);
-        found.entry(book, &entry, &example);
+        if let Some(ending) = ending_of(book, &entry) {
+            let key = (ending.path.clone(), ending.scope, ending.cause);
+            let example = || (ending, typed(book, scope, &given));
+            found.endings.entry(key).or_insert_with(example);
+        }
+        found.entry(book, &entry);
     }
     found
 }
 
 impl Found {
-    fn entry(&mut self, book: &Rulebook, entry: &Entry, example: &dyn Fn() -> String) {
+    /// Whether a cause in the scope itself ended a run.
+    pub fn has(&self, cause: Cause) -> bool {
+        let own = |(path, _, found): &(String, usize, Cause)| path.is_empty() && *found == cause;
+        self.endings.keys().any(own)
+    }
+
+    fn entry(&mut self, book: &Rulebook, entry: &Entry) {
         for taken in &entry.taken {
             match taken {
                 Taken::Given(..) => {}
-                Taken::Variable(tree) => self.tree(tree, example),
+                Taken::Variable(tree) => self.row(&tree.bases),
                 Taken::Call(subscope, overrides, called) => {
-                    overrides.iter().for_each(|tree| self.tree(tree, example));
+                    overrides.iter().for_each(|tree| self.row(&tree.bases));
                     if let Some(called) = called {
-                        self.called(book, *subscope, called, example);
+                        self.below(called);
                         self.repeated(book, *subscope, overrides, called);
                     }
                 }
@@ -70,46 +73,40 @@ impl Found {
         }
     }
 
-    fn tree(&mut self, tree: &Tree, example: &dyn Fn() -> String) {
-        self.row(&tree.bases, example);
-        let Target { subscope, variable } = tree.target;
-        let none_held = tree.bases.joined == Joined::Nothing && !tree.bases.trials.is_empty();
-        if tree.result == Err(Failure::Empty) && none_held {
-            let empty = self.empty.entry((subscope, variable));
-            empty.or_insert_with(example);
+    /// Marks what held in a called scope, and in those that it calls.
+    fn below(&mut self, entry: &Entry) {
+        for taken in &entry.taken {
+            match taken {
+                Taken::Given(..) => {}
+                Taken::Variable(tree) => self.row_below(entry.scope, &tree.bases),
+                Taken::Call(_, overrides, called) => {
+                    for tree in overrides {
+                        self.row_below(entry.scope, &tree.bases);
+                    }
+                    called.iter().for_each(|called| self.below(called));
+                }
+            }
         }
     }
 
-    fn row(&mut self, row: &Row, example: &dyn Fn() -> String) {
-        if let Joined::Clash(a, b) = row.joined {
-            let pair = (row.trials[a].clause, row.trials[b].clause);
-            let clash = || (giver(row, a), giver(row, b), example());
-            self.clashes.entry(pair).or_insert_with(clash);
-        }
+    fn row_below(&mut self, scope: usize, row: &Row) {
         for trial in &row.trials {
-            self.trial(trial, example);
+            if holds(trial) {
+                self.held_below.insert((scope, trial.clause));
+            }
+            self.row_below(scope, &trial.exceptions);
         }
     }
 
-    fn trial(&mut self, trial: &Trial, example: &dyn Fn() -> String) {
+    fn row(&mut self, row: &Row) {
+        row.trials.iter().for_each(|trial| self.trial(trial));
+    }
+
+    fn trial(&mut self, trial: &Trial) {
         let (tried, held) = &mut self.trials[usize::from(trial.clause)];
         *tried += 1;
-        let no = matches!(trial.fate, None | Some(Fate::ConditionNo));
-        *held += u64::from(!no);
-        if let Some(Fate::ConditionFailed(failure) | Fate::ConsequenceFailed(_, failure)) =
-            trial.fate.filter(|_| trial.result != Err(Failure::Empty))
-        {
-            let key = (trial.clause, words::failure(failure));
-            self.ends.entry(key).or_insert_with(example);
-        }
-        self.row(&trial.exceptions, example);
-    }
-
-    /// A run of a called scope that ends where nothing gives or defines a variable.
-    fn called(&mut self, book: &Rulebook, k: u8, entry: &Entry, example: &dyn Fn() -> String) {
-        if let Some(name) = never_given(book, entry) {
-            self.never_given.entry((k, name)).or_insert_with(example);
-        }
+        *held += u64::from(holds(trial));
+        self.row(&trial.exceptions);
     }
 
     /// Compares each override with what the called scope gives without it.
@@ -131,17 +128,7 @@ impl Found {
     }
 }
 
-/// The variable without clauses in which a run ended, with the sub-scopes on the way.
-fn never_given(book: &Rulebook, entry: &Entry) -> Option<String> {
-    match entry.taken.last()? {
-        Taken::Variable(tree) if tree.result == Err(Failure::Empty) => {
-            let nothing = tree.bases.trials.is_empty();
-            nothing.then(|| book.target_name(entry.scope, tree.target))
-        }
-        Taken::Call(k, _, Some(inner)) => {
-            let name = &book.names[entry.scope].subscopes[usize::from(*k)].text;
-            Some(format!("{name}.{}", never_given(book, inner)?))
-        }
-        _ => None,
-    }
+/// Whether a clause was not passed over by its condition or its exceptions.
+fn holds(trial: &Trial) -> bool {
+    !matches!(trial.fate, None | Some(Fate::ConditionNo))
 }

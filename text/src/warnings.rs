@@ -2,6 +2,7 @@
 //! that can be empty, what is never used, never holds or only repeats.
 
 use crate::conditions::Conditions;
+use crate::ending::{Cause, Ending};
 use crate::output::Answer;
 use crate::place::{Fault, Place};
 use crate::rulebook::Rulebook;
@@ -11,8 +12,7 @@ use second::scope::{Clause, Node, Target};
 
 /// All warnings of a book in the order of its text, and what was tried for each scope.
 pub fn check(book: &Rulebook, file: &str) -> Answer {
-    let (mut warnings, tried) = warnings(book);
-    warnings.sort_by_key(|warning| warning.place);
+    let (warnings, tried) = warnings(book);
     let mut text: String = warnings
         .iter()
         .map(|warning| format!("{}\n", warning.in_file(file)))
@@ -31,41 +31,33 @@ pub fn check(book: &Rulebook, file: &str) -> Answer {
 
 /// The warnings of all scopes, and a line about what was tried for each.
 pub fn warnings(book: &Rulebook) -> (Vec<Fault>, Vec<String>) {
+    let found: Vec<Found> = (0..book.scopes.len()).map(|s| search(book, s)).collect();
     let mut all = Vec::new();
     let mut tried = Vec::new();
-    for scope in 0..book.scopes.len() {
-        let found = search(book, scope);
-        let about = About { book, scope, found };
-        about.conflicts(&mut all);
-        about.ends(&mut all);
-        about.empties(&mut all);
-        about.never(&mut all);
+    for (scope, own) in found.iter().enumerate() {
+        let about = About {
+            words: Words { book, scope },
+            found: own,
+        };
+        about.endings(&found, &mut all);
+        about.possible_conflicts(&mut all);
+        about.possibly_empty(&mut all);
+        about.never(&found, &mut all);
         about.repeats(&mut all);
         about.unused(&mut all);
         tried.push(about.tried());
     }
+    all.sort_by_key(|warning| warning.place);
     (all, tried)
 }
 
-struct About<'a> {
+/// Words for the clauses of a scope.
+struct Words<'a> {
     book: &'a Rulebook,
     scope: usize,
-    found: Found,
 }
 
-impl About<'_> {
-    fn tried(&self) -> String {
-        let name = &self.book.names[self.scope].scope.text;
-        let Found { tried, exact, .. } = self.found;
-        match (exact, tried) {
-            (true, 1) => format!("scope {name}: its one case was tried"),
-            (true, _) => format!("scope {name}: all {tried} cases were tried"),
-            (false, _) => {
-                format!("scope {name}: {tried} choices of its inputs were tried, not all")
-            }
-        }
-    }
-
+impl Words<'_> {
     fn clause(&self, number: u8) -> &Clause {
         &self.book.scopes[self.scope].clauses[usize::from(number)]
     }
@@ -89,73 +81,14 @@ impl About<'_> {
         }
     }
 
+    /// `the exception 'gentle' at 3:1`.
+    fn there(&self, clause: u8) -> String {
+        format!("the {} at {}", self.called(clause), self.place(clause))
+    }
+
     fn target(&self, clause: u8) -> String {
         let target = self.clause(clause).target;
         self.book.target_name(self.scope, target)
-    }
-
-    /// Clauses of one row that met, and those that may meet.
-    fn conflicts(&self, all: &mut Vec<Fault>) {
-        for (a, b, example) in self.found.clashes.values() {
-            let (name, place) = (self.target(*b), self.place(*a));
-            let [first, second] = [*a, *b].map(|clause| self.called(clause));
-            let message = format!(
-                "{name} can be in conflict: this {second} and the {first} at {place} both hold{}",
-                for_instance(example)
-            );
-            all.push(Fault::at(self.place(*b), message));
-        }
-        self.possible_conflicts(all);
-    }
-
-    /// Clauses that end a run by themselves.
-    fn ends(&self, all: &mut Vec<Fault>) {
-        for (&(clause, failure), example) in &self.found.ends {
-            let (name, what) = (self.target(clause), self.called(clause));
-            let message = format!(
-                "{name} can be {failure}: so is this {what} by itself{}",
-                for_instance(example)
-            );
-            all.push(Fault::at(self.place(clause), message));
-        }
-    }
-
-    fn possible_conflicts(&self, all: &mut Vec<Fault>) {
-        if self.found.exact {
-            return;
-        }
-        let conditions = Conditions::of(self.book, self.scope);
-        for (a, b) in self.siblings() {
-            if !self.found.clashes.contains_key(&(a, b)) && conditions.can_clash(a, b) {
-                let (name, place) = (self.target(b), self.place(a));
-                let [first, second] = [a, b].map(|clause| self.called(clause));
-                let message = format!(
-                    "{name} may be in conflict: this {second} and the {first} at {place} \
-                     possibly both hold; {}",
-                    self.no_example()
-                );
-                all.push(Fault::at(self.place(b), message));
-            }
-        }
-    }
-
-    fn no_example(&self) -> String {
-        format!("none of the {} choices tried shows it", self.found.tried)
-    }
-
-    /// Pairs of clauses of which neither is the exception of the other, in one row.
-    fn siblings(&self) -> Vec<(u8, u8)> {
-        let count = self.book.scopes[self.scope].clauses.len() as u8;
-        let mut pairs = Vec::new();
-        for b in 0..count {
-            for a in 0..b {
-                let (first, second) = (self.clause(a), self.clause(b));
-                if first.target == second.target && first.parent == second.parent {
-                    pairs.push((a, b));
-                }
-            }
-        }
-        pairs
     }
 
     /// The first clause of a target.
@@ -165,97 +98,198 @@ impl About<'_> {
         found.map(|(_, number)| number)
     }
 
-    fn empties(&self, all: &mut Vec<Fault>) {
-        for (&(subscope, variable), example) in &self.found.empty {
-            let target = Target { subscope, variable };
-            if let Some(clause) = self.first_clause(target) {
-                let message = format!(
-                    "{} can be empty: none of its definitions gives a value{}",
-                    self.target(clause),
-                    for_instance(example)
-                );
-                all.push(Fault::at(self.place(clause), message));
-            }
-        }
-        for ((k, name), example) in &self.found.never_given {
-            let word = &self.book.names[self.scope].subscopes[usize::from(*k)];
-            let message = format!(
-                "{}.{name} can be empty: it is not overridden, and nothing defines it{}",
-                word.text,
-                for_instance(example)
-            );
-            all.push(Fault::at(word.place, message));
-        }
-        self.possibly_empty(all);
+    /// The place of what ended a run in this scope.
+    fn place_of(&self, ending: &Ending) -> Place {
+        let clause = match (ending.cause, ending.held) {
+            (_, Some((_, b))) => Some(b),
+            (Cause::Clause(clause, _), _) => Some(clause),
+            _ => self.first_clause(ending.target),
+        };
+        clause.map_or_else(Place::default, |clause| self.place(clause))
     }
 
+    /// Why a variable can be without a value. `this` says a clause that the warning stands
+    /// at.
+    fn ended(&self, ending: &Ending, this: impl Fn(u8) -> String) -> String {
+        let name = self.book.target_name(self.scope, ending.target);
+        let name = format!("{}{name}", ending.path);
+        match (ending.cause, ending.held) {
+            (Cause::Clause(clause, failure), _) => {
+                format!("{name} can be {failure}: so is {} by itself", this(clause))
+            }
+            (_, Some((a, b))) => {
+                let (a, b) = (self.there(a), this(b));
+                format!("{name} can be in conflict: {b} and {a} both hold")
+            }
+            (Cause::NotGiven(_), _) => {
+                format!("{name} can be empty: it is not overridden, and nothing defines it")
+            }
+            _ => format!("{name} can be empty: none of its definitions gives a value"),
+        }
+    }
+}
+
+/// What was found about a scope.
+struct About<'a> {
+    words: Words<'a>,
+    found: &'a Found,
+}
+
+impl About<'_> {
+    fn tried(&self) -> String {
+        let name = &self.words.book.names[self.words.scope].scope.text;
+        let Found { tried, exact, .. } = *self.found;
+        match (exact, tried) {
+            (true, 1) => format!("scope {name}: its one case was tried"),
+            (true, _) => format!("scope {name}: all {tried} cases were tried"),
+            (false, _) => {
+                format!("scope {name}: {tried} choices of its inputs were tried, not all")
+            }
+        }
+    }
+
+    fn clauses(&self) -> &[Clause] {
+        &self.words.book.scopes[self.words.scope].clauses
+    }
+
+    fn conditions(&self) -> Conditions<'_> {
+        Conditions::of(self.words.book, self.words.scope)
+    }
+
+    /// How runs ended. What a called scope shows by itself is told there alone.
+    fn endings(&self, found: &[Found], all: &mut Vec<Fault>) {
+        for (ending, example) in self.found.endings.values() {
+            let example = for_instance(example);
+            let words = &self.words;
+            let warning = match ending.call {
+                None => {
+                    let this = |clause| format!("this {}", words.called(clause));
+                    let message = words.ended(ending, this) + &example;
+                    Fault::at(words.place_of(ending), message)
+                }
+                Some(_) if found[ending.scope].has(ending.cause) => continue,
+                Some(call) => {
+                    let inner = Words {
+                        book: words.book,
+                        scope: ending.scope,
+                    };
+                    let message = inner.ended(ending, |clause| inner.there(clause)) + &example;
+                    let subscopes = &words.book.names[words.scope].subscopes;
+                    Fault::at(subscopes[usize::from(call)].place, message)
+                }
+            };
+            all.push(warning);
+        }
+    }
+
+    fn no_example(&self) -> String {
+        format!("none of the {} choices tried shows it", self.found.tried)
+    }
+
+    /// Clauses of one row that the conditions do not keep apart.
+    fn possible_conflicts(&self, all: &mut Vec<Fault>) {
+        if self.found.exact {
+            return;
+        }
+        let conditions = self.conditions();
+        for (a, b) in self.siblings() {
+            if !self.found.has(Cause::Clash(a, b)) && conditions.can_clash(a, b) {
+                let name = self.words.target(b);
+                let (first, second) = (self.words.there(a), self.words.called(b));
+                let message = format!(
+                    "{name} may be in conflict: this {second} and {first} possibly both hold; {}",
+                    self.no_example()
+                );
+                all.push(Fault::at(self.words.place(b), message));
+            }
+        }
+    }
+
+    /// Pairs of clauses of which neither is the exception of the other, in one row.
+    fn siblings(&self) -> Vec<(u8, u8)> {
+        let mut pairs = Vec::new();
+        for (second, b) in self.clauses().iter().zip(0u8..) {
+            for (first, a) in self.clauses().iter().zip(0..b) {
+                if first.target == second.target && first.parent == second.parent {
+                    pairs.push((a, b));
+                }
+            }
+        }
+        pairs
+    }
+
+    /// Targets of definitions whose conditions may all be no.
     fn possibly_empty(&self, all: &mut Vec<Fault>) {
         if self.found.exact {
             return;
         }
-        let conditions = Conditions::of(self.book, self.scope);
-        for (clause, number) in self.book.scopes[self.scope].clauses.iter().zip(0u8..) {
+        let conditions = self.conditions();
+        for (clause, number) in self.clauses().iter().zip(0u8..) {
             let target = clause.target;
-            let key = (target.subscope, target.variable);
-            let open = self.first_clause(target) == Some(number) && !clause.is_rule();
-            let shown = self.found.empty.contains_key(&key);
-            if open && !shown && conditions.can_be_empty(target) {
+            let cause = Cause::Empty(target.subscope, target.variable);
+            let open = self.words.first_clause(target) == Some(number) && !clause.is_rule();
+            if open && !self.found.has(cause) && conditions.can_be_empty(target) {
                 let message = format!(
                     "{} may be empty: possibly none of its definitions gives a value; {}",
-                    self.target(number),
+                    self.words.target(number),
                     self.no_example()
                 );
-                all.push(Fault::at(self.place(number), message));
+                all.push(Fault::at(self.words.place(number), message));
             }
         }
     }
 
-    /// Clauses with a condition that never held.
-    fn never(&self, all: &mut Vec<Fault>) {
-        let conditions = Conditions::of(self.book, self.scope);
+    /// Clauses that never held; a general case that always has an exception is none.
+    fn never(&self, found: &[Found], all: &mut Vec<Fault>) {
+        let conditions = self.conditions();
+        let called = |clause: u8| {
+            let key = (self.words.scope, clause);
+            found.iter().any(|found| found.held_below.contains(&key))
+        };
         for (number, &(tried, held)) in (0u8..).zip(&self.found.trials) {
-            let unconditional = self.clause(number).condition == NONE;
-            if self.clause(number).parent == NONE && unconditional {
+            let clause = self.words.clause(number);
+            if clause.parent == NONE && clause.condition == NONE {
                 continue;
             }
-            let never = self.found.exact && tried > 0 && held == 0;
+            let never = self.found.exact && tried > 0 && held == 0 && !called(number);
             let cases = match never {
                 true => format!("in none of the {} cases", self.found.tried),
                 false => "whatever is given".to_string(),
             };
             if never || !conditions.can_hold(number) {
-                let what = self.called(number);
+                let what = self.words.called(number);
                 let message = format!("this {what} never holds, {cases}");
-                all.push(Fault::at(self.place(number), message));
+                all.push(Fault::at(self.words.place(number), message));
             }
         }
     }
 
     /// Overrides that give what the called scope gives by itself.
     fn repeats(&self, all: &mut Vec<Fault>) {
+        let words = &self.words;
         let same = self.found.repeats.iter().filter(|(_, &same)| same);
         for (&(subscope, variable), _) in same.filter(|_| self.found.exact) {
             let target = Target { subscope, variable };
-            if let Some(clause) = self.first_clause(target) {
-                let callee = self.book.callee(self.scope, subscope);
-                let scope = &self.book.names[callee].scope.text;
+            if let Some(clause) = words.first_clause(target) {
+                let callee = words.book.callee(words.scope, subscope);
+                let scope = &words.book.names[callee].scope.text;
                 let message = format!(
                     "this override of {} repeats scope {scope}'s own rule: it changes nothing",
-                    self.target(clause)
+                    words.target(clause)
                 );
-                all.push(Fault::at(self.place(clause), message));
+                all.push(Fault::at(words.place(clause), message));
             }
         }
     }
 
     /// Variables that nothing defines, reads or overrides.
     fn unused(&self, all: &mut Vec<Fault>) {
-        for (word, variable) in self.book.names[self.scope].variables.iter().zip(0u8..) {
-            if !is_used(self.book, self.scope, variable) {
-                let message = format!(
-                    "the variable '{}' is not used: nothing defines or reads it",
-                    word.text
-                );
+        let Words { book, scope } = self.words;
+        for (word, variable) in book.names[scope].variables.iter().zip(0u8..) {
+            if !is_used(book, scope, variable) {
+                let name = &word.text;
+                let message =
+                    format!("the variable '{name}' is not used: nothing defines or reads it");
                 all.push(Fault::at(word.place, message));
             }
         }

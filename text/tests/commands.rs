@@ -239,7 +239,12 @@ fn any_bytes_are_read() {
             "to-book -",
             "to-text -",
             "evaluate - s",
+            "explain - s",
+            "table - s",
             "draw - s x",
+            "check -",
+            "map -",
+            "report -",
         ] {
             let ran = text_reading(words, &input);
             assert!(ran.status <= 1, "{words}: {}", ran.err);

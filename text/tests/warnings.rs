@@ -3,8 +3,9 @@
 use second::cases::books::any_book;
 use second::cases::random::Random;
 use second::value::{Type, Value};
-use text::choices::inputs_of;
-use text::evaluation::{enter, Joined, Row, Taken, Tree};
+use text::choices::{inputs_of, Choices};
+use text::ending::{ending_of, Cause};
+use text::evaluation::enter;
 use text::printer::to_text;
 use text::reading::to_rulebook;
 use text::rulebook::Rulebook;
@@ -86,6 +87,25 @@ fn what_can_be_empty() {
     );
 }
 
+/// A caller that overrides what the called scope computes can make its rules meet.
+#[test]
+fn what_ends_only_in_a_call() {
+    let text = "scope s variable x : number variable y : yes/no sub-scope k : t
+define k.m as if y then 10 else 20
+define x as k.n
+scope t variable m : number variable n : number
+define m as 1
+label g define n as 0
+exception to g define n under condition m < 15 as 1
+exception to g define n under condition 5 < m as 2";
+    let said = warned(text);
+    assert!(
+        said.starts_with("f:1:59: k.n can be in conflict: the exception at 8:1 and the exception at 7:1 both hold, for instance with y=yes\n"),
+        "{said}"
+    );
+    assert!(said.contains("\n1 warning\n"), "{said}");
+}
+
 #[test]
 fn what_is_unused_never_holds_or_repeats() {
     warns(
@@ -111,33 +131,8 @@ fn what_is_unused_never_holds_or_repeats() {
     );
 }
 
-/// Clauses of one row that both gave a value, and targets that came out empty.
-fn seen(found: &Found, tree: &Tree) {
-    fn row(found: &Found, row_: &Row) {
-        if let Joined::Clash(a, b) = row_.joined {
-            let pair = (row_.trials[a].clause, row_.trials[b].clause);
-            assert!(
-                found.clashes.contains_key(&pair),
-                "a conflict was overlooked"
-            );
-        }
-        for trial in &row_.trials {
-            row(found, &trial.exceptions);
-        }
-    }
-    row(found, &tree.bases);
-    if tree.bases.joined == Joined::Nothing && !tree.bases.trials.is_empty() && tree.result.is_err()
-    {
-        let target = (tree.target.subscope, tree.target.variable);
-        assert!(
-            found.empty.contains_key(&target),
-            "an empty target was overlooked"
-        );
-    }
-}
-
-/// Evaluates a scope with random values for its inputs.
-fn look(book: &Rulebook, scope: usize, found: &Found, rng: &mut Random) {
+/// A run with random values for the inputs ends only as the search found.
+fn look(book: &Rulebook, scope: usize, found: &[Found], rng: &mut Random) {
     let own = &book.scopes[scope];
     let mut given = vec![None; own.variables.len()];
     for input in inputs_of(own) {
@@ -146,12 +141,15 @@ fn look(book: &Rulebook, scope: usize, found: &Found, rng: &mut Random) {
             Type::Number => Value::Number(rng.below(40) as i32 - 20),
         });
     }
-    for taken in enter(book, scope, given).taken {
-        match taken {
-            Taken::Given(..) => {}
-            Taken::Variable(tree) => seen(found, &tree),
-            Taken::Call(_, overrides, _) => overrides.iter().for_each(|tree| seen(found, tree)),
-        }
+    let Some(ending) = ending_of(book, &enter(book, scope, given)) else {
+        return;
+    };
+    if !matches!(ending.cause, Cause::Clause(..)) {
+        let key = (ending.path.clone(), ending.scope, ending.cause);
+        assert!(
+            found[scope].endings.contains_key(&key),
+            "overlooked: {ending:?}"
+        );
     }
 }
 
@@ -166,15 +164,14 @@ fn nothing_is_overlooked_where_all_cases_were_tried() {
         }
         let text = to_text(&bytes).expect("a sound book");
         let book = to_rulebook(&text).expect("a sound text");
-        for scope in 0..book.scopes.len() {
-            if text::choices::Choices::of(&book, scope).count > 512 {
-                continue;
-            }
-            let found = search(&book, scope);
-            exact += usize::from(found.exact);
-            for _ in 0..if found.exact { 20 } else { 0 } {
-                look(&book, scope, &found, &mut rng);
-            }
+        let mut scopes = 0..book.scopes.len();
+        if scopes.any(|scope| Choices::of(&book, scope).count > 512) {
+            continue;
+        }
+        let found: Vec<Found> = (0..book.scopes.len()).map(|s| search(&book, s)).collect();
+        for scope in (0..found.len()).filter(|&scope| found[scope].exact) {
+            exact += 1;
+            (0..20).for_each(|_| look(&book, scope, &found, &mut rng));
         }
     }
     assert!(exact > 200, "{exact}");
