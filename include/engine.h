@@ -94,7 +94,7 @@ static inline unsigned engine_refusal(uint64_t answer)
     return (unsigned)(answer >> 56);
 }
 
-/* The outcome of an evaluation or a run: 0 values, 1 empty, 2 conflict, 3 out of range. */
+/* The outcome of an evaluation or a run: 0 values, 1 empty, 2 conflict, 3 out of range. A refused answer has 0, too: ask engine_refusal first. */
 static inline unsigned engine_outcome(uint64_t answer)
 {
     return (unsigned)(answer >> 48 & 0xff);

@@ -37,7 +37,7 @@ refusalNumber BufferTooSmall = 15
 refusalNumber BadCode = 16
 refusalNumber Stuck = 17
 
--- the number of an outcome (ours): 0 values, 1 empty, 2 conflict, 3 out of range
+-- the number of an outcome without values, as in the first change request: "one byte of outcome (0 values, 1 empty, 2 conflict, 3 out of range)"
 abbrev pub causeNumber : Cause → ℕ
 causeNumber Empty = 1
 causeNumber Conflict = 2
@@ -50,7 +50,7 @@ pub record Numbers : Type 0 where
   pub count : ℕ
   pub length : ℕ
 
--- "A refusal returns its number and the count 0"
+-- "A refusal returns its number and the count 0"; that outcome and length are 0 as well is the project's own
 abbrev pub refusedNumbers : Refusal → Numbers
 refusedNumbers r = record { refusal = refusalNumber r; outcome = 0; count = 0; length = 0 }
 

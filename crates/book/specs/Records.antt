@@ -66,7 +66,7 @@ outOfOrder m = not (unknownKind m || follows (m .before .stage) (stageOf m))
 unfoldable pub exceeds : Tally → Bool
 exceeds t = ltb 32 (t .scopes) || (ltb 32 (t .variables) || (ltb 8 (t .subs) || (ltb 250 (t .nodes) || ltb 128 (t .clauses))))
 
--- 4, the paper's "crowded": "a limit above is passed", by this record
+-- 4, the paper's "crowded": "a limit above is passed", by this record or, of scopes, by one before it
 abbrev pub limitExceeded : Met → Bool
 limitExceeded m = exceeds (counted (stageOf m) (m .before))
 

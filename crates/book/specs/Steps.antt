@@ -17,7 +17,7 @@ use Rattle.book.specs.declared.Clause.{Clause}
 unfoldable pub stepCount : Scope → ℕ
 stepCount s = length (s .variables) + length (s .subScopes)
 
--- a term reads the variable, or a variable of the call, that is step w of a scope with v variables; "a read counts whether or not it
+-- a term reads the variable, or a variable of the call, that is step w of a scope with v variables; "A read counts whether or not it
 -- would be reached"
 unfoldable mutual
   pub reads : ℕ → ℕ → Term → Bool

@@ -1,15 +1,18 @@
 -- Reduction: figures 5 and 6 of the source paper, on the terms of the calculus.
 --
--- It departs from the figures in five places, each marked by its number where it stands, as the text of the source paper's 4.1 and 4.2 has it:
---     1  Application and D-BETA are absent: scopes need them there, "replacing defs and calls with regular λ-abstractions and applications", and are
---        not replaced here. What stands in for them: a variable is read from the environment; operators and "if" apply to values, in regular contexts.
+-- It departs from the figures in five places, each marked by its number where it stands:
+--     1  Application and D-BETA are absent, since "Functions as values, the unit type, collections, text and reaching into a sub-scope's own sub-scopes
+--        are left out" (paper 01). Scopes need them in the source paper, "replacing defs and calls with regular λ-abstractions and applications"; here a
+--        variable is read from the environment. Operators and "if" are additions of paper 01: they apply to values, in regular contexts.
 --     2  An empty exception stays in its place. The figures have no rule for it, so that strip g would be stuck; but "such an ∅-error can be caught,
 --        as long as it appears in the exception list of an enclosing default expression".
 --     3  The values in contexts are not errors: an error that is there propagates like one just raised. With the errors among the values strip h
---        would be out of range; but of ⊗ "the reduction aborts, under any context", and of ∅ "such an error propagates".
+--        would be out of range; but of ⊗ "the reduction aborts, under any context", and ∅ is caught by an exception list alone (2).
 --     4  Conflict waits until every exception is a value: "Each of the exceptions .. is evaluated; if two or more are valid .., a conflict error .. is raised".
---     5  Justification and consequence are reduced only once every exception is empty: else "we evaluate neither the justification or the consequence".
--- Out of range is ours, a third error: it is like conflict.
+--     5  Justification and consequence are reduced only once every exception is empty: "With none, the justification is evaluated" (paper 01), and
+--        where one is valid "we evaluate neither the justification or the consequence".
+-- Out of range is ours, a third error: it is like conflict. A number where a yes/no should stand counts as no, where the figures are stuck: no term of an
+-- accepted book has one.
 use Prim.Native.Nat.{ℕ, zero, suc}
 use mathlib.Core.Path.{_≡_}
 use mathlib.Core.Bool.{Bool, true, false, cond}
@@ -78,19 +81,19 @@ pub data Reduces (e : Env) : Term → Term → Type 0 where
   -- in place of D-BETA (1): a variable is read from the environment
   read-own : (x : ℕ) → Reduces e (own x) (literal (e .own x))
   read-called : (k x : ℕ) → Reduces e (called k x) (literal (e .called k x))
-  -- in place of D-BETA (1): operators on values
+  -- an addition (1): operators on values
   apply-unary : (op : Unary) (v : Value) → Reduces e (unary op (literal v)) (result (unaryOf op v))
   apply-binary : (op : Binary) (v w : Value) → Reduces e (binary op (literal v) (literal w)) (result (binaryOf op v w))
-  -- in place of D-BETA (1): "'if' takes one branch"
+  -- an addition (1): "'if' takes one branch"
   take-branch : (v : Value) (a b : Term) → Reduces e (choice (literal v) a b) (cond (truthOf v) a b)
   -- D-DEFAULTTRUENOEXCEPTIONS
   default-true : (n : ℕ) (w : Value) (o : Outcome) → truthOf w ≡ true
       → Reduces e (default (empties n none) (literal w) (result o)) (result o)
   -- D-DEFAULTFALSENOEXCEPTIONS
   default-false : (n : ℕ) (w : Value) (c : Term) → truthOf w ≡ false → Reduces e (default (empties n none) (literal w) c) (error Empty)
-  -- D-DEFAULTONEEXCEPTION
+  -- D-DEFAULTONEEXCEPTION, of a literal (3)
   one-exception : (m n : ℕ) (v : Value) (j c : Term) → Reduces e (default (empties m (also (literal v) (empties n none))) j c) (literal v)
-  -- D-DEFAULTEXCEPTIONSCONFLICT, only once every exception is a value (4)
+  -- D-DEFAULTEXCEPTIONSCONFLICT, of literals (3), only once every exception is a value (4)
   two-exceptions : (us vs ws : List (Option Value)) (v w : Value) (j c : Term)
       → Reduces e (default (behind us (also (literal v) (behind vs (also (literal w) (behind ws none))))) j c) (error Conflict)
   -- the regular contexts of figure 5: in place of those of application (1) those of operators and of "if", where v is no error (3)

@@ -12,7 +12,7 @@ use Rattle.answers.specs.declared.Compiled.{Compiled}
 use Rattle.evaluation.specs.Evaluate.{Reply, evaluate, Replies}
 use Rattle.compiler.specs.Compile.{Compiles}
 use Rattle.machine.specs.Service.{run}
-use Rattle.numbers.specs.Packed.{packed, cut, Placed, Says}
+use Rattle.numbers.specs.Packed.{packed, wrapped, Placed, Says}
 use Rattle.numbers.proofs.Unpacking.{says}
 use Rattle.engine.proofs.Placed.{compile-placed, evaluate-placed, run-placed}
 use Rattle.capi.specs.Replies.{PackedReply, PackedEvaluation, PackedRun}
@@ -20,21 +20,21 @@ use Rattle.capi.specs.Compiled.{PackedCompilation}
 
 -- the answer given is the one expected
 pub said : {A : Type 0} (numbers : A → Numbers) {given expected : A} {r : ℕ} → Placed (numbers expected) → given ≡ expected
-    → r ≡ packed (cut (numbers given)) → Says (numbers expected) r
-said numbers {given} {expected} {r} room same packs = says (numbers expected) r room (packs ∙ ap (λ x. packed (cut (numbers x))) same)
+    → r ≡ packed (wrapped (numbers given)) → Says (numbers expected) r
+said numbers {given} {expected} {r} room same packs = says (numbers expected) r room (packs ∙ ap (λ x. packed (wrapped (numbers x))) same)
 
-pub compiled : {bytes before : List ℕ} {c : Compiled} {r : ℕ} {after : List ℕ} → Compiles bytes before c after → r ≡ packed (cut (compiledNumbers c))
+pub compiled : {bytes before : List ℕ} {c : Compiled} {r : ℕ} {after : List ℕ} → Compiles bytes before c after → r ≡ packed (wrapped (compiledNumbers c))
     → PackedCompilation bytes before r after
 compiled {bytes} {before} h packs = record { answer = said compiledNumbers (compile-placed bytes before) (h .answer) packs; memory = h .memory }
 
 replied : {reply : Reply} {before : List ℕ} {a : Answer} {r : ℕ} {after : List ℕ} → Placed (answerNumbers (reply .answer))
-    → Replies reply before a after → r ≡ packed (cut (answerNumbers a)) → PackedReply reply before r after
+    → Replies reply before a after → r ≡ packed (wrapped (answerNumbers a)) → PackedReply reply before r after
 replied room h packs = record { answer = said answerNumbers room (h .answer) packs; memory = h .memory }
 
 module _ (bytes : List ℕ) (i : ℕ) (list : List ℕ) {before : List ℕ} {a : Answer} {r : ℕ} {after : List ℕ} where
-  pub evaluated : Replies (evaluate bytes i list (length before)) before a after → r ≡ packed (cut (answerNumbers a))
+  pub evaluated : Replies (evaluate bytes i list (length before)) before a after → r ≡ packed (wrapped (answerNumbers a))
       → PackedEvaluation bytes i list before r after
   evaluated = replied (evaluate-placed bytes i list before)
 
-  pub ran : Replies (run bytes i list (length before)) before a after → r ≡ packed (cut (answerNumbers a)) → PackedRun bytes i list before r after
+  pub ran : Replies (run bytes i list (length before)) before a after → r ≡ packed (wrapped (answerNumbers a)) → PackedRun bytes i list before r after
   ran = replied (run-placed bytes i list before)

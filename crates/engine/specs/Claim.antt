@@ -1,6 +1,6 @@
 -- The claim about the services, "a single claim about the four services together, not one for each": if a book is accepted and its code fits the
--- memory lent, compiling writes exactly that code, the code is accepted, and for every scope number, input list and result memory running it is
--- never stuck and agrees with evaluating.
+-- memory lent, compiling writes exactly that code, the code is accepted, and running it is never stuck, agrees with evaluating and counts no more
+-- scopes than the weight. The records here are of one scope number, input list and result memory; the promise of `all_services` is for all of them.
 use Prim.Native.Nat.{ℕ, _≤_}
 use mathlib.Core.Path.{_≡_}
 use mathlib.Core.Bool.{true}

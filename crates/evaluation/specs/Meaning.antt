@@ -1,4 +1,6 @@
 -- What a scope means, without an order of steps and without a run: the source paper's figure 7, as equations that the values of a scope solve.
+-- It speaks of values alone: a scope whose run ends empty, in conflict or out of range means nothing, and which of these it is the order of steps
+-- decides. In a book that is not accepted there may be several solutions, as where a variable is defined by itself.
 use Prim.Native.Nat.{ℕ, _<_}
 use mathlib.Core.Path.{_≡_}
 use mathlib.Core.Bool.{true, false}
@@ -37,7 +39,7 @@ pub record Solves (book : List Scope) (s : Scope) (given : List Given) (vs : Lis
       → eval (holding vs cs) (overridable (getD given x Absent) (tree s (ownTarget x))) ≡ Gives (getD vs x (Truth false))
   pub overrides : (k : ℕ) → k < length (s .subScopes) → (v : ℕ) → v < length (handed k) → Overrides (holding vs cs) s k v (getD (handed k) v Absent)
 
--- scope i of a book, with what is given to it, means these values
+-- scope i of a book, with what is given to it, means these values; a number that no scope has stands for a scope without variables
 pub data Means (book : List Scope) : ℕ → List Given → List Value → Type 0 where
   -- C-CALL: every sub-scope, with what is handed over to it, means its values
   means : {i : ℕ} {given : List Given} {vs : List Value} (handed : ℕ → List Given) (cs : List (List Value))

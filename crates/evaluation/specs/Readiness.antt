@@ -1,4 +1,4 @@
--- What holds of the state before a step: "every read meets a value that is set and of its type".
+-- What holds of the state before a step: every read meets a value that is set and of its type.
 use Prim.Native.Nat.{ℕ, _+_, _-_, _<_, _≤_}
 use mathlib.Core.Path.{_≡_}
 use mathlib.Core.Bool.{true, false}

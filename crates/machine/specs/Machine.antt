@@ -161,7 +161,7 @@ abbrev pub overridden : Callee → ℕ → ℕ → Value → List Joined → Lis
 overridden (waiting gs) k x v st ts m = handedTo (getD gs x Absent) gs k x v st ts m
 overridden (entered vs) k x v st ts m = stop stuck
 
--- "An entered scope that ends without values" ends the run
+-- "Conflict and out of range end the run. So does an entered scope that ends without values"
 abbrev pub returned : Ran → ℕ → List Joined → List Try → Memory → Next
 returned (ran (values vs n)) k st ts m = go 0 st ts (withCallee m k (entered vs) n)
 returned (ran (ended c n)) k st ts m = stop (ran (ended c (m .count + n)))

@@ -7,9 +7,9 @@ use Rattle.answers.specs.Numbers.{Numbers}
 abbrev pub packed : Numbers → ℕ
 packed n = n .refusal * 72057594037927936 + n .outcome * 281474976710656 + n .count * 4294967296 + n .length
 
--- count and length cut to their places, where an answer has more: none of the services' has
-abbrev pub cut : Numbers → Numbers
-cut n = record { refusal = n .refusal; outcome = n .outcome; count = n .count % 65536; length = n .length % 4294967296 }
+-- count and length modulo the room of their places, for any answer whatever: what the services answer has room as it is (engine/proofs/Placed.antt)
+abbrev pub wrapped : Numbers → Numbers
+wrapped n = record { refusal = n .refusal; outcome = n .outcome; count = n .count % 65536; length = n .length % 4294967296 }
 
 -- every number has room in its place
 pub record Placed (n : Numbers) : Type 0 where

@@ -7,7 +7,7 @@ use answers::Judged;
 use answers::Refusal;
 ghost use mathlib.Core.Path.{_≡_};
 ghost use Rattle.answers.specs.Numbers.{faultNumber, refusalNumber, causeNumber, judgedNumbers, compiledNumbers, answerNumbers};
-ghost use Rattle.numbers.specs.Packed.{packed, cut};
+ghost use Rattle.numbers.specs.Packed.{packed, wrapped};
 
 // The paper's number of a fault.
 pub fn fault_number(f: Fault) -> u8
@@ -61,10 +61,10 @@ fn wide(b: u8) -> u64
 }
 
 // The numbers of an answer as one: from the highest byte on, one byte of refusal, one of outcome, two of count and four of length. A count
-// and a length are cut to their places.
+// and a length are taken modulo the room of their places.
 fn pack(refusal: u8, outcome: u8, count: usize, length: usize) -> u64
     ensures { λ r.
-        ⌜ r ≡ packed (cut (record { refusal = refusal; outcome = outcome; count = count; length = length })) ⌝ }
+        ⌜ r ≡ packed (wrapped (record { refusal = refusal; outcome = outcome; count = count; length = length })) ⌝ }
 {
     let count_part = ((count % 65536) as u64) * 4294967296;
     let length_part = (length % 4294967296) as u64;
@@ -73,7 +73,7 @@ fn pack(refusal: u8, outcome: u8, count: usize, length: usize) -> u64
 
 // What judging answers, as one number.
 pub fn pack_judged(j: Judged) -> u64
-    ensures { λ r. ⌜ r ≡ packed (cut (judgedNumbers j)) ⌝ }
+    ensures { λ r. ⌜ r ≡ packed (wrapped (judgedNumbers j)) ⌝ }
 {
     match j {
         Judged::Accepted(n) => pack(0, 0, 0, n),
@@ -83,7 +83,7 @@ pub fn pack_judged(j: Judged) -> u64
 
 // What compiling answers, as one number.
 pub fn pack_compiled(c: Compiled) -> u64
-    ensures { λ r. ⌜ r ≡ packed (cut (compiledNumbers c)) ⌝ }
+    ensures { λ r. ⌜ r ≡ packed (wrapped (compiledNumbers c)) ⌝ }
 {
     match c {
         Compiled::Written(n) => pack(0, 0, 0, n),
@@ -93,7 +93,7 @@ pub fn pack_compiled(c: Compiled) -> u64
 
 // What evaluating or running answers, as one number.
 pub fn pack_answer(a: Answer) -> u64
-    ensures { λ r. ⌜ r ≡ packed (cut (answerNumbers a)) ⌝ }
+    ensures { λ r. ⌜ r ≡ packed (wrapped (answerNumbers a)) ⌝ }
 {
     match a {
         Answer::Values(n, l) => pack(0, 0, n, l),

@@ -6,7 +6,7 @@ use Rattle.calculus.specs.Evaluation.{Env}
 use Rattle.book.specs.declared.Node.{Node}
 use Rattle.book.specs.declared.Node.the-variants as node
 
--- every own variable that a term reads has P, every variable of a sub-scope Q; "a read counts whether or not it would be reached"
+-- every own variable that a term reads has P, every variable of a sub-scope Q; "A read counts whether or not it would be reached"
 unfoldable mutual
   pub EachRead : (ℕ → Type 0) → (ℕ → ℕ → Type 0) → Term → Type 0
   EachRead P Q (literal v) = Unit {0}
