@@ -94,7 +94,7 @@ pub fn compile(book: &[u8], code: &mut [u8]) -> Compiled
     ensures { λ r. ⌜ Compiles (now (book .entry)) (now (code .entry)) r (now (code .exit)) ⌝ }
 {
     if has_few_scopes(book) {
-        let mut few = [0u16; 3376];
+        let mut few = [0u16; 3472];
         return compile_in(book, &mut few, code);
     }
     let mut all = [0u16; 13504];

@@ -122,7 +122,7 @@ pub fn evaluate(book: &[u8], scope: usize, inputs: &[u8], results: &mut [u8]) ->
     ensures { λ r. ⌜ Evaluated (now (book .entry)) scope (now (inputs .entry)) (now (results .entry)) r (now (results .exit)) ⌝ }
 {
     if has_few_scopes(book) {
-        let mut few = [0u16; 3376];
+        let mut few = [0u16; 3472];
         return evaluate_in(book, &mut few, scope, inputs, results);
     }
     let mut all = [0u16; 13504];

@@ -25,17 +25,25 @@ use record::KIND_OWN;
 use record::KIND_SUBTRACT;
 use types::type_of;
 ghost use mathlib.Core.Path.{_≡_};
-ghost use Prim.Native.Nat.{_+_, _*_, _<_};
+ghost use Prim.Native.Nat.{_+_, _*_, _≤_, _<_};
 ghost use lib.ListN.{length, getD};
 ghost use Rattle.book.specs.Decode.{scopesOf};
 ghost use Rattle.book.specs.References.{scopeAt};
 ghost use Rattle.book.specs.Positions.{nodeFrom, clauseFrom, nodeLength, variableAt, subScopeAt, nodeAt, clauseAt};
 ghost use Rattle.index.specs.Index.{indexAt, Laid};
 
-// The scopes that a book may have, and where each sort of records begins in a scope's row: four counts stand before them.
+// The scopes that a book may have, and the sorts of records that are counted for each.
 const SCOPES: usize = 32;
 
-pub const ROW: usize = 422;
+pub const SORTS: usize = 4;
+
+// After the counts of all scopes each has a row of positions. Its columns are numbered on from those of the counts, so that a row's column 0
+// would stand four before it.
+pub const ROWS: usize = 124;
+
+pub const ROW: usize = 418;
+
+// The columns where the positions of each sort begin.
 
 pub const VARIABLES: usize = 4;
 
@@ -95,26 +103,31 @@ fn clause_of(book: &[u8], at: usize) -> Clause
     }
 }
 
-// Column k of scope i's row.
-fn column_at(index: &[u16], i: usize, k: usize) -> usize
-    requires { ⌜ (i < 32) × (k < 422) × (i * 422 + k < length (now index)) ⌝ }
-    ensures { λ r. ⌜ r ≡ indexAt (now (index .entry)) i k ⌝ }
+// A number of an index.
+fn cell_at(index: &[u16], at: usize) -> usize
+    requires { ⌜ at < length (now index) ⌝ }
+    ensures { λ r. ⌜ r ≡ getD (now (index .entry)) at 0 ⌝ }
 {
-    index[i * ROW + k] as usize
+    index[at] as usize
 }
 
-// How many records of a sort scope i has: 0 variables, 1 sub-scopes, 2 nodes, 3 clauses. A number without a row has none.
+// The position in column k of scope i's row.
+fn column_at(index: &[u16], i: usize, k: usize) -> usize
+    requires { ⌜ (i < 32) × (4 ≤ k) × (k < 422) × (124 + i * 418 + k < length (now index)) ⌝ }
+    ensures { λ r. ⌜ r ≡ indexAt (now (index .entry)) i k ⌝ }
+{
+    cell_at(index, ROWS + i * ROW + k)
+}
+
+// How many records of a sort scope i has: 0 variables, 1 sub-scopes, 2 nodes, 3 clauses.
 fn count_at(index: &[u16], i: usize, sort: usize) -> usize
-    requires { ⌜ sort < 4 ⌝ }
+    requires { ⌜ (128 ≤ length (now index)) × (sort < 4) ⌝ }
     ensures { λ r. ⌜ r ≡ indexAt (now (index .entry)) i sort ⌝ }
 {
     if SCOPES <= i {
         return 0;
     }
-    if index.len() <= i * ROW + sort {
-        return 0;
-    }
-    column_at(index, i, sort)
+    cell_at(index, i * SORTS + sort)
 }
 
 // How many variables scope i has.

@@ -107,7 +107,7 @@ pub fn judge(book: &[u8]) -> Judged
     ensures { λ r. ⌜ r ≡ Judge·judge (now (book .entry)) ⌝ }
 {
     if has_few_scopes(book) {
-        let mut few = [0u16; 3376];
+        let mut few = [0u16; 3472];
         return judge_in(book, &mut few);
     }
     let mut all = [0u16; 13504];

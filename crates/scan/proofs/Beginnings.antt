@@ -90,8 +90,8 @@ module _ (bytes : List ℕ) (at scopes st n : ℕ) (here : at < length bytes) (e
       rw q (omega arith))
       (decide (eqb st 1))
 
-pub few-rows : (bytes : List ℕ) → scopeBytes bytes ≤ 8 → Unfilled bytes (replicate 3376 0)
-few-rows bytes few = record { empty = zeros 3376; rows = λ n a b. rw (length-replicate {A = ℕ} 3376 0) (omega arith) }
+pub few-rows : (bytes : List ℕ) → scopeBytes bytes ≤ 8 → Unfilled bytes (replicate 3472 0)
+few-rows bytes few = record { empty = zeros 3472; rows = λ n a b. rw (length-replicate {A = ℕ} 3472 0) (omega arith) }
 
 pub all-rows : (bytes : List ℕ) → Unfilled bytes (replicate 13504 0)
 all-rows bytes = record { empty = zeros 13504; rows = λ n a b. rw (length-replicate {A = ℕ} 13504 0) (omega arith) }

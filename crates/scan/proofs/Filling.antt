@@ -50,7 +50,7 @@ pub record Filling (bytes index : List ℕ) (t : Tally) (at : ℕ) : Type 0 wher
 pub record Going (bytes : List ℕ) (room : ℕ) (index : List ℕ) (last scopes at : ℕ) : Type 0 where
   pub inside : at ≤ length bytes
   pub size : length index ≡ room
-  pub rows : (n : ℕ) → n ≤ 32 → n ≤ scopeBytes bytes → n * 422 ≤ room
+  pub rows : (n : ℕ) → n ≤ 32 → n ≤ scopeBytes bytes → 128 + n * 418 ≤ room
   pub begun : scopes + scopeBytes (drop at bytes) ≤ scopeBytes bytes
   pub counting : Counting index last scopes
   pub same : scan (recordsFrom (drop at bytes) 0 (tallyOf index last scopes)) ≡ scan (records bytes)
@@ -59,13 +59,14 @@ pub record Going (bytes : List ℕ) (room : ℕ) (index : List ℕ) (last scopes
 pub going-start : (bytes index : List ℕ) → Blank bytes index → Going bytes (length index) index 0 0 0
 unfolding records scopesOf
 going-start bytes index b =
-    let e = tally-start index (b .unfilled .empty) in
+    let room : 128 ≤ length index = omega (arith, b .unfilled .rows 0 (omega arith) (omega arith)) in
+    let e = tally-start index (b .unfilled .empty) room in
     record {
       inside = omega arith;
       size = refl;
       rows = b .unfilled .rows;
       begun = omega arith;
-      counting = counting-start index (b .unfilled .empty);
+      counting = counting-start index (b .unfilled .empty) room;
       same = rw e;
       filling = λ sound. rw e
           (record {
@@ -75,7 +76,7 @@ going-start bytes index b =
           });
     }
 
-fill-end : (bytes index : List ℕ) (t : Tally) (at : ℕ) → length bytes ≤ at → t .scopes * 422 ≤ length index → Within (scopesOf bytes) → Filling bytes index t at → Filled bytes index (t .scopes)
+fill-end : (bytes index : List ℕ) (t : Tally) (at : ℕ) → length bytes ≤ at → 128 + t .scopes * 418 ≤ length index → Within (scopesOf bytes) → Filling bytes index t at → Filled bytes index (t .scopes)
 unfolding recordsFrom parse
 fill-end bytes index t at h l w f =
     let q : recordsFrom (drop at bytes) 0 t ≡ [] = rw (drop-of-length-le bytes h) in
@@ -177,7 +178,7 @@ module _ (bytes : List ℕ) (room : ℕ) (index : List ℕ) (last scopes at : �
       let d = limit-below s in
       rw (q, slot-sort s, number-sort s index last scopes) (omega arith, omega arith)
 
-  pub room-here : length bytes ≤ 32768 → Room index at st scopes
+  pub room-here : length bytes ≤ 65536 → Room index at st scopes
   room-here short =
       record {
         counted = counts-here index last scopes (g .counting) st below-five stage-before;
@@ -249,7 +250,7 @@ module _ (bytes : List ℕ) (room : ℕ) (index : List ℕ) (last scopes at : �
       rw q (omega arith)
   few-next (has s q) = let sn = scopes-of index last scopes in rw (q, scopes-kept s scopes) (omega (arith, g .counting .within .scopes))
 
-  row-next : scopesWith st scopes * 422 ≤ length index
+  row-next : 128 + scopesWith st scopes * 418 ≤ length index
   row-next = rw (g .size) (g .rows (scopesWith st scopes) (few-next staged-here) (omega (arith, begun-next)))
 
   pub going-turn : (index' : List ℕ) → index' ≡ stored index at st scopes → (scopes' : ℕ) → scopes' ≡ scopesWith st scopes → Going bytes room index' st scopes' next

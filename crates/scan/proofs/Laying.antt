@@ -136,7 +136,7 @@ parts-new bytes book index t m p e old s i =
 -- a record of a sort, placed
 module _ (bytes : List ℕ) (book : List Scope) (index : List ℕ) (at : ℕ) (t : Tally) (m : Met) (p : Parsed) (s' : Sort)
     (e : stageOf m ≡ stage s') (says : Found (from s') (long s') bytes at (item s' m)) (j : ℕ) (here : suc j ≡ t .scopes) (row : j < 32)
-    (fits : count s' t < limit s') (size : j * 422 + 422 ≤ length index)
+    (fits : count s' t < limit s') (size : 128 + (j * 418 + 418) ≤ length index)
     (few : (s : Sort) (i : ℕ) → length (itemsOf s (scopeAt book i)) ≤ limit s)
     (old : Parts bytes book index t (inFront m p)) where
   abbrev new : List ℕ

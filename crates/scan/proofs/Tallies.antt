@@ -16,7 +16,7 @@ use Rattle.laws.proofs.Booleans.{decide}
 use Rattle.book.specs.declared.Tally.{Tally}
 use Rattle.answers.specs.declared.Fault.the-variants.{OutOfOrder, LimitExceeded, InvalidByte}
 use Rattle.book.specs.Records.{counted, start, follows, exceeds, invalid}
-use Rattle.index.specs.Index.{indexAt}
+use Rattle.index.specs.Index.{cellOf, indexAt}
 use Rattle.scan.specs.declared.Slot.{Slot}
 use Rattle.book.specs.Limits.{InLimits}
 use Rattle.scan.specs.Counting.{slotOf, numberOf, scopesWith, tallyOf, Counts, Counting}
@@ -61,23 +61,23 @@ module _ (index : List ℕ) (st scopes : ℕ) where
   unfolding numberOf
   number-one h = rw (lt-ltb st 2 h)
 
-  pub number-more : Counts index st scopes → 2 ≤ st → getD index ((scopes - 1) * 422 + (st - 2)) 0 ≡ numberOf index st scopes
-  unfolding numberOf indexAt
+  pub number-more : Counts index st scopes → 2 ≤ st → getD index ((scopes - 1) * 4 + (st - 2)) 0 ≡ numberOf index st scopes
+  unfolding numberOf indexAt cellOf
   number-more c h =
       let o = c .opened h in
-      rw (le-ltb st 2 h, lt-ltb (scopes - 1) 32 (omega (arith, c .few)), lt-ltb (st - 2) 422 (omega (arith, c .stage)))
+      rw (le-ltb st 2 h, lt-ltb (scopes - 1) 32 (omega (arith, c .few)), lt-ltb (st - 2) 422 (omega (arith, c .stage)), lt-ltb (st - 2) 4 (omega (arith, c .stage)))
 
 pub stored-length : (index : List ℕ) (at st scopes : ℕ) → length (stored index at st scopes) ≡ length index
 unfolding stored
 stored-length index at st scopes = go (ltb st 2)
   where
     go : (b : Bool)
-        → length (cond b index (set (set index ((scopes - 1) * 422 + (slotOf st .base + numberOf index st scopes)) at) ((scopes - 1) * 422 + (st - 2)) (numberOf index st scopes + 1)))
+        → length (cond b index (set (set index (cellOf (scopes - 1) (slotOf st .base + numberOf index st scopes)) at) (cellOf (scopes - 1) (st - 2)) (numberOf index st scopes + 1)))
         ≡ length index
     go true = refl
     go false =
-        length-set (set index ((scopes - 1) * 422 + (slotOf st .base + numberOf index st scopes)) at) ((scopes - 1) * 422 + (st - 2)) (numberOf index st scopes + 1)
-        ∙ length-set index ((scopes - 1) * 422 + (slotOf st .base + numberOf index st scopes)) at
+        length-set (set index (cellOf (scopes - 1) (slotOf st .base + numberOf index st scopes)) at) (cellOf (scopes - 1) (st - 2)) (numberOf index st scopes + 1)
+        ∙ length-set index (cellOf (scopes - 1) (slotOf st .base + numberOf index st scopes)) at
 
 pub scopes-kept : (s : Sort) (scopes : ℕ) → scopesWith (stage s) scopes ≡ scopes
 unfolding scopesWith
@@ -194,7 +194,7 @@ module _ (index : List ℕ) (last scopes : ℕ) (c : Counting index last scopes)
     row : scopes - 1 < 32
     row = let l = c .within .scopes in let e = scopes-of index last scopes in omega arith
 
-    row-room : (scopes - 1) * 422 + 422 ≤ length index
+    row-room : 128 + ((scopes - 1) * 418 + 418) ≤ length index
     row-room = omega (arith, c .size)
 
     at-turn : (s' : Sort) → indexAt new (scopes - 1) (number s') ≡ count s' (counted (stage s) u)
@@ -226,8 +226,8 @@ module _ (index : List ℕ) (last scopes : ℕ) (c : Counting index last scopes)
   unfolding tallyOf
   tally-turn s at o f = rw (at-turn s at o f variable, at-turn s at o f subScope, at-turn s at o f node, at-turn s at o f clause) (sym (whole-turn s))
 
-  module _ (at st : ℕ) (opened : 2 ≤ st → 1 ≤ scopes) (l : InLimits (counted st (tallyOf index last scopes))) (room : scopesWith st scopes * 422 ≤ length index) where
-    size-next : scopesWith st scopes * 422 ≤ length (stored index at st scopes)
+  module _ (at st : ℕ) (opened : 2 ≤ st → 1 ≤ scopes) (l : InLimits (counted st (tallyOf index last scopes))) (room : 128 + scopesWith st scopes * 418 ≤ length index) where
+    size-next : 128 + scopesWith st scopes * 418 ≤ length (stored index at st scopes)
     size-next = let e = stored-length index at st scopes in omega arith
 
     fits-here : (s : Sort) → st ≡ stage s → count s (tallyOf index last scopes) < limit s
@@ -267,7 +267,7 @@ module _ (index : List ℕ) (last scopes : ℕ) (c : Counting index last scopes)
     counting-next known below = counting-staged (staged st (λ e. absurd (omega arith)) below)
 
 -- nothing was read
-module _ (index : List ℕ) (empty : (n : ℕ) → getD index n 0 ≡ 0) where
+module _ (index : List ℕ) (empty : (n : ℕ) → getD index n 0 ≡ 0) (room : 128 ≤ length index) where
   pub tally-start : tallyOf index 0 0 ≡ start
   unfolding tallyOf
   tally-start =

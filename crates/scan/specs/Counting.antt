@@ -41,14 +41,14 @@ tallyOf index last scopes =
 
 -- the index has a count for a stage
 pub record Counts (index : List ℕ) (s scopes : ℕ) : Type 0 where
-  pub size : scopes * 422 ≤ length index
+  pub size : 128 + scopes * 418 ≤ length index
   pub stage : s ≤ 5
   pub few : scopes ≤ 32
   pub opened : 2 ≤ s → 1 ≤ scopes
 
 -- the index has the rows of all scopes so far, and no others
 pub record Counting (index : List ℕ) (last scopes : ℕ) : Type 0 where
-  pub size : scopes * 422 ≤ length index
+  pub size : 128 + scopes * 418 ≤ length index
   pub within : InLimits (tallyOf index last scopes)
   pub opened : 1 ≤ last → 1 ≤ scopes
   pub later : (i k : ℕ) → scopes ≤ i → indexAt index i k ≡ 0

@@ -10,7 +10,7 @@ use Rattle.book.specs.declared.Scanned.the-variants as scanned
 use Rattle.book.specs.Records.{records}
 use Rattle.book.specs.Decode.{scopesOf}
 use Rattle.book.specs.Judge.{scan}
-use Rattle.index.specs.Index.{Laid}
+use Rattle.index.specs.Index.{cellOf, Laid}
 use Rattle.scan.specs.Counting.{slotOf, numberOf, Counts}
 use Rattle.scan.specs.declared.Reading.{Reading}
 use Rattle.scan.specs.declared.Reading.the-variants.{Faulty, Complete}
@@ -19,7 +19,7 @@ use Rattle.scan.specs.declared.Reading.the-variants.{Faulty, Complete}
 unfoldable pub stored : List ℕ → ℕ → ℕ → ℕ → List ℕ
 stored index at s scopes =
     cond (ltb s 2) index
-    (set (set index ((scopes - 1) * 422 + (slotOf s .base + numberOf index s scopes)) at) ((scopes - 1) * 422 + (s - 2)) (numberOf index s scopes + 1))
+    (set (set index (cellOf (scopes - 1) (slotOf s .base + numberOf index s scopes)) at) (cellOf (scopes - 1) (s - 2)) (numberOf index s scopes + 1))
 
 -- there is a column for one more record of a stage
 pub record Room (index : List ℕ) (at s scopes : ℕ) : Type 0 where
@@ -40,11 +40,11 @@ FewScopes bytes r = r ≡ true → scopeBytes bytes ≤ 8
 -- an index that is still empty, with a row for each scope that the book may have
 pub record Unfilled (bytes index : List ℕ) : Type 0 where
   pub empty : (k : ℕ) → getD index k 0 ≡ 0
-  pub rows : (n : ℕ) → n ≤ 32 → n ≤ scopeBytes bytes → n * 422 ≤ length index
+  pub rows : (n : ℕ) → n ≤ 32 → n ≤ scopeBytes bytes → 128 + n * 418 ≤ length index
 
--- a book that is not too long, and an index for it
+-- a book whose positions fit two bytes, and an index for it
 pub record Blank (bytes index : List ℕ) : Type 0 where
-  pub short : length bytes ≤ 32768
+  pub short : length bytes ≤ 65536
   pub unfilled : Unfilled bytes index
 
 -- the index is that of the book, which has this many scopes

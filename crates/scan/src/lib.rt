@@ -3,6 +3,8 @@ use answers::Fault;
 use index::CLAUSES;
 use index::NODES;
 use index::ROW;
+use index::ROWS;
+use index::SORTS;
 use index::SUB_SCOPES;
 use index::VARIABLES;
 use record::KIND_SCOPE;
@@ -76,7 +78,7 @@ fn number_of(index: &[u16], stage: usize, scopes: usize) -> usize
     if stage < 2 {
         return scopes;
     }
-    index[(scopes - 1) * ROW + (stage - 2)] as usize
+    index[(scopes - 1) * SORTS + (stage - 2)] as usize
 }
 
 // What stands at a position of a book.
@@ -191,8 +193,8 @@ fn store(index: &mut [u16], at: usize, stage: usize, scopes: usize)
     let base = slot.base;
     let number = number_of(index, stage, scopes);
     let row = scopes - 1;
-    index[row * ROW + (base + number)] = at as u16;
-    index[row * ROW + (stage - 2)] = (number + 1) as u16;
+    index[ROWS + row * ROW + (base + number)] = at as u16;
+    index[row * SORTS + (stage - 2)] = (number + 1) as u16;
 }
 
 // The number of scopes with a record of a stage.

@@ -73,15 +73,15 @@ module _ (bytes index links own called : List ℕ) (i : ℕ) (e : Evaluable byte
   row-length =
       let l = e .scope in
       let p = e .ready .sound .laid .rows in
-      part-room index (i * 422 + 44) 378 (omega arith) refl
+      part-room index (124 + i * 418 + 44) 378 (omega arith) refl
 
   row-place : (m : ℕ) → 44 + m < 422 → getD row m 0 ≡ indexAt index i (44 + m)
   row-place m l =
-      let q : i * 422 + 44 + m ≡ i * 422 + (44 + m) = omega arith in
-      getD-take 378 (drop (i * 422 + 44) index) m 0 (omega arith)
-      ∙ getD-drop (i * 422 + 44) index m 0
+      let q : 124 + i * 418 + 44 + m ≡ 124 + i * 418 + (44 + m) = omega arith in
+      getD-take 378 (drop (124 + i * 418 + 44) index) m 0 (omega arith)
+      ∙ getD-drop (124 + i * 418 + 44) index m 0
       ∙ ap (λ (k : ℕ). getD index k 0) q
-      ∙ column index i (44 + m) (omega (arith, e .scope, e .ready .sound .laid .within .scopes)) l
+      ∙ column index i (44 + m) (omega (arith, e .scope, e .ready .sound .laid .within .scopes)) (omega arith) l
 
   -- the record of which the place stands in the row
   in-row : {A : Type 0} (from : List ℕ → ℕ → A) (long : ℕ → ℕ) (m : ℕ) (x : A)

@@ -18,7 +18,7 @@ use Rattle.trees.specs.Chains.{Ready}
 
 -- the positions of scope i's nodes, and then of its clauses
 abbrev pub rowOf : List ℕ → ℕ → List ℕ
-rowOf index i = take 378 (drop (i * 422 + 44) index)
+rowOf index i = take 378 (drop (124 + i * 418 + 44) index)
 
 -- where the place of clause c stands in a row
 abbrev pub clausePlace : ℕ → ℕ

@@ -7,6 +7,7 @@ use cells::NO;
 use cells::NOTHING;
 use index::NODES;
 use index::ROW;
+use index::ROWS;
 use links::EXCEPTIONS;
 use links::RULES;
 use links::SIBLINGS;
@@ -86,7 +87,7 @@ pub fn eval_tree(
     ensures { λ r. ⌜ Codes r (treeOutcome (now (book .entry)) (now (own .entry)) (now (called .entry)) i sub variable) ⌝ }
 {
     let slot = slot_of(Target { sub, variable });
-    let start = i * ROW + NODES;
+    let start = ROWS + i * ROW + NODES;
     let g = eval_chain(
         book,
         &index[start..start + RECORDS],

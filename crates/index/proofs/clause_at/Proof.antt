@@ -13,7 +13,7 @@ add-column-at : tie.Need-add-column-at
 add-column-at c = omega (arith, (clause-here _ _ (c .before .before .before .before .pre) _ (c .before .before .before .before .args .c) _ (c .before .count-at .ensures) (c .if1 .taken)) .column)
 
 column-at-requires : tie.Need-column-at-requires
-column-at-requires c κs = let h = clause-here _ _ (c .before .before .before .before .pre) _ (c .before .before .before .before .args .c) _ (c .before .count-at .ensures) (c .if1 .taken) in (h .row, h .column, h .inside)
+column-at-requires c κs = let h = clause-here _ _ (c .before .before .before .before .pre) _ (c .before .before .before .before .args .c) _ (c .before .count-at .ensures) (c .if1 .taken) in (h .row, h .low, h .column, h .inside)
 
 clause-of-requires : tie.Need-clause-of-requires
 clause-of-requires c κs = rw (c .column-at .ensures) ((clause-here _ _ (c .before .before .before .before .before .pre) _ (c .before .before .before .before .before .args .c) _ (c .before .before .count-at .ensures) (c .before .if1 .taken)) .found .whole)

@@ -1,31 +1,26 @@
 -- `index::column_at` meets its contract.
 -- Assumes nothing.
-use native.Mathlib.Omega.{arith}
-use Prim.Native.Nat.{_+_, _*_}
+use mathlib.Core.Path.{_∙_}
 use Rattle.index.proofs.Rows.{column}
 use borrow.Author.Needs.{needs}
 use Rattle.index.proofs.column_at.Statement.{statement}
 use Rattle.index.proofs.column_at.Tie as tie
 
-mul-result : tie.Need-mul-result
-mul-result c = search needs
+mul-cell-at : tie.Need-mul-cell-at
+mul-cell-at c = search needs
 
-add-result : tie.Need-add-result
-add-result c = search needs
+add-cell-at : tie.Need-add-cell-at
+add-cell-at c = search needs
 
-mul-result-2 : tie.Need-mul-result-2
-mul-result-2 c = search needs
+add-cell-at-2 : tie.Need-add-cell-at-2
+add-cell-at-2 c = search needs
 
-shared-slice-read-result : tie.Need-shared-slice-read-result
-shared-slice-read-result c = search needs
-
-cast-result : tie.Need-cast-result
-cast-result c = omega (arith, c .shared-slice-known .given (c .before .args .i * 422 + c .before .args .k))
+cell-at-requires : tie.Need-cell-at-requires
+cell-at-requires c κs = search needs
 
 returns : tie.Need-returns
-returns c = column _ _ _ (c .before .pre .0) (c .before .pre .1)
+returns c = c .cell-at .ensures ∙ column _ _ _ (c .before .before .pre .0) (c .before .before .pre .1) (c .before .before .pre .2)
 
 pub column-at-spec : {M : Type 1} → statement M
 column-at-spec =
-    tie.close
-    (tie.spec mul-result add-result mul-result-2 shared-slice-read-result cast-result returns)
+    tie.close (tie.spec mul-cell-at add-cell-at add-cell-at-2 cell-at-requires returns)

@@ -13,7 +13,7 @@ add-column-at : tie.Need-add-column-at
 add-column-at c = omega (arith, (node-here _ _ (c .before .before .before .before .pre) _ (c .before .before .before .before .args .n) _ (c .before .count-at .ensures) (c .if1 .taken)) .column)
 
 column-at-requires : tie.Need-column-at-requires
-column-at-requires c κs = let h = node-here _ _ (c .before .before .before .before .pre) _ (c .before .before .before .before .args .n) _ (c .before .count-at .ensures) (c .if1 .taken) in (h .row, h .column, h .inside)
+column-at-requires c κs = let h = node-here _ _ (c .before .before .before .before .pre) _ (c .before .before .before .before .args .n) _ (c .before .count-at .ensures) (c .if1 .taken) in (h .row, h .low, h .column, h .inside)
 
 node-of-requires : tie.Need-node-of-requires
 node-of-requires c κs = rw (c .column-at .ensures) ((node-here _ _ (c .before .before .before .before .before .pre) _ (c .before .before .before .before .before .args .n) _ (c .before .before .count-at .ensures) (c .before .if1 .taken)) .found .whole)

@@ -17,7 +17,7 @@ add-column-at : tie.Need-add-column-at
 add-column-at c = omega (arith, (sub-scope-here _ _ (c .before .before .before .before .pre) _ (c .before .before .before .before .args .k) _ (c .before .count-at .ensures) (c .if1 .taken)) .column)
 
 column-at-requires : tie.Need-column-at-requires
-column-at-requires c κs = let h = sub-scope-here _ _ (c .before .before .before .before .pre) _ (c .before .before .before .before .args .k) _ (c .before .count-at .ensures) (c .if1 .taken) in (h .row, h .column, h .inside)
+column-at-requires c κs = let h = sub-scope-here _ _ (c .before .before .before .before .pre) _ (c .before .before .before .before .args .k) _ (c .before .count-at .ensures) (c .if1 .taken) in (h .row, h .low, h .column, h .inside)
 
 add-result : tie.Need-add-result
 add-result c = let w = (sub-scope-here _ _ (c .before .before .before .before .before .pre) _ (c .before .before .before .before .before .args .k) _ (c .before .before .count-at .ensures) (c .before .if1 .taken)) .found .whole in omega (arith, c .column-at .ensures)

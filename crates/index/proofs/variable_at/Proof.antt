@@ -16,7 +16,7 @@ add-column-at : tie.Need-add-column-at
 add-column-at c = omega (arith, (variable-here _ _ (c .before .before .before .before .pre) _ (c .before .before .before .before .args .v) _ (c .before .count-at .ensures) (c .if1 .taken)) .column)
 
 column-at-requires : tie.Need-column-at-requires
-column-at-requires c κs = let h = variable-here _ _ (c .before .before .before .before .pre) _ (c .before .before .before .before .args .v) _ (c .before .count-at .ensures) (c .if1 .taken) in (h .row, h .column, h .inside)
+column-at-requires c κs = let h = variable-here _ _ (c .before .before .before .before .pre) _ (c .before .before .before .before .args .v) _ (c .before .count-at .ensures) (c .if1 .taken) in (h .row, h .low, h .column, h .inside)
 
 add-type-of : tie.Need-add-type-of
 add-type-of c = let w = (variable-here _ _ (c .before .before .before .before .before .pre) _ (c .before .before .before .before .before .args .v) _ (c .before .before .count-at .ensures) (c .before .if1 .taken)) .found .whole in omega (arith, c .column-at .ensures)

@@ -3,15 +3,16 @@
 use Rattle.judge.proofs.Faults.{refused, long, faulty, sound, read-sound, read-fault}
 use denote.Ref.{now}
 use mathlib.Core.Path.{_∙_}
+use native.Mathlib.Omega.{arith}
 use borrow.Author.Needs.{needs}
 use Rattle.judge.proofs.load.Statement.{statement}
 use Rattle.judge.proofs.load.Tie as tie
 
 returns : tie.Need-returns
-returns c = refused (long (now (c .before .before .before .before .before .before .args .book)) (c .if1 .taken))
+returns c = refused (long (now (c .before .before .before .before .before .before .args .book)) (omega (arith, c .if1 .taken)))
 
 read-records-requires : tie.Need-read-records-requires
-read-records-requires c κs = record { short = c .before .if1 .left; unfilled = c .before .before .before .before .before .before .before .pre .0 }
+read-records-requires c κs = record { short = omega (arith, c .before .if1 .left); unfilled = c .before .before .before .before .before .before .before .pre .0 }
 
 enum-known-n : tie.Need-enum-known-n
 enum-known-n c = search needs

@@ -2,8 +2,8 @@
 -- Assumes nothing.
 use Prim.Native.Nat.{_+_, _-_, _*_}
 use native.Mathlib.Omega.{arith}
-use borrow.Author.Needs.{needs}
 use Rattle.scan.proofs.Tallies.{number-one, number-more}
+use borrow.Author.Needs.{needs}
 use Rattle.scan.proofs.number_of.Statement.{statement}
 use Rattle.scan.proofs.number_of.Tie as tie
 
@@ -23,10 +23,10 @@ mul-result-2 : tie.Need-mul-result-2
 mul-result-2 c = search needs
 
 shared-slice-read-result : tie.Need-shared-slice-read-result
-shared-slice-read-result c = let o = c .before .before .pre .opened (c .before .if1 .left) in omega arith
+shared-slice-read-result c = search needs
 
 cast-result : tie.Need-cast-result
-cast-result c = omega (arith, c .shared-slice-known .given ((c .before .before .args .scopes - 1) * 422 + (c .before .before .args .stage - 2)))
+cast-result c = omega (arith, c .shared-slice-known .given ((c .before .before .args .scopes - 1) * 4 + (c .before .before .args .stage - 2)))
 
 returns-2 : tie.Need-returns-2
 returns-2 c = number-more _ _ _ (c .before .before .pre) (c .before .if1 .left)

@@ -17,6 +17,9 @@ mul-start c = search needs
 add-start : tie.Need-add-start
 add-start c = search needs
 
+add-start-2 : tie.Need-add-start-2
+add-start-2 c = search needs
+
 add-eval-chain : tie.Need-add-eval-chain
 add-eval-chain c = search needs
 
@@ -60,6 +63,7 @@ eval-tree-spec =
     slot-of-requires
     mul-start
     add-start
+    add-start-2
     add-eval-chain
     mul-eval-chain
     sub-eval-chain
