@@ -3,7 +3,7 @@
 --     filled-taken    the same, from the order's vertices; filled-unfit, where they do not fit
 --     fits-fit, unfit-many, unfit-rows, unfit-room    whether they fit, by the three tests
 -- Assumes nothing.
-use Prim.Native.Nat.{ℕ, _<_, _≤_, _*_}
+use Prim.Native.Nat.{ℕ, _<_, _≤_}
 use mathlib.Core.Path.{_≡_}
 use mathlib.Core.Bool.{true, false}
 use mathlib.Core.List.{List, _++_}
@@ -16,21 +16,21 @@ use Rattle.order.specs.declared.Ordered.{Ordered}
 use Rattle.order.specs.declared.Ordered.the-variants.{Taken, Unfit}
 
 module _ (deps : List ℕ) (n : ℕ) (out : List ℕ) where
-  pub fits-fit : n ≤ 40 → n * 40 ≤ length deps → n ≤ length out → fits deps n out ≡ true
+  pub fits-fit : n ≤ 40 → 1640 ≤ length deps → n ≤ length out → fits deps n out ≡ true
   unfolding fits
-  fits-fit a b c = rw (le-leb n 40 a, le-leb (n * 40) (length deps) b, le-leb n (length out) c)
+  fits-fit a b c = rw (le-leb n 40 a, le-leb 1640 (length deps) b, le-leb n (length out) c)
 
   pub unfit-many : 40 < n → fits deps n out ≡ false
   unfolding fits
   unfit-many a = rw (lt-leb n 40 a)
 
-  pub unfit-rows : n ≤ 40 → length deps < n * 40 → fits deps n out ≡ false
+  pub unfit-rows : n ≤ 40 → length deps < 1640 → fits deps n out ≡ false
   unfolding fits
-  unfit-rows a b = rw (le-leb n 40 a, lt-leb (n * 40) (length deps) b)
+  unfit-rows a b = rw (le-leb n 40 a, lt-leb 1640 (length deps) b)
 
-  pub unfit-room : n ≤ 40 → n * 40 ≤ length deps → length out < n → fits deps n out ≡ false
+  pub unfit-room : n ≤ 40 → 1640 ≤ length deps → length out < n → fits deps n out ≡ false
   unfolding fits
-  unfit-room a b c = rw (le-leb n 40 a, le-leb (n * 40) (length deps) b, lt-leb n (length out) c)
+  unfit-room a b c = rw (le-leb n 40 a, le-leb 1640 (length deps) b, lt-leb n (length out) c)
 
   pub filled-unfit : fits deps n out ≡ false → Filled deps n out Unfit out
   unfolding answerOf memoryOf
@@ -41,7 +41,7 @@ module _ (deps : List ℕ) (n : ℕ) (out : List ℕ) where
   unfolding answerOf memoryOf
   filled-taken f k filled e m = record { answer = rw (f, e); memory = rw (f, e) m }
 
-  pub filled-fit : n ≤ 40 → n * 40 ≤ length deps → n ≤ length out → (r : Ordered) (filled : List ℕ) → Filled deps n out r filled
+  pub filled-fit : n ≤ 40 → 1640 ≤ length deps → n ≤ length out → (r : Ordered) (filled : List ℕ) → Filled deps n out r filled
       → (r ≡ Taken (length (order (edgeOf deps) n))) × (filled ≡ order (edgeOf deps) n ++ drop (length (order (edgeOf deps) n)) out)
   unfolding answerOf memoryOf
   filled-fit a b c r filled h =

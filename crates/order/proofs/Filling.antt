@@ -1,7 +1,7 @@
 -- The loop of `write_order`: what holds after k turns, and that a turn keeps it.
 --     Filling    k vertices are written and marked done; start, turn and the two ways out, ended and full
 -- Assumes nothing.
-use Prim.Native.Nat.{ℕ, suc, _<_, _≤_, _+_, _-_, _*_}
+use Prim.Native.Nat.{ℕ, suc, _<_, _≤_, _+_, _-_}
 use mathlib.Core.Path.{_≡_, refl, sym, ap, _∙_}
 use mathlib.Core.Bool.{Bool, _||_}
 use mathlib.Core.List.{List, [], _∷_, _++_}
@@ -41,7 +41,7 @@ start deps n out small =
     }
 
 module _ (deps : List ℕ) (n : ℕ) (from out done : List ℕ) (k : ℕ) (g : Filling deps n from out done k)
-    (small : n ≤ 40) (rows : n * 40 ≤ length deps) (room : n ≤ length from) where
+    (small : n ≤ 40) (rows : 1640 ≤ length deps) (room : n ≤ length from) where
   finish : taken (edgeOf deps) n k ≡ order (edgeOf deps) n → Filled deps n from (Taken k) out
   finish e =
       filled-taken deps n from (fits-fit deps n from small rows room) k out (rw e at (g .count)) (rw e at (g .bytes))

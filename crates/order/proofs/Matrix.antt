@@ -3,18 +3,19 @@
 --     marked-set                   the marks once one more is set
 --     zero-marks                   nothing is marked in a list of zeros
 --     edge-true, edge-false        the byte of an edge
+--     edge-passed, edge-linked     whether row v is read at w
 -- Assumes nothing.
 use Rattle.laws.proofs.Zeros.{zeros}
-use Prim.Native.Nat.{ℕ, _<_, _+_, _*_}
+use Prim.Native.Nat.{ℕ, _<_, _≤_, _+_, _*_}
 use mathlib.Core.Path.{_≡_, sym}
-use mathlib.Core.Bool.{true, false, not, _||_, or-true, or-false}
+use mathlib.Core.Bool.{true, false, not, _||_, or-true, or-false, and-true, and-false}
 use mathlib.Core.List.{List}
 use mathlib.Core.Logic.{⊎-elim}
 use lib.ListN.{length, getD, set, replicate}
 use lib.Seq.{getD-set-same, getD-set-other}
 use lib.Dec.{eqb}
-use borrow.Author.Tests.{eq-eqb, ne-eqb, eqb-true, eqb-false}
-use Rattle.order.specs.Matrix.{marked, edgeOf}
+use borrow.Author.Tests.{eq-eqb, ne-eqb, eqb-true, eqb-false, le-leb, lt-leb}
+use Rattle.order.specs.Matrix.{marked, linked, edgeOf}
 use Rattle.laws.proofs.Booleans.{decide}
 
 module _ (bytes : List ℕ) (i : ℕ) where
@@ -27,13 +28,21 @@ module _ (bytes : List ℕ) (i : ℕ) where
   marked-false h = rw (eq-eqb (getD bytes i 0) 0 h)
 
 module _ (deps : List ℕ) (v w : ℕ) where
-  pub edge-true : (getD deps (v * 40 + w) 0 ≡ 0 → ⊥) → edgeOf deps v w ≡ true
-  unfolding edgeOf
-  edge-true h = marked-true deps (v * 40 + w) h
+  pub edge-true : getD deps (v * 40 + w) 0 ≡ 0 → getD deps (1600 + v) 0 ≤ w → edgeOf deps v w ≡ true
+  unfolding edgeOf linked
+  edge-true h l = rw (eq-eqb (getD deps (v * 40 + w) 0) 0 h) (le-leb (getD deps (1600 + v) 0) w l)
 
-  pub edge-false : getD deps (v * 40 + w) 0 ≡ 0 → edgeOf deps v w ≡ false
+  pub edge-false : (getD deps (v * 40 + w) 0 ≡ 0 → ⊥) → edgeOf deps v w ≡ false
+  unfolding edgeOf linked
+  edge-false h = rw (ne-eqb (getD deps (v * 40 + w) 0) 0 h)
+
+  pub edge-passed : w < getD deps (1600 + v) 0 → edgeOf deps v w ≡ false
   unfolding edgeOf
-  edge-false h = marked-false deps (v * 40 + w) h
+  edge-passed l = rw (lt-leb (getD deps (1600 + v) 0) w l) (and-false (linked deps v w))
+
+  pub edge-linked : getD deps (1600 + v) 0 ≤ w → edgeOf deps v w ≡ linked deps v w
+  unfolding edgeOf
+  edge-linked l = rw (le-leb (getD deps (1600 + v) 0) w l) (and-true (linked deps v w))
 
 pub marked-set : (done : List ℕ) (v w : ℕ) → v < length done → marked (set done v 1) w ≡ (marked done w || eqb w v)
 unfolding marked

@@ -1,5 +1,5 @@
 -- What `fill_order` answers, and what the memory lent holds afterwards.
-use Prim.Native.Nat.{ℕ, _*_}
+use Prim.Native.Nat.{ℕ}
 use mathlib.Core.Path.{_≡_}
 use mathlib.Core.Bool.{Bool, cond, _&&_}
 use mathlib.Core.List.{List, _++_}
@@ -10,9 +10,9 @@ use Rattle.order.specs.Matrix.{edgeOf}
 use Rattle.order.specs.declared.Ordered.{Ordered}
 use Rattle.order.specs.declared.Ordered.the-variants.{Taken, Unfit}
 
--- at most 40 vertices, and for each a row of the matrix and a byte of the memory lent
+-- at most 40 vertices, a matrix of 40 rows with where each is read from, and a byte of the memory lent for each vertex
 unfoldable pub fits : List ℕ → ℕ → List ℕ → Bool
-fits deps n out = leb n 40 && leb (n * 40) (length deps) && leb n (length out)
+fits deps n out = leb n 40 && leb 1640 (length deps) && leb n (length out)
 
 -- how many vertices the order has, where they fit
 unfoldable pub answerOf : List ℕ → ℕ → List ℕ → Ordered

@@ -71,6 +71,7 @@ module _ (book : List Scope) (i : ℕ) (from : List ℕ) where
                     λ x y l m.
                     let none : eqb (getD owners n 0) x ≡ false = ne-eqb (getD owners n 0) x (omega arith) in
                     rw none at (g .marks .edges x y l m);
+                whole = g .marks .whole;
               };
         }
 

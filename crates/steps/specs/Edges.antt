@@ -1,11 +1,11 @@
 -- Edges among 40 vertices, marked in the bytes of a matrix: those of the calls between scopes, and those of a scope's steps.
-use Prim.Native.Nat.{ℕ, _+_, _<_}
+use Prim.Native.Nat.{ℕ, _+_, _<_, _≤_}
 use mathlib.Core.Path.{_≡_}
-use mathlib.Core.Bool.{Bool, cond, _&&_, _||_}
+use mathlib.Core.Bool.{Bool, true, cond, _&&_, _||_}
 use mathlib.Core.List.{List}
-use lib.ListN.{length}
+use lib.ListN.{length, getD}
 use lib.Dec.{eqb}
-use Rattle.order.specs.Matrix.{edgeOf}
+use Rattle.order.specs.Matrix.{linked}
 use Rattle.book.specs.Syntax.{Scope}
 use Rattle.book.specs.Scopes.{calls}
 use Rattle.book.specs.declared.Node.{Node}
@@ -37,7 +37,12 @@ ownStep v (node.Default x y z j c) = 40
 unfoldable pub stepWith : ℕ → Clause → ℕ
 stepWith v c = cond (eqb (c .target .sub) 255) (c .target .variable) (v + c .target .sub)
 
--- `to` has the edges that `from` has and those of f, and no others
+-- each row is read from the lowest vertex on whose byte is 0
+pub record Whole (deps : List ℕ) : Type 0 where
+  pub read : (x y : ℕ) → x < 40 → y < 40 → linked deps x y ≡ true → getD deps (1600 + x) 0 ≤ y
+
+-- `to` has the edges that `from` has and those of f, and no others; where all of `from` are read, all of `to` are
 pub record Marked (from to : List ℕ) (f : ℕ → ℕ → Bool) : Type 0 where
   pub long : length to ≡ length from
-  pub edges : (x y : ℕ) → x < 40 → y < 40 → edgeOf to x y ≡ (edgeOf from x y || f x y)
+  pub edges : (x y : ℕ) → x < 40 → y < 40 → linked to x y ≡ (linked from x y || f x y)
+  pub whole : Whole from → Whole to

@@ -10,6 +10,8 @@ use index::sub_scope_at;
 use index::sub_scope_count;
 use index::variable_count;
 use order::Ordered;
+use order::STARTS;
+use order::WIDTH;
 use order::fill_order;
 ghost use mathlib.Core.Path.{_≡_};
 ghost use mathlib.Core.List.{[], _∷_};
@@ -28,12 +30,9 @@ ghost use Rattle.steps.specs.Edges.{oneEdge, callEdges, ownStep, stepWit
 ghost use Rattle.steps.specs.Owners.{Owned, Roots};
 ghost use Rattle.steps.specs.Answers.{Written, StepsFilled};
 
-// The most vertices of a graph, and the bytes of a matrix's row.
-const WIDTH: usize = 40;
-
-// Marks that v depends on w. A number from 40 on is no vertex.
+// Marks that v depends on w, and reads row v from w on where it was read from a higher vertex on. A number from 40 on is no vertex.
 fn mark(deps: &mut [u8], v: usize, w: usize)
-    requires { ⌜ length (now deps) ≡ 1600 ⌝ }
+    requires { ⌜ length (now deps) ≡ 1640 ⌝ }
     ensures { λ _. ⌜ Marked (now (deps .entry)) (now (deps .exit)) (oneEdge v w) ⌝ }
 {
     if WIDTH <= v {
@@ -42,12 +41,15 @@ fn mark(deps: &mut [u8], v: usize, w: usize)
     if WIDTH <= w {
         return;
     }
-    deps[v * WIDTH + w] = 1;
+    deps[v * WIDTH + w] = 0;
+    if w < deps[STARTS + v] as usize {
+        deps[STARTS + v] = w as u8;
+    }
 }
 
 // Marks the scopes that scope i calls.
 fn mark_calls(book: &[u8], index: &[u16], i: usize, deps: &mut [u8])
-    requires { ⌜ Laid (now book) (now index) × (length (now deps) ≡ 1600) ⌝ }
+    requires { ⌜ Laid (now book) (now index) × (length (now deps) ≡ 1640) ⌝ }
     ensures { λ _. ⌜ Marked (now (deps .entry)) (now (deps .exit)) (callEdges (scopesOf (now (book .entry))) i) ⌝ }
 {
     let count = sub_scope_count(book, index, i);
@@ -61,7 +63,7 @@ fn mark_calls(book: &[u8], index: &[u16], i: usize, deps: &mut [u8])
 
 // Marks the calls of every scope.
 fn fill_calls(book: &[u8], index: &[u16], scopes: usize, deps: &mut [u8])
-    requires { ⌜ Laid (now book) (now index) × Scoped (now book) scopes × (length (now deps) ≡ 1600) ⌝ }
+    requires { ⌜ Laid (now book) (now index) × Scoped (now book) scopes × (length (now deps) ≡ 1640) ⌝ }
     ensures { λ _. ⌜ Marked (now (deps .entry)) (now (deps .exit)) (calls (scopesOf (now (book .entry)))) ⌝ }
 {
     let mut i: usize = 0;
@@ -72,8 +74,8 @@ fn fill_calls(book: &[u8], index: &[u16], scopes: usize, deps: &mut [u8])
 }
 
 // The order of n vertices, written from the first byte of `out`; no later byte changes. Answers its length.
-fn write_order(deps: &[u8], n: usize, out: &mut [u8]) -> usize
-    requires { ⌜ (n ≤ 40) × (length (now deps) ≡ 1600) × (n ≤ length (now out)) ⌝ }
+fn write_order(deps: &mut [u8], n: usize, out: &mut [u8]) -> usize
+    requires { ⌜ (n ≤ 40) × (length (now deps) ≡ 1640) × (n ≤ length (now out)) ⌝ }
     ensures { λ r. ⌜ Written (order (edgeOf (now (deps .entry))) n) (now (out .entry)) r (now (out .exit)) ⌝ }
 {
     match fill_order(deps, n, out) {
@@ -88,9 +90,9 @@ pub fn block_order(book: &[u8], index: &[u16], scopes: usize, out: &mut [u8]) ->
     requires { ⌜ Laid (now book) (now index) × Scoped (now book) scopes × (32 ≤ length (now out)) ⌝ }
     ensures { λ r. ⌜ Written (blocks (scopesOf (now (book .entry)))) (now (out .entry)) r (now (out .exit)) ⌝ }
 {
-    let mut deps = [0u8; 1600];
+    let mut deps = [255u8; 1640];
     fill_calls(book, index, scopes, &mut deps);
-    write_order(&deps, scopes, out)
+    write_order(&mut deps, scopes, out)
 }
 
 // The step whose tree, or one of whose override trees, a clause belongs to, in a scope with some number of variables.
@@ -146,7 +148,7 @@ fn own_clauses(book: &[u8], index: &[u16], i: usize, owners: &mut [u8])
 
 // Marks, in a row, what a node itself reads, in a scope with some number of variables, and hands the row on to its operands.
 fn mark_node(variables: usize, node: Node, row: u8, owners: &mut [u8], deps: &mut [u8])
-    requires { ⌜ (variables ≤ 32) × (length (now owners) ≡ 256) × (length (now deps) ≡ 1600) ⌝ }
+    requires { ⌜ (variables ≤ 32) × (length (now owners) ≡ 256) × (length (now deps) ≡ 1640) ⌝ }
     ensures { λ _.
         ⌜ Marked (now (deps .entry)) (now (deps .exit)) (oneEdge row (ownStep variables node)) × Owned (operands node) row (now (owners .entry)) (now (owners .exit)) ⌝ }
 {
@@ -176,7 +178,7 @@ fn mark_node(variables: usize, node: Node, row: u8, owners: &mut [u8], deps: &mu
 
 // Marks what every step of scope i depends on, from the last node to the first: by then each node has the step of what names it.
 fn mark_nodes(book: &[u8], index: &[u16], i: usize, owners: &mut [u8], deps: &mut [u8])
-    requires { ⌜ WellNamed (now book) (now index) × Roots (scopesOf (now book)) i (now owners) × (length (now deps) ≡ 1600) ⌝ }
+    requires { ⌜ WellNamed (now book) (now index) × Roots (scopesOf (now book)) i (now owners) × (length (now deps) ≡ 1640) ⌝ }
     ensures { λ _. ⌜ Marked (now (deps .entry)) (now (deps .exit)) (dependsOn (scopeAt (scopesOf (now (book .entry))) i)) ⌝ }
 {
     let variables = variable_count(book, index, i);
@@ -193,7 +195,7 @@ fn mark_nodes(book: &[u8], index: &[u16], i: usize, owners: &mut [u8], deps: &mu
 
 // Marks what every step of scope i depends on.
 fn fill_reads(book: &[u8], index: &[u16], i: usize, deps: &mut [u8])
-    requires { ⌜ WellNamed (now book) (now index) × (length (now deps) ≡ 1600) ⌝ }
+    requires { ⌜ WellNamed (now book) (now index) × (length (now deps) ≡ 1640) ⌝ }
     ensures { λ _. ⌜ Marked (now (deps .entry)) (now (deps .exit)) (dependsOn (scopeAt (scopesOf (now (book .entry))) i)) ⌝ }
 {
     let mut owners = [255u8; 256];
@@ -215,10 +217,10 @@ fn step_order(book: &[u8], index: &[u16], i: usize, out: &mut [u8]) -> usize
     requires { ⌜ WellNamed (now book) (now index) × (40 ≤ length (now out)) ⌝ }
     ensures { λ r. ⌜ Written (stepOrder (scopeAt (scopesOf (now (book .entry))) i)) (now (out .entry)) r (now (out .exit)) ⌝ }
 {
-    let mut deps = [0u8; 1600];
+    let mut deps = [255u8; 1640];
     fill_reads(book, index, i, &mut deps);
     let steps = step_count(book, index, i);
-    write_order(&deps, steps, out)
+    write_order(&mut deps, steps, out)
 }
 
 // The order of every scope's steps, in a row of 40 bytes for each scope. Answers whether some scope has a dependency cycle.

@@ -9,8 +9,8 @@ use Rattle.order.proofs.fill_order.Tie as tie
 returns : tie.Need-returns
 returns c = filled-unfit _ _ _ (unfit-many _ _ _ (omega arith))
 
-mul-if2 : tie.Need-mul-if2
-mul-if2 c = search needs
+add-if2 : tie.Need-add-if2
+add-if2 c = search needs
 
 returns-2 : tie.Need-returns-2
 returns-2 c = filled-unfit _ _ _ (unfit-rows _ _ _ (omega arith) (omega arith))
@@ -24,10 +24,13 @@ write-order-requires c κs = search needs
 same-length : tie.Need-same-length
 same-length c = search needs
 
+same-length-2 : tie.Need-same-length-2
+same-length-2 c = search needs
+
 returns-4 : tie.Need-returns-4
 returns-4 c = search needs
 
 pub fill-order-spec : {M : Type 1} → statement M
 fill-order-spec =
     tie.close
-    (tie.spec returns mul-if2 returns-2 returns-3 write-order-requires same-length returns-4)
+    (tie.spec returns add-if2 returns-2 returns-3 write-order-requires same-length same-length-2 returns-4)

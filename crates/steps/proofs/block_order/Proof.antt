@@ -23,8 +23,8 @@ same-length c = search needs
 
 returns : tie.Need-returns
 returns c =
-    blocks-written _ _ _ _ _ _ (c .before .before .before .before .before .before .fill-calls .ensures) (omega arith) (omega arith)
-    (c .before .before .write-order .ensures)
+    blocks-written _ _ _ _ _ _ (c .before .before .before .before .before .before .before .fill-calls .ensures) (omega arith) (omega arith)
+    (c .before .before .before .write-order .ensures)
 
 pub block-order-spec : {M : Type 1} → statement M
 block-order-spec =

@@ -29,10 +29,10 @@ same-length c = search needs
 
 returns : tie.Need-returns
 returns c =
-    let few = few-steps _ (c .before .before .before .before .before .before .before .before .before .before .before .before .args .i) (c .before .before .before .before .before .before .before .before .before .before .before .before .pre .0 .laid .within) in
-    let m = c .before .before .before .before .before in
+    let few = few-steps _ (c .before .before .before .before .before .before .before .before .before .before .before .before .before .args .i) (c .before .before .before .before .before .before .before .before .before .before .before .before .before .pre .0 .laid .within) in
+    let m = c .before .before .before .before .before .before in
     steps-written _ _ _ _ _ _ (m .before .before .fill-reads .ensures) (m .step-count .ensures) (omega (arith, m .step-count .ensures))
-    (c .before .before .write-order .ensures)
+    (c .before .before .before .write-order .ensures)
 
 pub step-order-spec : {M : Type 1} → statement M
 step-order-spec =

@@ -18,16 +18,22 @@ enum-told c = search needs
 same-length : tie.Need-same-length
 same-length c = search needs
 
-returns : tie.Need-returns
-returns c =
-    written _ _ _ _ _ (c .before .before .before .before .before .fill-order .ensures) (omega arith) (omega arith) (omega arith) _ (c .before .k .given .1)
-
 same-length-2 : tie.Need-same-length-2
 same-length-2 c = search needs
 
+returns : tie.Need-returns
+returns c =
+    written _ _ _ _ _ (c .before .before .before .before .before .before .before .fill-order .ensures) (omega arith) (omega arith) (omega arith) _ (c .before .k .given .1)
+
+same-length-3 : tie.Need-same-length-3
+same-length-3 c = search needs
+
+same-length-4 : tie.Need-same-length-4
+same-length-4 c = search needs
+
 returns-2 : tie.Need-returns-2
 returns-2 c =
-    not-unfit _ _ _ _ _ (c .before .before .before .before .fill-order .ensures) (omega arith) (omega arith) (omega arith) (c .enum-told .given .1)
+    not-unfit _ _ _ _ _ (c .before .before .before .before .before .before .fill-order .ensures) (omega arith) (omega arith) (omega arith) (c .enum-told .given .1)
 
 pub write-order-spec : {M : Type 1} → statement M
 write-order-spec =
@@ -37,6 +43,8 @@ write-order-spec =
     enum-known-k
     enum-told
     same-length
-    returns
     same-length-2
+    returns
+    same-length-3
+    same-length-4
     returns-2)
