@@ -1,3 +1,4 @@
 mod Gathered
 mod Table
 mod Passes
+mod Clause

@@ -17,7 +17,7 @@ use lib.ListN.{length, set, replicate}
 use borrow.Author.Tests.{not-false}
 use Rattle.book.specs.Syntax.{Scope, noNode}
 use Rattle.book.specs.Limits.{Within}
-use Rattle.book.specs.References.{scopeAt, noClause, nodeNames, clauseNames, danglesIn}
+use Rattle.book.specs.References.{scopeAt, noClause, nodeNames, danglesIn}
 use Rattle.book.specs.Sharing.{operands, clauseNodes, namings}
 use Rattle.book.specs.Typing.{mismatchIn}
 use Rattle.book.specs.Positions.{nodeAt, clauseAt}
@@ -28,12 +28,12 @@ use Rattle.book.proofs.Searches.{Sought, start, turn, found, ended}
 use Rattle.sharing.specs.Marks.{Marking}
 use Rattle.sharing.proofs.Marks.{marked-none, marked-then, marked-length, marked-repeats, passed, passed-start, passed-more, passed-end}
 use Rattle.references.specs.Dangling.{subScopeDangles}
-use Rattle.typing.specs.Types.{clauseSuits}
 use Rattle.checks.specs.declared.Findings.{Findings}
-use Rattle.checks.specs.declared.Step.{Step}
-use Rattle.checks.specs.Findings.{byteOf, typeByte, nodeSuits, leafStep}
+use Rattle.checks.specs.declared.NodeFinding.{NodeFinding}
+use Rattle.checks.specs.declared.ClauseFinding.{ClauseFinding}
+use Rattle.checks.specs.Findings.{byteOf, typeByte, nodeSuits, leafFinding}
 use Rattle.checks.specs.Findings.{onlyDangling, wrongNode, wrongClause, nodeDangles, clauseDangles, nodeNamings, clauseNamings}
-use Rattle.checks.specs.Findings.{sharesIn, misfitNode, misfitClause, nodeMisfits, clauseMisfits, Typed, OfNode, OfNodes, OfClauses, OfScope}
+use Rattle.checks.specs.Findings.{sharesIn, misfitNode, misfitClause, nodeMisfits, clauseMisfits, Typed, OfNode, OfClause, OfNodes, OfClauses, OfScope}
 use Rattle.checks.proofs.Gathered.{Gathered, more, whole}
 use Rattle.checks.proofs.Gathered.{start as none}
 use Rattle.checks.proofs.Table.{Table, filled, told, told-clause}
@@ -47,17 +47,17 @@ only e = ap (λ (f : Findings). f .dangles) e
 
 -- a node that names no node
 pub leaf-told :
-    {book : List Scope} {i n : ℕ} {marks types : List ℕ} {twice : Bool} {r : Step} (x : Node) (names : Bool) (t : ValueType)
-    → r ≡ leafStep names twice t → names ≡ nodeNames book (scopeAt book i) n x → operands x ≡ [] → nodeSuits types x ≡ true
+    {book : List Scope} {i n : ℕ} {marks types : List ℕ} {twice : Bool} {r : NodeFinding} (x : Node) (names : Bool) (t : ValueType)
+    → r ≡ leafFinding names twice t → names ≡ nodeNames book (scopeAt book i) n x → operands x ≡ [] → nodeSuits types x ≡ true
     → byteOf t ≡ typeByte book i types x → OfNode book i n marks types twice x r marks
-unfolding leafStep
+unfolding leafFinding
 leaf-told {twice = twice} {r = r} x names t e en eo es et =
-    let same : r .shares ≡ twice = ap (λ (s : Step). s .shares) e in
+    let same : r .shares ≡ twice = ap (λ (s : NodeFinding). s .shares) e in
     record {
-      named = ap (λ (s : Step). s .names) e ∙ en;
+      named = ap (λ (s : NodeFinding). s .names) e ∙ en;
       shared = rw (eo, same) marked-none;
-      fitting = ap (λ (s : Step). s .suits) e ∙ sym es;
-      typed = ap (λ (s : Step). s .byte) e ∙ et;
+      fitting = ap (λ (s : NodeFinding). s .suits) e ∙ sym es;
+      typed = ap (λ (s : NodeFinding). s .byte) e ∙ et;
     }
 
 pub record Nodes (book : List Scope) (i : ℕ) (from : List ℕ) (marks types : List ℕ) (shares mismatches : Bool) (n : ℕ) : Type 0 where
@@ -87,7 +87,7 @@ module _
         omega arith
 
     module _
-        {x : Node} {r : Step} {after : List ℕ} (ex : x ≡ nodeAt book i n) (step : OfNode book i n marks types shares x r after) where
+        {x : Node} {r : NodeFinding} {after : List ℕ} (ex : x ≡ nodeAt book i n) (step : OfNode book i n marks types shares x r after) where
       wrong : wrongNode book i n (nodeAt book i n) ≡ not (r .names)
       wrong = rw (step .named, ex)
 
@@ -140,13 +140,19 @@ clauses-start book i marks twice misfit = record { names = start _ _; marked = p
 module _
     {book : List Scope} {i : ℕ} {from : List ℕ} {twice misfit : Bool} {marks : List ℕ} {shares mismatches : Bool} {n : ℕ}
     (g : Clauses book i from twice misfit marks shares mismatches n) where
-  module _
-      (within : n < length (scopeAt book i .clauses)) (x : Clause) (ex : x ≡ clauseAt book i n)
-      (names : Bool) (en : names ≡ clauseNames book (scopeAt book i) n x) where
-    wrong-clause : wrongClause book i n (clauseAt book i n) ≡ not names
-    wrong-clause = rw (en, ex)
+  pub clause-marks : length marks ≡ length from
+  clause-marks = marked-length (g .marked)
 
-    pub clause-dangles : not names ≡ true → {first r : Findings} → r ≡ onlyDangling → OfClauses book i from first r marks
+  module _
+      (within : n < length (scopeAt book i .clauses)) {x : Clause} {r : ClauseFinding} {after types : List ℕ} (ex : x ≡ clauseAt book i n)
+      (of : OfClause book i n marks types shares x r after) where
+    wrong-clause : wrongClause book i n (clauseAt book i n) ≡ not (r .names)
+    wrong-clause = rw (of .named, ex)
+
+    pub clause-length : length after ≡ length from
+    clause-length = marked-length (of .shared) ∙ clause-marks
+
+    pub clause-dangles : not (r .names) ≡ true → {first f : Findings} → f ≡ onlyDangling → OfClauses book i from first f after
     unfolding clauseDangles clauseAt
     clause-dangles e er =
         record {
@@ -155,16 +161,14 @@ module _
           mismatched = λ q. absurd (never er q);
         }
 
-    pub clause-turn :
-        not names ≡ false → {met : Bool} {after types : List ℕ} → Marking (clauseNodes x) marks shares met after
-        → Typed book i types → (suits : Bool) → suits ≡ clauseSuits book i types x
-        → Clauses book i from twice misfit after met (mismatches || not suits) (n + 1)
+    pub clause-turn : not (r .names) ≡ false → Typed book i types
+        → Clauses book i from twice misfit after (r .shares) (mismatches || not (r .suits)) (n + 1)
     unfolding clauseAt
-    clause-turn e m t suits es =
+    clause-turn e t =
         record {
           names = turn _ _ _ (g .names) noClause within (wrong-clause ∙ e);
-          marked = passed-more _ _ _ (g .marked) noClause within (rw ex at m);
-          gathered = more _ _ _ _ _ (g .gathered) noClause within _ (told-clause _ _ _ t x ex suits es);
+          marked = passed-more _ _ _ (g .marked) noClause within (rw ex at (of .shared));
+          gathered = more _ _ _ _ _ (g .gathered) noClause within _ (told-clause _ _ _ t x ex (r .suits) (of .fitting));
         }
 
   pub clauses-end : length (scopeAt book i .clauses) ≤ n → (first : Findings) → twice ≡ first .shares → misfit ≡ first .mismatches

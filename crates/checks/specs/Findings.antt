@@ -2,20 +2,24 @@
 use Prim.Native.Nat.{ℕ}
 use mathlib.Core.Path.{_≡_}
 use mathlib.Core.Bool.{Bool, true, false, not, _||_}
-use mathlib.Core.List.{List}
+use mathlib.Core.List.{List, []}
+use lib.Dec.{eqb, ltb}
 use Rattle.book.specs.Lists.{any, anyFrom}
-use Rattle.book.specs.Syntax.{Scope}
-use Rattle.book.specs.References.{scopeAt, nodeNames, clauseNames, danglesIn, dangles}
-use Rattle.book.specs.Sharing.{operands, clauseNodes, gathered, namings, repeats, shares}
-use Rattle.book.specs.Typing.{nodeType, typeOfNode, nodeFits, clauseFits, mismatchIn, mismatches}
+use Rattle.book.specs.Syntax.{Scope, sameType}
+use Rattle.book.specs.References.{scopeAt, namesException, nodeNames, clauseNames, danglesIn, dangles}
+use Rattle.book.specs.Sharing.{unless255, operands, consequenceNode, clauseNodes, gathered, namings, repeats, shares}
+use Rattle.book.specs.Typing.{nodeType, typeOfNode, nodeFits, consequenceType, clauseFits, mismatchIn, mismatches}
 use Rattle.book.specs.declared.ValueType.{ValueType}
 use Rattle.book.specs.declared.ValueType.the-variants.{YesNo, Numeric}
 use Rattle.book.specs.declared.Node.{Node}
 use Rattle.book.specs.declared.Node.the-variants as node
 use Rattle.book.specs.declared.Clause.{Clause}
+use Rattle.book.specs.declared.Consequence.{Consequence}
+use Rattle.book.specs.declared.Consequence.the-variants.{Of, Fixed}
 use Rattle.sharing.specs.Marks.{Marking}
-use Rattle.typing.specs.Types.{typeIn}
-use Rattle.checks.specs.declared.Step.{Step}
+use Rattle.typing.specs.Types.{typeIn, clauseSuits}
+use Rattle.checks.specs.declared.NodeFinding.{NodeFinding}
+use Rattle.checks.specs.declared.ClauseFinding.{ClauseFinding}
 use Rattle.checks.specs.declared.Findings.{Findings}
 use Rattle.calculus.specs.declared.Unary.{Unary}
 use Rattle.calculus.specs.declared.Binary.{Binary}
@@ -34,31 +38,54 @@ unfoldable pub nodeSuits : List ℕ → Node → Bool
 nodeSuits types x = nodeFits (typeIn types) x
 
 -- of node n of scope i, with the marks and the table of those below it: what it names is marked
-pub record OfNode (book : List Scope) (i n : ℕ) (marks types : List ℕ) (twice : Bool) (x : Node) (r : Step) (after : List ℕ) : Type 0 where
+pub record OfNode (book : List Scope) (i n : ℕ) (marks types : List ℕ) (twice : Bool) (x : Node) (r : NodeFinding) (after : List ℕ) : Type 0 where
   pub named : r .names ≡ nodeNames book (scopeAt book i) n x
   pub shared : Marking (operands x) marks twice (r .shares) after
   pub fitting : r .suits ≡ nodeSuits types x
   pub typed : r .byte ≡ typeByte book i types x
 
 -- of a node that names nodes, whatever the scope
-pub record OfOperands (n : ℕ) (marks types : List ℕ) (twice : Bool) (x : Node) (r : Step) (after : List ℕ) : Type 0 where
+pub record OfOperands (n : ℕ) (marks types : List ℕ) (twice : Bool) (x : Node) (r : NodeFinding) (after : List ℕ) : Type 0 where
   pub told : (book : List Scope) (i : ℕ) → OfNode book i n marks types twice x r after
 
-abbrev pub OfUnary : ℕ → List ℕ → List ℕ → Bool → Unary → ℕ → Step → List ℕ → Type 0
+abbrev pub OfUnary : ℕ → List ℕ → List ℕ → Bool → Unary → ℕ → NodeFinding → List ℕ → Type 0
 OfUnary n marks types twice op a = OfOperands n marks types twice (node.Unary op a)
 
-abbrev pub OfBinary : ℕ → List ℕ → List ℕ → Bool → Binary → ℕ → ℕ → Step → List ℕ → Type 0
+abbrev pub OfBinary : ℕ → List ℕ → List ℕ → Bool → Binary → ℕ → ℕ → NodeFinding → List ℕ → Type 0
 OfBinary n marks types twice op a b = OfOperands n marks types twice (node.Binary op a b)
 
-abbrev pub OfChoice : ℕ → List ℕ → List ℕ → Bool → ℕ → ℕ → ℕ → Step → List ℕ → Type 0
+abbrev pub OfChoice : ℕ → List ℕ → List ℕ → Bool → ℕ → ℕ → ℕ → NodeFinding → List ℕ → Type 0
 OfChoice n marks types twice c a b = OfOperands n marks types twice (node.Choice c a b)
 
-abbrev pub OfDefault : ℕ → List ℕ → List ℕ → Bool → ℕ → ℕ → ℕ → ℕ → ℕ → Step → List ℕ → Type 0
+abbrev pub OfDefault : ℕ → List ℕ → List ℕ → Bool → ℕ → ℕ → ℕ → ℕ → ℕ → NodeFinding → List ℕ → Type 0
 OfDefault n marks types twice x y z j c = OfOperands n marks types twice (node.Default x y z j c)
 
 -- of a node that names none
-unfoldable pub leafStep : Bool → Bool → ValueType → Step
-leafStep names twice t = record { names = names; shares = twice; suits = true; byte = byteOf t }
+unfoldable pub leafFinding : Bool → Bool → ValueType → NodeFinding
+leafFinding names twice t = record { names = names; shares = twice; suits = true; byte = byteOf t }
+
+-- a consequence of a scope of so many nodes names one of them, or none
+unfoldable pub consequenceNames : ℕ → Consequence → Bool
+consequenceNames nodes (Of n) = ltb n nodes
+consequenceNames nodes (Fixed b) = true
+
+-- of a clause's condition, in a scope of so many nodes: what it names is marked
+pub record OfCondition (nodes : ℕ) (marks types : List ℕ) (twice : Bool) (e : ℕ) (r : ClauseFinding) (after : List ℕ) : Type 0 where
+  pub named : r .names ≡ namesException nodes e
+  pub shared : Marking (unless255 e []) marks twice (r .shares) after
+  pub fitting : r .suits ≡ (eqb e 255 || sameType (typeIn types e) YesNo)
+
+-- of a clause's consequence, the target's type being t
+pub record OfConsequence (nodes : ℕ) (marks types : List ℕ) (twice : Bool) (t : ValueType) (q : Consequence) (r : ClauseFinding) (after : List ℕ) : Type 0 where
+  pub named : r .names ≡ consequenceNames nodes q
+  pub shared : Marking (consequenceNode q) marks twice (r .shares) after
+  pub fitting : r .suits ≡ sameType (consequenceType (typeIn types) q) t
+
+-- of clause n of scope i
+pub record OfClause (book : List Scope) (i n : ℕ) (marks types : List ℕ) (twice : Bool) (c : Clause) (r : ClauseFinding) (after : List ℕ) : Type 0 where
+  pub named : r .names ≡ clauseNames book (scopeAt book i) n c
+  pub shared : Marking (clauseNodes c) marks twice (r .shares) after
+  pub fitting : r .suits ≡ clauseSuits book i types c
 
 -- what is found once something dangles
 abbrev pub onlyDangling : Findings

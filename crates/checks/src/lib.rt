@@ -1,4 +1,6 @@
 // Faults 6, 7 and 8 of a book in one pass: for each scope one loop over its nodes and one over its clauses.
+use book::Clause;
+use book::Consequence;
 use book::Node;
 use book::ValueType;
 use calculus::Binary;
@@ -7,21 +9,22 @@ use index::clause_at;
 use index::clause_count;
 use index::node_at;
 use index::node_count;
+use index::sub_scope_count;
 use index::variable_count;
 use references::below;
 use references::both_below;
-use references::clause_names;
 use references::default_names;
 use references::names_called;
+use references::names_parent;
+use references::none_or_below;
 use references::sub_scope_dangles;
+use references::target_scope;
 use sharing::mark;
-use sharing::mark_clause;
 use sharing::mark_unless;
 use types::operand_type;
 use types::same_type;
 use types::unary_type;
 use typing::called_type;
-use typing::clause_suits;
 use typing::named_fits;
 use typing::own_type;
 use typing::type_in;
@@ -30,8 +33,8 @@ ghost use lib.ListN.{length, replicate};
 ghost use Rattle.book.specs.Decode.{scopesOf};
 ghost use Rattle.index.specs.Index.{Laid};
 ghost use Rattle.book.specs.Typing.{binaryType};
-ghost use Rattle.checks.specs.Findings.{byteOf, leafStep, OfNode, OfUnary, OfBinary, OfChoice, OfDefault};
-ghost use Rattle.checks.specs.Findings.{onlyDangling, Typed, OfNodes, OfClauses, OfScope, OfBook};
+ghost use Rattle.checks.specs.Findings.{byteOf, leafFinding, OfNode, OfUnary, OfBinary, OfChoice, OfDefault};
+ghost use Rattle.checks.specs.Findings.{OfCondition, OfConsequence, OfClause, onlyDangling, Typed, OfNodes, OfClauses, OfScope, OfBook};
 
 // What is found: whether something dangles; where nothing does, whether a node is named more than once, and whether a type does not fit.
 pub struct Findings {
@@ -42,11 +45,18 @@ pub struct Findings {
 
 // What is found of one node: whether it names only what it may; whether a node was named twice, so far or by it; whether its operands
 // have the types that it takes; and its type as a byte.
-struct Step {
+struct NodeFinding {
     names: bool,
     shares: bool,
     suits: bool,
     byte: u8,
+}
+
+// What is found of one clause, or of its condition or its consequence: as of a node, without a type.
+struct ClauseFinding {
+    names: bool,
+    shares: bool,
+    suits: bool,
 }
 
 // A type as a byte.
@@ -73,11 +83,11 @@ fn binary_type(op: Binary) -> ValueType
 }
 
 // A node that names no node.
-fn check_leaf(names: bool, twice: bool, t: ValueType) -> Step
-    ensures { λ r. ⌜ r ≡ leafStep names twice t ⌝ }
+fn check_leaf(names: bool, twice: bool, t: ValueType) -> NodeFinding
+    ensures { λ r. ⌜ r ≡ leafFinding names twice t ⌝ }
 {
     let byte = byte_of(t);
-    Step {
+    NodeFinding {
         names,
         shares: twice,
         suits: true,
@@ -86,7 +96,14 @@ fn check_leaf(names: bool, twice: bool, t: ValueType) -> Step
 }
 
 // Node n, a unary operator's.
-fn check_unary(n: usize, marks: &mut [u8], types: &[u8], twice: bool, op: Unary, a: u8) -> Step
+fn check_unary(
+    n: usize,
+    marks: &mut [u8],
+    types: &[u8],
+    twice: bool,
+    op: Unary,
+    a: u8,
+) -> NodeFinding
     ensures { λ r. ⌜ OfUnary n (now (marks .entry)) (now (types .entry)) twice op a r (now (marks .exit)) ⌝ }
 {
     let t = unary_type(op);
@@ -94,7 +111,7 @@ fn check_unary(n: usize, marks: &mut [u8], types: &[u8], twice: bool, op: Unary,
     let byte = byte_of(t);
     let names = below(n, a);
     let shares = mark(marks, twice, a);
-    Step {
+    NodeFinding {
         names,
         shares,
         suits,
@@ -111,7 +128,7 @@ fn check_binary(
     op: Binary,
     a: u8,
     b: u8,
-) -> Step
+) -> NodeFinding
     ensures { λ r. ⌜ OfBinary n (now (marks .entry)) (now (types .entry)) twice op a b r (now (marks .exit)) ⌝ }
 {
     let left = type_in(types, a);
@@ -121,7 +138,7 @@ fn check_binary(
     let names = both_below(n, a, b);
     let first = mark(marks, twice, a);
     let shares = mark(marks, first, b);
-    Step {
+    NodeFinding {
         names,
         shares,
         suits,
@@ -130,7 +147,15 @@ fn check_binary(
 }
 
 // Node n, an if of condition c and branches a and b.
-fn check_choice(n: usize, marks: &mut [u8], types: &[u8], twice: bool, c: u8, a: u8, b: u8) -> Step
+fn check_choice(
+    n: usize,
+    marks: &mut [u8],
+    types: &[u8],
+    twice: bool,
+    c: u8,
+    a: u8,
+    b: u8,
+) -> NodeFinding
     ensures { λ r. ⌜ OfChoice n (now (marks .entry)) (now (types .entry)) twice c a b r (now (marks .exit)) ⌝ }
 {
     let t = type_in(types, a);
@@ -140,7 +165,7 @@ fn check_choice(n: usize, marks: &mut [u8], types: &[u8], twice: bool, c: u8, a:
     let first = mark(marks, twice, c);
     let second = mark(marks, first, a);
     let shares = mark(marks, second, b);
-    Step {
+    NodeFinding {
         names,
         shares,
         suits,
@@ -159,7 +184,7 @@ fn check_default(
     z: u8,
     j: u8,
     c: u8,
-) -> Step
+) -> NodeFinding
     ensures { λ r. ⌜ OfDefault n (now (marks .entry)) (now (types .entry)) twice x y z j c r (now (marks .exit)) ⌝ }
 {
     let t = type_in(types, c);
@@ -173,7 +198,7 @@ fn check_default(
     let third = mark_unless(marks, second, z);
     let fourth = mark(marks, third, j);
     let shares = mark(marks, fourth, c);
-    Step {
+    NodeFinding {
         names,
         shares,
         suits,
@@ -191,7 +216,7 @@ fn check_node(
     marks: &mut [u8],
     types: &[u8],
     twice: bool,
-) -> Step
+) -> NodeFinding
     requires { ⌜ Laid (now book) (now index) ⌝ }
     ensures { λ r.
         ⌜ OfNode (scopesOf (now (book .entry))) i n (now (marks .entry)) (now (types .entry)) twice node r (now (marks .exit)) ⌝ }
@@ -213,6 +238,102 @@ fn check_node(
         Node::Binary(op, a, b) => check_binary(n, marks, types, twice, op, a, b),
         Node::Choice(c, a, b) => check_choice(n, marks, types, twice, c, a, b),
         Node::Default(x, y, z, j, c) => check_default(n, marks, types, twice, x, y, z, j, c),
+    }
+}
+
+// A clause's condition in a scope of so many nodes: 255, always, or a yes/no node.
+fn check_condition(
+    nodes: usize,
+    marks: &mut [u8],
+    types: &[u8],
+    twice: bool,
+    condition: u8,
+) -> ClauseFinding
+    ensures { λ r. ⌜ OfCondition nodes (now (marks .entry)) (now (types .entry)) twice condition r (now (marks .exit)) ⌝ }
+{
+    if condition == 255 {
+        return ClauseFinding {
+            names: true,
+            shares: twice,
+            suits: true,
+        };
+    }
+    let names = below(nodes, condition);
+    let suits = same_type(type_in(types, condition), ValueType::YesNo);
+    let shares = mark(marks, twice, condition);
+    ClauseFinding {
+        names,
+        shares,
+        suits,
+    }
+}
+
+// A clause's consequence in a scope of so many nodes: of the type that the clause's target has.
+fn check_consequence(
+    nodes: usize,
+    marks: &mut [u8],
+    types: &[u8],
+    twice: bool,
+    wanted: ValueType,
+    consequence: Consequence,
+) -> ClauseFinding
+    ensures { λ r. ⌜ OfConsequence nodes (now (marks .entry)) (now (types .entry)) twice wanted consequence r (now (marks .exit)) ⌝ }
+{
+    match consequence {
+        Consequence::Of(n) => {
+            let names = below(nodes, n);
+            let suits = same_type(type_in(types, n), wanted);
+            let shares = mark(marks, twice, n);
+            ClauseFinding {
+                names,
+                shares,
+                suits,
+            }
+        }
+        Consequence::Fixed(_) => {
+            let suits = same_type(ValueType::YesNo, wanted);
+            ClauseFinding {
+                names: true,
+                shares: twice,
+                suits,
+            }
+        }
+    }
+}
+
+// Clause n of scope i: what it names is marked.
+fn check_clause(
+    book: &[u8],
+    index: &[u16],
+    i: usize,
+    n: usize,
+    clause: Clause,
+    marks: &mut [u8],
+    types: &[u8],
+    twice: bool,
+) -> ClauseFinding
+    requires { ⌜ Laid (now book) (now index) ⌝ }
+    ensures { λ r.
+        ⌜ OfClause (scopesOf (now (book .entry))) i n (now (marks .entry)) (now (types .entry)) twice clause r (now (marks .exit)) ⌝ }
+{
+    let target = clause.target;
+    let parent = clause.parent;
+    let condition = clause.condition;
+    let consequence = clause.consequence;
+    let sub = target.sub;
+    let variable = target.variable;
+    let owner = target_scope(book, index, i, sub);
+    let there = none_or_below(sub_scope_count(book, index, i), sub)
+        & below(variable_count(book, index, owner), variable);
+    let wanted = own_type(book, index, owner, variable);
+    let follows = names_parent(book, index, i, n, parent, target);
+    let nodes = node_count(book, index, i);
+    let first = check_condition(nodes, marks, types, twice, condition);
+    let second = check_consequence(nodes, marks, types, first.shares, wanted, consequence);
+    ClauseFinding {
+        names: there & (follows & (first.names & second.names)),
+        shares: second.shares,
+        suits: first.suits & second.suits,
     }
 }
 
@@ -240,13 +361,13 @@ fn check_nodes(book: &[u8], index: &[u16], i: usize, marks: &mut [u8], types: &m
     let mut n = 0;
     while n < count {
         let node = node_at(book, index, i, n);
-        let step = check_node(book, index, i, n, node, marks, types, shares);
-        if !step.names {
+        let of_node = check_node(book, index, i, n, node, marks, types, shares);
+        if !of_node.names {
             return dangling();
         }
-        shares = step.shares;
-        mismatches = mismatches | !step.suits;
-        types[n] = step.byte;
+        shares = of_node.shares;
+        mismatches = mismatches | !of_node.suits;
+        types[n] = of_node.byte;
         n += 1;
     }
     Findings {
@@ -274,11 +395,12 @@ fn check_clauses(
     let mut n = 0;
     while n < count {
         let clause = clause_at(book, index, i, n);
-        if !clause_names(book, index, i, n, clause) {
+        let of_clause = check_clause(book, index, i, n, clause, marks, types, shares);
+        if !of_clause.names {
             return dangling();
         }
-        shares = mark_clause(marks, shares, clause);
-        mismatches = mismatches | !clause_suits(book, index, i, types, clause);
+        shares = of_clause.shares;
+        mismatches = mismatches | !of_clause.suits;
         n += 1;
     }
     Findings {

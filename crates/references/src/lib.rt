@@ -1,9 +1,6 @@
-// Fault 6, a number that names nothing or what it may not: numbers by themselves, one clause, and a scope's sub-scopes.
-use book::Clause;
-use book::Consequence;
+// Fault 6, a number that names nothing or what it may not: numbers by themselves, a clause's target and parent, and a scope's sub-scopes.
 use book::Target;
 use index::clause_at;
-use index::node_count;
 use index::sub_scope_at;
 use index::sub_scope_count;
 use index::variable_count;
@@ -12,9 +9,9 @@ ghost use lib.ListN.{length};
 ghost use lib.Dec.{ltb};
 ghost use Rattle.book.specs.Syntax.{sameTarget};
 ghost use Rattle.book.specs.Decode.{scopesOf};
-ghost use Rattle.book.specs.References.{scopeAt, namesCalled, namesException, namesTarget, clauseNames};
+ghost use Rattle.book.specs.References.{scopeAt, namesCalled, namesException};
 ghost use Rattle.index.specs.Index.{Laid};
-ghost use Rattle.references.specs.Dangling.{bothBelow, defaultNames, parentNames, consequenceNames, subScopeDangles};
+ghost use Rattle.references.specs.Dangling.{bothBelow, defaultNames, targetScope, parentNames, subScopeDangles};
 
 // Whether a number is below n.
 pub fn below(n: usize, a: u8) -> bool
@@ -43,8 +40,8 @@ pub fn names_called(book: &[u8], index: &[u16], i: usize, k: u8, v: u8) -> bool
     }
 }
 
-// Whether a number is none or always, 255, or below n.
-fn none_or_below(n: usize, e: u8) -> bool
+// Whether a number is none, always or own, 255, or below n.
+pub fn none_or_below(n: usize, e: u8) -> bool
     ensures { λ r. ⌜ r ≡ namesException n e ⌝ }
 {
     if e == 255 { true } else { below(n, e) }
@@ -64,22 +61,20 @@ fn same_target(a: Target, b: Target) -> bool
     (a.sub == b.sub) & (a.variable == b.variable)
 }
 
-// Whether a target is a variable of scope i or of one of its sub-scopes.
-fn names_target(book: &[u8], index: &[u16], i: usize, target: Target) -> bool
+// The scope to which a target's variable belongs, by the target's sub-scope: scope i itself, or the scope that the sub-scope names.
+pub fn target_scope(book: &[u8], index: &[u16], i: usize, sub: u8) -> usize
     requires { ⌜ Laid (now book) (now index) ⌝ }
-    ensures { λ r. ⌜ r ≡ namesTarget (scopesOf (now (book .entry))) (scopeAt (scopesOf (now (book .entry))) i) target ⌝ }
+    ensures { λ r. ⌜ r ≡ targetScope (scopesOf (now (book .entry))) i sub ⌝ }
 {
-    let sub = target.sub;
-    let variable = target.variable;
     if sub == 255 {
-        below(variable_count(book, index, i), variable)
+        i
     } else {
-        names_called(book, index, i, sub, variable)
+        sub_scope_at(book, index, i, sub as usize)
     }
 }
 
 // Whether clause n of scope i, of a target, has no parent, or parent p of lower number with the same target.
-fn names_parent(book: &[u8], index: &[u16], i: usize, n: usize, p: u8, target: Target) -> bool
+pub fn names_parent(book: &[u8], index: &[u16], i: usize, n: usize, p: u8, target: Target) -> bool
     requires { ⌜ Laid (now book) (now index) ⌝ }
     ensures { λ r. ⌜ r ≡ parentNames (scopesOf (now (book .entry))) i n p target ⌝ }
 {
@@ -89,30 +84,6 @@ fn names_parent(book: &[u8], index: &[u16], i: usize, n: usize, p: u8, target: T
     let parent = clause_at(book, index, i, p as usize);
     let other = parent.target;
     below(n, p) & same_target(other, target)
-}
-
-// Whether a consequence is one of so many nodes, or a rule's.
-fn names_consequence(nodes: usize, consequence: Consequence) -> bool
-    ensures { λ r. ⌜ r ≡ consequenceNames nodes consequence ⌝ }
-{
-    match consequence {
-        Consequence::Of(n) => below(nodes, n),
-        Consequence::Fixed(_) => true,
-    }
-}
-
-// Whether clause n of scope i names only what it may.
-pub fn clause_names(book: &[u8], index: &[u16], i: usize, n: usize, clause: Clause) -> bool
-    requires { ⌜ Laid (now book) (now index) ⌝ }
-    ensures { λ r. ⌜ r ≡ clauseNames (scopesOf (now (book .entry))) (scopeAt (scopesOf (now (book .entry))) i) n clause ⌝ }
-{
-    let target = clause.target;
-    let p = clause.parent;
-    let condition = clause.condition;
-    let consequence = clause.consequence;
-    let nodes = node_count(book, index, i);
-    let within = none_or_below(nodes, condition) & names_consequence(nodes, consequence);
-    names_target(book, index, i, target) & (names_parent(book, index, i, n, p, target) & within)
 }
 
 // Whether some sub-scope of scope i names no scope.

@@ -1,8 +1,6 @@
 // Fault 7, a node that is named more than once: marks for the numbers that are named.
-use book::Clause;
-use book::Consequence;
 ghost use mathlib.Core.List.{[], _∷_};
-ghost use Rattle.book.specs.Sharing.{unless255, clauseNodes};
+ghost use Rattle.book.specs.Sharing.{unless255};
 ghost use Rattle.sharing.specs.Marks.{Marking};
 
 // Marks a number, and says whether a number was met twice: so far, or by this one.
@@ -26,18 +24,5 @@ pub fn mark_unless(marks: &mut [u8], twice: bool, w: u8) -> bool
         twice
     } else {
         mark(marks, twice, w)
-    }
-}
-
-// Marks the nodes that a clause names.
-pub fn mark_clause(marks: &mut [u8], twice: bool, clause: Clause) -> bool
-    ensures { λ r. ⌜ Marking (clauseNodes clause) (now (marks .entry)) twice r (now (marks .exit)) ⌝ }
-{
-    let condition = clause.condition;
-    let first = mark_unless(marks, twice, condition);
-    let consequence = clause.consequence;
-    match consequence {
-        Consequence::Of(n) => mark(marks, first, n),
-        Consequence::Fixed(_) => first,
     }
 }

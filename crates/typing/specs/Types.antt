@@ -6,11 +6,9 @@ use lib.ListN.{getD}
 use lib.Dec.{eqb}
 use Rattle.book.specs.Syntax.{Scope}
 use Rattle.book.specs.References.{scopeAt}
-use Rattle.book.specs.Typing.{typeAt, calledTypeAt, targetType, exceptionFits, consequenceType, clauseFits}
+use Rattle.book.specs.Typing.{typeAt, calledTypeAt, exceptionFits, clauseFits}
 use Rattle.book.specs.declared.ValueType.{ValueType}
 use Rattle.book.specs.declared.ValueType.the-variants.{YesNo, Numeric}
-use Rattle.book.specs.declared.Consequence.{Consequence}
-use Rattle.book.specs.declared.Target.{Target}
 use Rattle.book.specs.declared.Clause.{Clause}
 
 -- the type that a table has for node n; yes/no for a node that it does not have
@@ -25,17 +23,9 @@ ownType book i v = typeAt (scopeAt book i) v
 unfoldable pub calledType : List Scope → ℕ → ℕ → ℕ → ValueType
 calledType book i k v = calledTypeAt book (scopeAt book i) k v
 
--- the type of a target of scope i
-unfoldable pub typeOfTarget : List Scope → ℕ → Target → ValueType
-typeOfTarget book i t = targetType book (scopeAt book i) t
-
 -- "255: none", or a node of this type
 unfoldable pub namedFits : List ℕ → ValueType → ℕ → Bool
 namedFits types t n = exceptionFits (typeIn types) t n
-
--- the type of a clause's consequence
-unfoldable pub typeOfConsequence : List ℕ → Consequence → ValueType
-typeOfConsequence types q = consequenceType (typeIn types) q
 
 -- a clause of scope i has a yes/no condition and a consequence of its target's type
 unfoldable pub clauseSuits : List Scope → ℕ → List ℕ → Clause → Bool
