@@ -20,7 +20,7 @@ use Rattle.book.specs.References.{dangles}
 use Rattle.book.specs.Sharing.{shares}
 use Rattle.book.specs.Typing.{mismatches}
 use Rattle.book.specs.Mixing.{mixes}
-use Rattle.book.specs.Scopes.{scopeCycle, overweight}
+use Rattle.book.specs.Scopes.{scopeCycle, weightExceeded}
 use Rattle.book.specs.Steps.{dependencyCycle}
 use Rattle.book.specs.Judge.{InBook, scan, wholeBook, afterRecords, judge}
 use Rattle.answers.specs.declared.Fault.{Fault}
@@ -59,7 +59,7 @@ accepted-all bytes n e =
     let f = passed (mismatches (scopesOf bytes)) TypeMismatch _ n (d .1) in
     let g = passed (mixes (scopesOf bytes)) MixedClauses _ n (f .1) in
     let h = passed (scopeCycle (scopesOf bytes)) ScopeCycle _ n (g .1) in
-    let i = passed (overweight (scopesOf bytes)) WeightExceeded _ n (h .1) in
+    let i = passed (weightExceeded (scopesOf bytes)) WeightExceeded _ n (h .1) in
     let j = passed (dependencyCycle (scopesOf bytes)) DependencyCycle _ n (i .1) in (
       record {
         short = a .0;
@@ -132,7 +132,7 @@ free-faultless bytes free =
       typed = fails (mismatches (scopesOf bytes)) (free TypeMismatch);
       unmixed = fails (mixes (scopesOf bytes)) (free MixedClauses);
       callable = no-scope-cycle (scopesOf bytes) .1 (free ScopeCycle);
-      light = fails (overweight (scopesOf bytes)) (free WeightExceeded);
+      light = fails (weightExceeded (scopesOf bytes)) (free WeightExceeded);
       doable = no-dependency-cycle (scopesOf bytes) .1 (free DependencyCycle);
     }
 

@@ -23,7 +23,7 @@ use Rattle.book.specs.References.{dangles}
 use Rattle.book.specs.Sharing.{shares}
 use Rattle.book.specs.Typing.{mismatches}
 use Rattle.book.specs.Mixing.{mixes}
-use Rattle.book.specs.Scopes.{scopeCycle, overweight}
+use Rattle.book.specs.Scopes.{scopeCycle, weightExceeded}
 use Rattle.book.specs.Steps.{dependencyCycle}
 use Rattle.book.specs.Judge.{InBook, scan, wholeBook, afterRecords, judge}
 use Rattle.answers.specs.Numbers.{faultNumber}
@@ -71,7 +71,7 @@ module _ (bytes : List ℕ) where
         stage (mismatches book) TypeMismatch _ (omega arith) (λ t. t) (test (mismatches book)) free e (λ free e.
         stage (mixes book) MixedClauses _ (omega arith) (λ t. t) (test (mixes book)) free e (λ free e.
         stage (scopeCycle book) ScopeCycle _ (omega arith) (scope-cycle book .0) (no-scope-cycle book .0) free e (λ free e.
-        stage (overweight book) WeightExceeded _ (omega arith) (λ t. t) (test (overweight book)) free e (λ free e.
+        stage (weightExceeded book) WeightExceeded _ (omega arith) (λ t. t) (test (weightExceeded book)) free e (λ free e.
         stage (dependencyCycle book) DependencyCycle _ (omega arith) (dependency-cycle book .0) (no-dependency-cycle book .0) free e (λ free e.
         absurd (false≢true (ap isRefused e)))))))))
 

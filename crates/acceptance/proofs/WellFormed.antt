@@ -21,7 +21,7 @@ use Rattle.book.specs.References.{scopeAt, danglesIn, dangles}
 use Rattle.book.specs.Sharing.{namings, repeats, shares}
 use Rattle.book.specs.Typing.{typeOfNode, nodeFits, clauseFits, mismatchIn, mismatches}
 use Rattle.book.specs.Mixing.{mixedPair, mixedIn, mixes}
-use Rattle.book.specs.Scopes.{weight, overweight}
+use Rattle.book.specs.Scopes.{weight, weightExceeded}
 use Rattle.book.specs.declared.Node.{Node}
 use Rattle.book.specs.declared.Clause.{Clause}
 use Rattle.acceptance.specs.Verdicts.{Faultless}
@@ -67,7 +67,7 @@ module _ (bytes : List ℕ) (f : Faultless bytes) (i : ℕ) (l : i < length (sco
       }
 
   pub faultless-weight : weight (scopesOf bytes) i ≤ 4096
-  unfolding overweight
+  unfolding weightExceeded
   faultless-weight =
       let book = scopesOf bytes in
       let z : 0 + i ≡ i = omega arith in

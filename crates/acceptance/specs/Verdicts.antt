@@ -10,7 +10,7 @@ use Rattle.book.specs.References.{dangles}
 use Rattle.book.specs.Sharing.{shares}
 use Rattle.book.specs.Typing.{mismatches}
 use Rattle.book.specs.Mixing.{mixes}
-use Rattle.book.specs.Scopes.{scopeCycle, overweight}
+use Rattle.book.specs.Scopes.{scopeCycle, weightExceeded}
 use Rattle.book.specs.Steps.{dependencyCycle}
 use Rattle.book.specs.Judge.{InBook}
 use Rattle.answers.specs.Numbers.{faultNumber}
@@ -34,7 +34,7 @@ pub record Faultless (bytes : List ℕ) : Type 0 where
   pub typed : mismatches (scopesOf bytes) ≡ false
   pub unmixed : mixes (scopesOf bytes) ≡ false
   pub callable : scopeCycle (scopesOf bytes) ≡ false
-  pub light : overweight (scopesOf bytes) ≡ false
+  pub light : weightExceeded (scopesOf bytes) ≡ false
   pub doable : dependencyCycle (scopesOf bytes) ≡ false
 
 -- "per record 2, 1, 3, 4, 5": a record's first fault in that order

@@ -1,7 +1,7 @@
 -- Weights of scopes.
 --     weight-sum              "Weight: 1 plus the weights of the sub-scopes called": where the blocks hold all scopes and no number dangles
 --     called-before           the block of a sub-scope that is called stands before the caller's
---     overweight-one, overweight-none     whether a weight is above 4,096
+--     weight-exceeded-one, weight-exceeded-none     whether a weight is above 4,096
 -- Assumes nothing.
 use Prim.Native.Nat.{ℕ, zero, suc, _<_, _≤_, _+_, _-_}
 use mathlib.Core.Path.{_≡_, refl, sym, ap, _∙_}
@@ -18,7 +18,7 @@ use Rattle.order.proofs.Among.{among-snoc, among-place}
 use Rattle.order.proofs.Order.{order-no-repeats, order-after-dependencies, order-all}
 use Rattle.book.specs.Syntax.{Scope, emptyScope}
 use Rattle.book.specs.References.{scopeAt, danglesIn, dangles}
-use Rattle.book.specs.Scopes.{calls, blocks, sum, weightIn, weight, overweight}
+use Rattle.book.specs.Scopes.{calls, blocks, sum, weightIn, weight, weightExceeded}
 use Rattle.laws.proofs.Booleans.{decide}
 use Rattle.book.proofs.Searches.{any-false, anyFrom-at, anyFrom-none}
 use Rattle.book.proofs.Naming.{named-sub-scopes}
@@ -117,14 +117,14 @@ module _ (book : List Scope) (whole : length (blocks book) ≡ length book) wher
 
 -- Weights above 4,096
 
-pub overweight-one : (book : List Scope) (i : ℕ) → i < length book → 4096 < weight book i → overweight book ≡ true
-unfolding overweight
-overweight-one book i l h =
+pub weight-exceeded-one : (book : List Scope) (i : ℕ) → i < length book → 4096 < weight book i → weightExceeded book ≡ true
+unfolding weightExceeded
+weight-exceeded-one book i l h =
     let z : 0 + i ≡ i = omega arith in
     anyFrom-at (λ j s. ltb 4096 (weight book j)) 0 book i l emptyScope (rw z (lt-ltb 4096 (weight book i) h))
 
-pub overweight-none : (book : List Scope) → ((i : ℕ) → i < length book → weight book i ≤ 4096) → overweight book ≡ false
-unfolding overweight
-overweight-none book small =
+pub weight-exceeded-none : (book : List Scope) → ((i : ℕ) → i < length book → weight book i ≤ 4096) → weightExceeded book ≡ false
+unfolding weightExceeded
+weight-exceeded-none book small =
     anyFrom-none (λ j s. ltb 4096 (weight book j)) 0 book emptyScope
     (λ i l. let z : 0 + i ≡ i = omega arith in rw z (le-ltb 4096 (weight book i) (small i l)))

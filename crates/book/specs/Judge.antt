@@ -12,7 +12,7 @@ use Rattle.book.specs.References.{dangles}
 use Rattle.book.specs.Sharing.{shares}
 use Rattle.book.specs.Typing.{mismatches}
 use Rattle.book.specs.Mixing.{mixes}
-use Rattle.book.specs.Scopes.{scopeCycle, HasScopeCycle, overweight}
+use Rattle.book.specs.Scopes.{scopeCycle, HasScopeCycle, weightExceeded}
 use Rattle.book.specs.Steps.{dependencyCycle, HasDependencyCycle}
 use Rattle.answers.specs.declared.Fault.{Fault}
 use Rattle.answers.specs.declared.Fault.the-variants.{Truncated, UnknownKind, OutOfOrder, LimitExceeded, InvalidByte, DanglingReference, SharedNode, TypeMismatch, MixedClauses, ScopeCycle, WeightExceeded, DependencyCycle}
@@ -33,7 +33,7 @@ InBook SharedNode bytes = shares (scopesOf bytes) ≡ true
 InBook TypeMismatch bytes = mismatches (scopesOf bytes) ≡ true
 InBook MixedClauses bytes = mixes (scopesOf bytes) ≡ true
 InBook ScopeCycle bytes = HasScopeCycle (scopesOf bytes)
-InBook WeightExceeded bytes = overweight (scopesOf bytes) ≡ true
+InBook WeightExceeded bytes = weightExceeded (scopesOf bytes) ≡ true
 InBook DependencyCycle bytes = HasDependencyCycle (scopesOf bytes)
 
 -- "then per record 2, 1, 3, 4, 5": the first faulty record decides; so "An empty book is accepted and has no scopes"
@@ -56,7 +56,7 @@ wholeBook book =
     (cond (mismatches book) (Refused TypeMismatch)
     (cond (mixes book) (Refused MixedClauses)
     (cond (scopeCycle book) (Refused ScopeCycle)
-    (cond (overweight book) (Refused WeightExceeded)
+    (cond (weightExceeded book) (Refused WeightExceeded)
     (cond (dependencyCycle book) (Refused DependencyCycle)
     (Accepted (length book))))))))
 

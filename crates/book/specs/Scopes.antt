@@ -41,5 +41,5 @@ unfoldable pub weight : List Scope → ℕ → ℕ
 weight book i = weightIn book (reverse (blocks book)) i
 
 -- 11, the paper's "overweight": "a weight above 4,096"
-unfoldable pub overweight : List Scope → Bool
-overweight book = anyFrom (λ i s. ltb 4096 (weight book i)) 0 book
+unfoldable pub weightExceeded : List Scope → Bool
+weightExceeded book = anyFrom (λ i s. ltb 4096 (weight book i)) 0 book

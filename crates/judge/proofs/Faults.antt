@@ -15,7 +15,7 @@ use Rattle.book.specs.References.{dangles}
 use Rattle.book.specs.Sharing.{shares}
 use Rattle.book.specs.Typing.{mismatches}
 use Rattle.book.specs.Mixing.{mixes}
-use Rattle.book.specs.Scopes.{blocks, scopeCycle, overweight}
+use Rattle.book.specs.Scopes.{blocks, scopeCycle, weightExceeded}
 use Rattle.book.specs.Steps.{dependencyCycle}
 use Rattle.book.specs.Judge.{judge, scan, wholeBook}
 use Rattle.answers.specs.declared.Fault.{Fault}
@@ -63,15 +63,15 @@ module _ (book : List Scope) where
   unfolding orderFaults
   cycle-first a = rw a
 
-  pub weight-next : scopeCycle book ≡ false → overweight book ≡ true → Refused WeightExceeded ≡ orderFaults book
+  pub weight-next : scopeCycle book ≡ false → weightExceeded book ≡ true → Refused WeightExceeded ≡ orderFaults book
   unfolding orderFaults
   weight-next a b = rw (a, b)
 
-  pub steps-last : scopeCycle book ≡ false → overweight book ≡ false → dependencyCycle book ≡ true → Refused DependencyCycle ≡ orderFaults book
+  pub steps-last : scopeCycle book ≡ false → weightExceeded book ≡ false → dependencyCycle book ≡ true → Refused DependencyCycle ≡ orderFaults book
   unfolding orderFaults
   steps-last a b c = rw (a, b, c)
 
-  pub none-left : {n : ℕ} → scopeCycle book ≡ false → overweight book ≡ false → dependencyCycle book ≡ false → n ≡ length book → Accepted n ≡ orderFaults book
+  pub none-left : {n : ℕ} → scopeCycle book ≡ false → weightExceeded book ≡ false → dependencyCycle book ≡ false → n ≡ length book → Accepted n ≡ orderFaults book
   unfolding orderFaults
   none-left a b c e = rw (a, b, c, e)
 

@@ -32,7 +32,7 @@ pub record Tables (bytes index blocks weights orders : List ℕ) : Type 0 where
 unfoldable pub orderFaults : List Scope → Judged
 orderFaults book =
     cond (scopes.scopeCycle book) (Refused ScopeCycle)
-    (cond (scopes.overweight book) (Refused WeightExceeded)
+    (cond (scopes.weightExceeded book) (Refused WeightExceeded)
     (cond (dependencyCycle book) (Refused DependencyCycle)
     (Accepted (length book))))
 

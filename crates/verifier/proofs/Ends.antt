@@ -1,7 +1,7 @@
 -- The end of a block: what is refused, and what holds after it.
 --     at-scope, weight-at, width-at                        tables by scope
 --     filled-set, filled-bound, filled-room                how many scopes have a block
---     reach-refused, weight-refused                        a landing past the end; overweight
+--     reach-refused, weight-refused                        a landing past the end; a weight above the limit
 --     leave-closed, leave-idle                             one more block is closed, or none was open
 --     leave-bounds                                         the room of the tables
 -- Assumes nothing.

@@ -24,7 +24,7 @@ use Rattle.steps.specs.Limits.{Scoped, WholeOrder}
 use Rattle.weights.specs.Weighing.{weightBy, Weighed}
 use Rattle.laws.proofs.Booleans.{decide}
 use Rattle.book.proofs.Sums.{sum-same}
-use Rattle.book.proofs.Weights.{block-bound, every-block, block-snoc, called-before, weight-sum, overweight-one, overweight-none}
+use Rattle.book.proofs.Weights.{block-bound, every-block, block-snoc, called-before, weight-sum, weight-exceeded-one, weight-exceeded-none}
 
 -- the weights of the sub-scopes from the k-th on, taken from a table
 unfoldable pub sumFrom : List Scope → ℕ → List ℕ → ℕ → ℕ
@@ -75,7 +75,7 @@ module _ (bytes order from : List ℕ) (n : ℕ) (scoped : Scoped bytes n) (bloc
         let each : (i : ℕ) → i < length book → (getD weights i 0 ≡ weight book i) × (weight book i ≤ 4096) =
         λ i h. g .done i (rw every (every-block book whole i h)) in
         record {
-          over = sym (overweight-none book (λ i h. each i h .1));
+          over = sym (weight-exceeded-none book (λ i h. each i h .1));
           each = λ e i h. each i h .0;
         }
 
@@ -99,7 +99,7 @@ module _ (bytes order from : List ℕ) (n : ℕ) (scoped : Scoped bytes n) (bloc
         pub heavy : 4096 < w → Weighed book true weights
         heavy h =
             record {
-              over = sym (overweight-one book i in-book (omega (arith, right)));
+              over = sym (weight-exceeded-one book i in-book (omega (arith, right)));
               each = λ e. absurd (true≢false e);
             }
 
