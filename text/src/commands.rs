@@ -9,6 +9,7 @@ use crate::explain::explain;
 use crate::files::{read_text, Source};
 use crate::inputs::{find_scope, read_inputs, standard_input, Given};
 use crate::map::map;
+use crate::nearest::did_you_mean;
 use crate::output::{Answer, Answered, Stop};
 use crate::printer::to_text;
 use crate::report::Report;
@@ -65,10 +66,11 @@ pub fn answer(typed: &Typed) -> Answered {
     let usage = command(name)?;
     let unknown = typed.options.iter().find(|o| !usage.options.contains(o));
     if let Some(option) = unknown {
-        return Err(usage.wrong(&format!("'text {name}' has no option '{option}'")));
+        let hint = did_you_mean(option, usage.options.iter().copied());
+        return Err(usage.wrong(&format!("'text {name}' has no option '{option}'{hint}")));
     }
     match words {
-        [] => Err(usage.wrong(&format!("'text {name}' needs more words"))),
+        [] => Err(usage.wrong(&format!("'text {name}' takes {}", usage.takes))),
         words => few(usage, words, typed),
     }
 }
@@ -86,7 +88,16 @@ fn few(usage: &Usage, words: &[&str], typed: &Typed) -> Answered {
             Ok(Answer::good(map(&source.rules()?, &source.name)))
         }
         ("report", [file]) => report(file),
-        ("to-book", [file]) => Ok(Answer::good(Source::read(file)?.book()?)),
+        ("to-book", [file]) => {
+            let source = Source::read(file)?;
+            match source.is_book() {
+                true => Err(Stop::Failed(format!(
+                    "{}: this is a book already",
+                    source.name
+                ))),
+                false => Ok(Answer::good(source.book()?)),
+            }
+        }
         ("to-text", [file]) => text_of(file),
         ("examples", [program, folder]) => {
             Ok(run_examples(Program::Path(Path::new(program)), folder)?.finish())
@@ -117,11 +128,27 @@ fn many(usage: &Usage, words: &[&str], typed: &Typed) -> Answered {
         }
         ("table", [file, scope, choice @ ..]) => table(file, scope, choice, typed),
         ("draw", [file, scope, target, inputs @ ..]) => drawing(file, scope, target, inputs),
-        _ => {
-            let typed = words.join(" ");
-            Err(usage.wrong(&format!("'text {}' does not take '{typed}'", usage.name)))
-        }
+        _ => Err(unfit(usage, words)),
     }
+}
+
+/// Words that do not fit a command; one that lacks only the scope is told which there are.
+fn unfit(usage: &Usage, words: &[&str]) -> Stop {
+    if let ([file], true) = (words, usage.takes.starts_with("FILE SCOPE")) {
+        return match Source::read(file).and_then(|source| source.rules()) {
+            Err(message) => Stop::Failed(message),
+            Ok(book) => {
+                let names = book.names.iter().map(|names| names.scope.text.as_str());
+                let names: Vec<&str> = names.collect();
+                usage.wrong(&format!("say which scope: {}", names.join(", ")))
+            }
+        };
+    }
+    let (name, takes) = (usage.name, usage.takes);
+    usage.wrong(&format!(
+        "'text {name}' takes {takes}, not '{}'",
+        words.join(" ")
+    ))
 }
 
 fn table(file: &str, scope: &str, choice: &[&str], typed: &Typed) -> Answered {
@@ -170,6 +197,11 @@ fn count(usage: &Usage, word: &str) -> Result<u64, Stop> {
 
 fn text_of(file: &str) -> Answered {
     let source = Source::read(file)?;
+    let begins_as_text = source.bytes().first().is_some_and(|&byte| byte >= 32);
+    if begins_as_text && !source.is_book() {
+        let message = format!("{}: this is a text already, and no book", source.name);
+        return Err(Stop::Failed(message));
+    }
     let text = to_text(source.bytes()).map_err(|fault| fault.in_file(&source.name))?;
     Ok(Answer::good(text))
 }

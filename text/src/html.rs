@@ -12,7 +12,8 @@ td.no { color: #888; } td.none { color: #9c1c1c; background: #fbefef; }
 td.path { font-family: monospace; } .warning { color: #7a4a00; }
 svg { max-width: 100%; height: auto; } .drawing { overflow-x: auto; }
 nav a { margin-right: 1em; }
-@media print { body { margin: 0; max-width: none; font-size: 11px; } h2 { break-before: auto; } table, svg, pre { break-inside: avoid; } nav { display: none; } }
+@media print { body { margin: 0; max-width: none; font-size: 11px; } pre { font-size: 9.5px; } nav { display: none; }
+  h2, h3 { break-after: avoid; } tr, li, svg { break-inside: avoid; } .drawing { zoom: .8; } }
 ";
 
 /// A whole page.

@@ -51,7 +51,10 @@ pub fn variable_named(book: &Rulebook, scope: usize, name: &str) -> Result<usize
     let names = &book.names[scope];
     let found = names.variables.iter().position(|v| v.text == name);
     found.ok_or_else(|| {
-        let hint = did_you_mean(name, names.variables.iter().map(|v| v.text.as_str()));
+        let hint = match name.contains('.') {
+            true => "; only the scope's own variables are named here".to_string(),
+            false => did_you_mean(name, names.variables.iter().map(|v| v.text.as_str())),
+        };
         let scope = &names.scope.text;
         format!("there is no variable '{name}' in scope '{scope}'{hint}")
     })

@@ -20,6 +20,7 @@ fn help_and_version() {
 
 #[test]
 fn what_is_typed_wrongly_is_named() {
+    file("typed.rules", format!("{SPEED}scope store"));
     let cases = [
         (
             "jugde f",
@@ -29,19 +30,21 @@ fn what_is_typed_wrongly_is_named() {
             "paint f",
             "there is no command 'paint'\n'text --help' lists",
         ),
-        (
-            "judge",
-            "'text judge' needs more words\nusage: text judge FILE",
-        ),
+        ("judge", "'text judge' takes FILE\nusage: text judge FILE"),
         (
             "judge a b",
-            "'text judge' does not take 'a b'\nusage: text judge FILE",
+            "'text judge' takes FILE, not 'a b'\nusage: text judge FILE",
         ),
         ("judge --loud f", "'text judge' has no option '--loud'"),
         (
-            "evaluate f",
-            "usage: text evaluate FILE SCOPE [NAME=VALUE ..]",
+            "explain --ful f s",
+            "'text explain' has no option '--ful'; did you mean '--full'?",
         ),
+        (
+            "evaluate typed.rules",
+            "say which scope: film, store\nusage: text evaluate FILE SCOPE [NAME=VALUE ..]",
+        ),
+        ("draw f s", "'text draw' takes FILE SCOPE VARIABLE"),
         ("self-check many .", "'many' is no count"),
         ("judge f -o", "-o needs the file to write"),
     ];
@@ -63,6 +66,18 @@ fn files_that_cannot_be_read_are_named() {
             ".: this is a folder, not a file\n"
         );
     }
+}
+
+#[test]
+fn texts_and_books_are_not_taken_for_each_other() {
+    file("kind.rules", SPEED);
+    let ran = text("to-text kind.rules");
+    assert_eq!(ran.err, "kind.rules: this is a text already, and no book\n");
+    text("to-book kind.rules -o kind.book");
+    let ran = text("to-book kind.book");
+    assert_eq!((ran.status, ran.out.as_str()), (1, ""));
+    assert_eq!(ran.err, "kind.book: this is a book already\n");
+    assert!(text("to-text kind.book").out.starts_with("scope scope0\n"));
 }
 
 #[test]
@@ -162,6 +177,10 @@ fn inputs_that_do_not_fit_are_named() {
         ("speed=+1", "'+1' is no number"),
         ("speed=2_147_483_648", "'2_147_483_648' is no number"),
         ("shrunken", "input 'shrunken': write it as name=value"),
+        (
+            "print.speed=1",
+            "there is no variable 'print.speed' in scope 'film'; only the scope's own variables",
+        ),
     ] {
         let ran = text(&format!("evaluate inputs.rules film {input}"));
         assert_eq!((ran.status, ran.out.as_str()), (1, ""), "{input}");
