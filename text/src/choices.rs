@@ -1,8 +1,10 @@
 //! Choices of a scope's inputs: the variables that nothing in the scope defines. Yes/no
-//! variables take both values, numbers those around the constants they may be compared with.
+//! variables take both values, numbers those on both sides of the constants that they are
+//! compared with.
 
 use crate::inputs::Given;
 use crate::rulebook::Rulebook;
+use crate::thresholds::thresholds;
 use crate::words;
 use second::kind;
 use second::kind::NONE;
@@ -24,7 +26,9 @@ pub struct Choices {
     /// How many choices are tried.
     pub count: u64,
     /// Whether they are all that there are of these values.
-    pub all: bool,
+    all: bool,
+    /// Whether they are all cases that there are.
+    pub exact: bool,
 }
 
 /// The own variables that no clause defines.
@@ -44,10 +48,12 @@ impl Choices {
     /// All choices of a scope's inputs, or some of them where they are too many.
     pub fn of(book: &Rulebook, scope: usize) -> Choices {
         let inputs = inputs_of(&book.scopes[scope]);
-        let numbers = thresholds(book, scope);
-        let values = |&v: &usize| match book.scopes[scope].variables[v] {
-            Type::YesNo => vec![Value::YesNo(false), Value::YesNo(true)],
-            Type::Number => numbers.clone(),
+        let deciding = thresholds(book, scope);
+        let values = |&v: &usize| match (book.scopes[scope].variables[v], &deciding) {
+            (Type::YesNo, _) => vec![Value::YesNo(false), Value::YesNo(true)],
+            (Type::Number, Some(deciding)) if deciding[v].is_empty() => vec![Value::Number(0)],
+            (Type::Number, Some(deciding)) => numbers(&deciding[v]),
+            (Type::Number, None) => numbers(&constants(book, scope)),
         };
         let values: Vec<Vec<Value>> = inputs.iter().map(values).collect();
         let most = MOST.min(MOST_ENTRIES / weight(book, scope));
@@ -61,6 +67,7 @@ impl Choices {
             values,
             count: product.unwrap_or(most / 4).max(1),
             all: product.is_some(),
+            exact: product.is_some() && deciding.is_some(),
         }
     }
 
@@ -99,8 +106,16 @@ fn weight(book: &Rulebook, scope: usize) -> u64 {
     weights.get(scope).map_or(1, |&weight| weight as u64)
 }
 
+/// Numbers as values, those next to zero first.
+fn numbers(numbers: &[i32]) -> Vec<Value> {
+    let mut numbers = numbers.to_vec();
+    numbers.sort_by_key(|&n| (n.unsigned_abs(), n < 0));
+    numbers.dedup();
+    numbers.into_iter().map(Value::Number).collect()
+}
+
 /// The constants of comparisons in a scope and in those it calls, and their neighbours.
-fn thresholds(book: &Rulebook, scope: usize) -> Vec<Value> {
+fn constants(book: &Rulebook, scope: usize) -> Vec<i32> {
     let mut numbers = vec![0, 1];
     let mut reached = vec![scope];
     let mut next = 0;
@@ -113,9 +128,7 @@ fn thresholds(book: &Rulebook, scope: usize) -> Vec<Value> {
             }
         }
     }
-    numbers.sort_by_key(|&n: &i32| (n.unsigned_abs(), n < 0));
-    numbers.dedup();
-    numbers.into_iter().map(Value::Number).collect()
+    numbers
 }
 
 fn compared(scope: &Scope, numbers: &mut Vec<i32>) {

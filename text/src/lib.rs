@@ -8,8 +8,8 @@
 //!   the bytes
 //! - book to text: `printer`, and `records` for books that the judge refuses
 //! - `explain`, `brief` and `reason` with `evaluation`; `table`; `draw` and `map` with `shape`; `report`, `html`
-//! - `warnings` from a `search` over `choices` of inputs, with `ending`, `exactness` and
-//!   `conditions`
+//! - `warnings` from a `search` over `choices` of inputs, with `thresholds`, `ending`
+//!   and `conditions`
 //! - `answers`: what the proved `programs` say, in names and words; `locate` for refusals
 //! - `inputs`, `files`, `output`, `place`, `words`; `commands` and `usage`
 //! - checking: `roundtrip`, `damage`, `examples` and `runs`, `self_check`, `compare`, `tally`
@@ -25,7 +25,6 @@ pub mod damage;
 pub mod draw;
 pub mod ending;
 pub mod evaluation;
-pub mod exactness;
 pub mod examples;
 pub mod explain;
 pub mod expression;
@@ -58,6 +57,7 @@ pub mod shape;
 pub mod syntax;
 pub mod table;
 pub mod tally;
+pub mod thresholds;
 pub mod typing;
 pub mod usage;
 pub mod warnings;

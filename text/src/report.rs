@@ -2,7 +2,7 @@
 //! tables and example runs.
 
 use crate::answers::judged;
-use crate::choices::inputs_of;
+use crate::choices::Choices;
 use crate::draw::Drawing;
 use crate::html::{escaped, page};
 use crate::inputs::standard_input;
@@ -18,8 +18,8 @@ use second::kind::NONE;
 use second::scope::{Clause, Target};
 use second::value::Type;
 
-/// No more yes/no variables than this vary in a table of a report.
-const MOST: usize = 6;
+/// No more cases than this stand in a table of a report.
+const MOST: u64 = 64;
 
 /// What a report is about.
 pub struct Report<'a> {
@@ -135,24 +135,31 @@ impl Report<'_> {
         numbered.collect()
     }
 
-    /// All choices of few yes/no inputs; a scope that needs numbers has no table.
+    /// All cases, where they are few.
     fn table(&self, scope: usize) -> Result<String, String> {
-        let own = &self.book.scopes[scope];
-        let inputs = inputs_of(own);
-        let names = &self.book.names[scope].variables;
-        let numbers = inputs.iter().filter(|&&v| own.variables[v] == Type::Number);
-        let numbers: Vec<&str> = numbers.map(|&v| names[v].text.as_str()).collect();
-        let why = match (inputs.len(), numbers.is_empty()) {
-            (_, false) => format!("the scope needs numbers ({})", numbers.join(", ")),
-            (count, _) if count > MOST => format!("{count} variables vary"),
-            _ => String::new(),
-        };
-        if !why.is_empty() {
-            let why = escaped(&why);
-            return Ok(format!("<p>There is no table of all cases: {why}.</p>\n"));
+        let choices = Choices::of(self.book, scope);
+        let (count, exact) = (choices.count, choices.exact);
+        if choices.inputs.is_empty() || count == 1 {
+            return Ok(String::new());
         }
-        let table = Table::of(self.book, scope, &[])?;
-        Ok(format!("<h3>All cases</h3>\n{}", table.html_table()))
+        if !exact || count > MOST {
+            let cases = if exact {
+                count.to_string()
+            } else {
+                "too many".to_string()
+            };
+            return Ok(format!(
+                "<p>There is no table of all cases: there are {cases}.</p>\n"
+            ));
+        }
+        let of = |&v: &usize| self.book.scopes[scope].variables[v];
+        let numbers = choices.inputs.iter().map(of).any(|of| of == Type::Number);
+        let note = match numbers {
+            true => ", each number on both sides of what it is compared with",
+            false => "",
+        };
+        let table = Table::of_choices(self.book, scope, &choices)?;
+        Ok(format!("<h3>All cases{note}</h3>\n{}", table.html_table()))
     }
 
     fn examples(&self) -> Result<String, String> {

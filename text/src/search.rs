@@ -4,7 +4,6 @@
 use crate::choices::{typed, Choices};
 use crate::ending::{ending_of, Cause, Ending};
 use crate::evaluation::{enter, Entry, Fate, Row, Taken, Tree, Trial};
-use crate::exactness::is_exact;
 use crate::rulebook::Rulebook;
 use second::kind::NONE;
 use second::value::Value;
@@ -31,7 +30,7 @@ pub fn search(book: &Rulebook, scope: usize) -> Found {
     let choices = Choices::of(book, scope);
     let mut found = Found {
         tried: choices.count,
-        exact: choices.all && is_exact(book, scope),
+        exact: choices.exact,
         endings: BTreeMap::new(),
         trials: vec![(0, 0); book.scopes[scope].clauses.len()],
         held_below: BTreeSet::new(),

@@ -2,7 +2,7 @@
 //! each: as text, as CSV, as HTML.
 
 use crate::answers::outcome;
-use crate::choices::inputs_of;
+use crate::choices::{inputs_of, Choices};
 use crate::html::{escaped, page};
 use crate::inputs::{given_words, variable_named, Given};
 use crate::rulebook::Rulebook;
@@ -59,11 +59,36 @@ impl<'a> Table<'a> {
         Ok(table)
     }
 
+    /// All choices of a scope's inputs.
+    pub fn of_choices(
+        book: &'a Rulebook,
+        scope: usize,
+        choices: &Choices,
+    ) -> Result<Table<'a>, String> {
+        let fixed = vec![None; book.scopes[scope].variables.len()];
+        let mut table = Table {
+            book,
+            scope,
+            shown: shown(book, scope, &fixed, &choices.inputs),
+            fixed,
+            varied: choices.inputs.clone(),
+            rows: Vec::new(),
+        };
+        for choice in 0..choices.count {
+            table.rows.push(table.run(choices.given(choice))?);
+        }
+        Ok(table)
+    }
+
     fn row(&self, choice: usize) -> Result<Row, String> {
         let mut given = self.fixed.clone();
         for (bit, &variable) in self.varied.iter().rev().enumerate() {
             given[variable] = Some(Value::YesNo(choice >> bit & 1 == 1));
         }
+        self.run(given)
+    }
+
+    fn run(&self, given: Given) -> Result<Row, String> {
         let values = outcome(self.book, self.scope, &given)?;
         Ok(Row { given, values })
     }
@@ -209,7 +234,10 @@ impl<'a> Table<'a> {
         let (chosen, values) = self.cells(row, columns);
         let chosen: String = chosen
             .iter()
-            .map(|c| format!("<td class=\"{c}\">{c}</td>"))
+            .map(|c| match c.as_str() {
+                "yes" | "no" => format!("<td class=\"{c}\">{c}</td>"),
+                _ => format!("<td class=\"result\">{c}</td>"),
+            })
             .collect();
         let values: String = match row.values {
             Ok(_) => values

@@ -34,13 +34,26 @@ fn a_report_has_everything_in_one_page() {
 
 #[test]
 fn a_report_of_a_book_without_names() {
-    file(
-        "named.rules",
-        "scope s variable y : yes/no scope t variable n : number sub-scope k : s",
+    let rules = "scope s variable y : yes/no variable x : number define x as if y then 1 else 2 \
+        scope t variable n : number variable m : number variable w : yes/no sub-scope k : s \
+        rule w under condition n < m \
+        scope u variable n : number variable v : yes/no rule v under condition n > 7";
+    file("named.rules", rules);
+    let page = text("report named.rules").out;
+    assert!(page.contains("<h3>All cases</h3>"), "{page}");
+    assert!(
+        page.contains("<h3>All cases, each number on both sides of"),
+        "{page}"
     );
-    let text_ = text("report named.rules").out;
-    assert!(text_.contains("the scope needs numbers (n)"), "{text_}");
-    assert!(text_.matches("   1  scope s").count() == 2, "{text_}");
+    assert!(
+        page.contains("<td class=\"result\">8</td><td class=\"result\">yes</td>"),
+        "{page}"
+    );
+    assert!(
+        page.contains("There is no table of all cases: there are too many."),
+        "{page}"
+    );
+    assert_eq!(page.matches("   1  scope s").count(), 3, "{page}");
     text("to-book named.rules -o named.book");
     let ran = text("report named.book");
     assert!(ran.out.contains("Scope scope1"), "{}", ran.err);
