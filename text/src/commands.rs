@@ -47,6 +47,18 @@ impl<'a> Typed<'a> {
         Ok(typed)
     }
 
+    /// The file to write must not be one that is read.
+    pub fn keeps_what_it_reads(&self) -> Result<(), Stop> {
+        let out = self.out.and_then(|out| Path::new(out).canonicalize().ok());
+        let same = |word: &&&str| Path::new(word).canonicalize().ok() == out;
+        match self.words.iter().find(same).filter(|_| out.is_some()) {
+            Some(word) => Err(Stop::Usage(format!(
+                "-o {word} would write over what is read"
+            ))),
+            None => Ok(()),
+        }
+    }
+
     fn has(&self, option: &str) -> bool {
         self.options.contains(&option)
     }

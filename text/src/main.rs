@@ -25,6 +25,7 @@ fn main() -> ExitCode {
 /// Whether the answer is the one hoped for.
 fn run(words: &[&str]) -> Result<bool, Stop> {
     let typed = Typed::of(words)?;
+    typed.keeps_what_it_reads()?;
     let answer = answer(&typed)?;
     match typed.out {
         Some(file) if answer.good => write_file(file, &answer.bytes)?,

@@ -4,11 +4,11 @@
 use crate::brief::explain_briefly;
 use crate::damage::{damaged, is_book_or_placed};
 use crate::draw::Drawing;
-use crate::evaluation::enter;
+use crate::evaluation::{enter, Joined, Taken};
 use crate::examples::{run_examples, Program};
 use crate::explain::explain;
 use crate::files::{read_text, rule_files};
-use crate::inputs::input_records;
+use crate::inputs::{input_records, Given};
 use crate::locate::located;
 use crate::printer::to_text;
 use crate::reading::{to_book, to_rulebook};
@@ -100,6 +100,7 @@ impl Check {
             Ok(book) => {
                 self.tally.count(explained(&book, case));
                 self.tally.count(drawn(&book, case.scope));
+                self.tally.count(marked(&book, case));
             }
         }
     }
@@ -136,14 +137,47 @@ impl Check {
     }
 }
 
-/// Outcome, count and results of an explained evaluation are the second program's.
-fn explained(book: &Rulebook, case: &Case) -> Result<(), String> {
+/// The inputs of a case, for a scope that is there.
+fn given_in(book: &Rulebook, case: &Case) -> Result<Option<Given>, String> {
     let Some(scope) = book.scopes.get(case.scope) else {
-        return Ok(());
+        return Ok(None);
     };
     let mut given = vec![None; scope.variables.len()];
     let read = read_inputs(&scope.variables, &case.inputs, &mut given);
     read.map_err(|_| "bad inputs".to_string())?;
+    Ok(Some(given))
+}
+
+/// In a drawing with inputs one box is marked where one clause gave the value.
+fn marked(book: &Rulebook, case: &Case) -> Result<(), String> {
+    let Some(given) = given_in(book, case)? else {
+        return Ok(());
+    };
+    for taken in enter(book, case.scope, given.clone()).taken {
+        let Taken::Variable(tree) = taken else {
+            continue;
+        };
+        let drawing = Drawing {
+            book,
+            file: "book",
+            scope: case.scope,
+            target: tree.target,
+        };
+        let svg = drawing.with(given.clone());
+        let held = svg.matches("stroke=\"#1c6b1c\"").count();
+        let one = matches!(tree.bases.joined, Joined::One(_));
+        if held != usize::from(one && tree.result.is_ok()) {
+            return Err(format!("{held} boxes are marked in\n{svg}"));
+        }
+    }
+    Ok(())
+}
+
+/// Outcome, count and results of an explained evaluation are the second program's.
+fn explained(book: &Rulebook, case: &Case) -> Result<(), String> {
+    let Some(given) = given_in(book, case)? else {
+        return Ok(());
+    };
     let words = explain(book, "book", case.scope, given.clone());
     let brief = explain_briefly(book, "book", case.scope, given.clone());
     let entry = enter(book, case.scope, given);

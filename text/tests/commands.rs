@@ -116,6 +116,9 @@ fn judge_says_where_a_book_has_its_fault() {
     let expected =
         "refused 6, dangling reference: clause 2 of scope 0 names node 9, which is not there\n";
     assert_eq!((ran.status, ran.out.as_str()), (1, expected));
+    let ran = text_reading("judge -", b"record 1 record 4 1\nrecord 10 0 record 10 0");
+    let expected = "refused 7, shared node: node 0 of scope 0 is named more than once\n";
+    assert_eq!((ran.status, ran.out.as_str()), (1, expected));
     let cases: [(&[u8], &str); 8] = [
         (&[1, 2], "refused 1, truncated: the record at byte 1, of kind 2\n"),
         (&[1, 99], "refused 2, unknown kind: the record at byte 1, of kind 99\n"),
@@ -242,6 +245,16 @@ fn an_output_file_is_written_as_a_whole_or_not_at_all() {
     let ran = text("to-book whole.rules -o nowhere/whole.book");
     assert_eq!(ran.status, 1);
     assert!(ran.err.starts_with("nowhere/whole.book: "), "{}", ran.err);
+}
+
+#[test]
+fn what_is_read_is_not_written_over() {
+    file("kept.rules", SPEED);
+    let ran = text("to-book kept.rules -o ./kept.rules");
+    assert_eq!(ran.status, 2);
+    assert_eq!(ran.err, "-o kept.rules would write over what is read\n");
+    let kept = std::fs::read_to_string(folder().join("kept.rules")).expect("a text");
+    assert_eq!(kept, SPEED);
 }
 
 /// Bytes of every sort: an answer or an error, and never a crash.

@@ -5,6 +5,7 @@ use text::explain::explain;
 use text::inputs::{find_scope, read_inputs};
 use text::lexer::WORDS;
 use text::reading::to_rulebook;
+use text::usage::COMMANDS;
 
 fn document() -> String {
     let path = concat!(env!("CARGO_MANIFEST_DIR"), "/../docs/LANGUAGE.md");
@@ -46,4 +47,15 @@ fn the_grammar_has_every_word() {
     for word in WORDS {
         assert!(grammar.contains(&format!("\"{word}\"")), "{word}");
     }
+}
+
+#[test]
+fn the_commands_are_those_of_the_help() {
+    let document = document();
+    let lines = document
+        .lines()
+        .filter_map(|line| line.strip_prefix("    text "));
+    let listed: Vec<&str> = lines.filter_map(|line| line.split(' ').next()).collect();
+    let commands: Vec<&str> = COMMANDS.iter().map(|command| command.name).collect();
+    assert_eq!(listed, commands);
 }
