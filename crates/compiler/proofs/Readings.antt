@@ -6,7 +6,7 @@
 --     compiled-unchanged    of anything but a length: not one byte is written
 --     compiled-size         the memory keeps its length
 --     compiled-length       the length in the answer is that of the bytes written
---     compiled-most         and is 229,376 at most
+--     compiled-most         and is 185,051 at most
 -- Assumes nothing.
 use Prim.Native.Nat.{ℕ, _≤_}
 use mathlib.Core.Path.{_≡_, refl, sym, ap, _∙_}
@@ -105,7 +105,7 @@ module _ (bytes memory : List ℕ) where
           omega (arith, whole, v .long, v .fits, length-drop n memory)
       by-answer (Refused r) e = ap length (compiled-refused r e)
 
-  written-length : (c : Compilation) → Replied bytes (length memory) c → (lengthIn (c .answer) ≡ length (c .written)) × (lengthIn (c .answer) ≤ 229376)
+  written-length : (c : Compilation) → Replied bytes (length memory) c → (lengthIn (c .answer) ≡ length (c .written)) × (lengthIn (c .answer) ≤ 185051)
   written-length c (Replied.faulty f h) = (refl, omega arith)
   written-length c (Replied.short m h l) = (refl, omega arith)
   written-length c (Replied.whole m h l) = (refl, code-max bytes m h)
@@ -113,5 +113,5 @@ module _ (bytes memory : List ℕ) where
   pub compiled-length : compiledNumbers (compile bytes (length memory) .answer) .length ≡ length (compile bytes (length memory) .written)
   compiled-length = written-length (compile bytes (length memory)) (compiled-replied bytes (length memory)) .0
 
-  pub compiled-most : compiledNumbers (compile bytes (length memory) .answer) .length ≤ 229376
+  pub compiled-most : compiledNumbers (compile bytes (length memory) .answer) .length ≤ 185051
   compiled-most = written-length (compile bytes (length memory)) (compiled-replied bytes (length memory)) .1

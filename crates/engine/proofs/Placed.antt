@@ -1,6 +1,6 @@
 -- The numbers of every answer have room in one number of 64 bits, whatever the bytes.
 --     judge-placed       a book has 32 scopes at most
---     compile-placed     its code 229,376 bytes
+--     compile-placed     its code 185,051 bytes
 --     evaluate-placed, run-placed    a count is 4,096 at most, and the results are 192 bytes long at most
 -- Assumes nothing.
 use Prim.Native.Nat.{ℕ, _<_, _≤_}
@@ -51,7 +51,7 @@ answer-placed (answer.Values n l) h k = record { refusal = omega arith; outcome 
 answer-placed (answer.Ended c n) h k = record { refusal = omega arith; outcome = cause-small c; count = omega arith; length = omega arith }
 answer-placed (answer.Refused r) h k = refused-placed r
 
-compiled-placed : (c : Compiled) → compiledNumbers c .length ≤ 229376 → Placed (compiledNumbers c)
+compiled-placed : (c : Compiled) → compiledNumbers c .length ≤ 185051 → Placed (compiledNumbers c)
 compiled-placed (compiled.Written n) h = record { refusal = omega arith; outcome = omega arith; count = omega arith; length = omega arith }
 compiled-placed (compiled.Refused r) h = refused-placed r
 

@@ -1,12 +1,13 @@
--- The code of an accepted book is at most seven times as long as the book.
---     variable-length, call-length, steps-length, block-length, blocks-length    the length of code, as a sum
+-- The code of an accepted book is at most seven times as long as the book, and has 185,051 bytes at most.
+--     steps-length, block-length, blocks-length    the length of code, as a sum
 --     own-cost, called-cost    a target's tree costs no more than its clauses do
 --     targets-cost             each clause has one target, so the targets cost no more than all clauses
---     block-most               a block has two bytes, nine for each variable, four for each sub-scope, 42 for each clause and 14 for each node
---     code-bound, code-max     at most seven times the book's length, and 229,376 bytes
+--     block-most               a block has two bytes, nine for each variable, four for each sub-scope, 38 for each clause, and for each 14 bytes of
+--                              its nodes 46
+--     code-bound, code-max     at most seven times the book's length, and 185,051 bytes
 -- Assumes nothing.
 use Prim.Native.Nat.{ℕ, zero, suc, _+_, _-_, _*_, _≤_, _<_}
-use mathlib.Core.Path.{_≡_, refl, sym, ap, subst}
+use mathlib.Core.Path.{_≡_, refl, sym, ap, subst, _∙_}
 use mathlib.Core.Bool.{Bool, true, false, cond, _&&_, _||_, false≢true}
 use mathlib.Core.List.{List, [], _∷_}
 use mathlib.Core.Logic.{⊎-elim}
@@ -20,20 +21,22 @@ use Rattle.order.proofs.Among.{among-place}
 use Rattle.slices.specs.Bytes.{bytesOf}
 use Rattle.calculus.specs.Terms.{Term, Terms, none, also}
 use Rattle.book.specs.Lists.{any}
-use Rattle.book.specs.Syntax.{Scope, emptyScope, isRule}
+use Rattle.book.specs.Syntax.{Scope, emptyScope, noNode, isRule}
 use Rattle.book.specs.References.{scopeAt}
 use Rattle.book.specs.Decode.{scopesOf}
 use Rattle.book.specs.Sharing.{clauseNodes, gathered, repeats}
 use Rattle.book.specs.Records.{records}
 use Rattle.book.specs.Scopes.{sum, calls, blocks}
 use Rattle.book.specs.Steps.{dependsOn, stepCount, stepOrder}
-use Rattle.book.specs.Trees.{termOf, select, clauseTerms, hasTarget, hasClause, isBase, bases, hasRule, withRules, withoutRules, tree, ownTarget, calledTarget}
+use Rattle.book.specs.Trees.{termBelow, termOf, select, clauseTerms, hasTarget, hasClause, isBase, bases, hasRule, withRules, withoutRules, tree, ownTarget, calledTarget}
 use Rattle.book.specs.Judge.{judge}
 use Rattle.book.specs.declared.Target.{Target}
 use Rattle.book.specs.declared.Clause.{Clause}
 use Rattle.book.specs.declared.Variable.{Variable}
 use Rattle.answers.specs.declared.Judged.the-variants.{Accepted}
+use Rattle.book.specs.declared.Node.{Node}
 use Rattle.book.proofs.Sums.{range}
+use Rattle.book.proofs.Terms.{term-here}
 use Rattle.acceptance.specs.Accepted.{WithinLimits, WellFormed, CompleteOrder}
 use Rattle.acceptance.proofs.Scanning.{scan-sound}
 use Rattle.acceptance.proofs.Acceptance.{accepted-faultless}
@@ -41,10 +44,11 @@ use Rattle.acceptance.proofs.Orders.{accepted-book}
 use Rattle.translation.specs.Code.{size, sizes, code}
 use Rattle.translation.specs.Blocks.{variableCode, overridesCode, callCode, stepCode, stepsCode, variablesCode, subScopesCode, blockCode, blocksCode, codeOf}
 use Rattle.translation.proofs.Sizes.{code-length}
-use Rattle.translation.proofs.Parts.{parts, excepted, size-parts}
+use Rattle.translation.proofs.Parts.{allOf}
 use Rattle.translation.proofs.Sums.{Below, sum-below}
-use Rattle.translation.proofs.Bounds.{partsOf, named-parts, clause-sizes}
-use Rattle.translation.proofs.Bytes.{inner, together, scopes-bytes}
+use Rattle.translation.proofs.Bounds.{weightOf, ownOf, named-weight}
+use Rattle.translation.proofs.Hefts.{bytes, nodeBytes, made-bytes, charge, named, clause-code}
+use Rattle.translation.proofs.Bytes.{allBytes, inner, together, scopes-bytes}
 
 -- The length of code
 
@@ -133,9 +137,9 @@ module _ (book : List Scope) where
 
 -- What targets cost
 
--- a clause: its code as a base, and what stands around the bases of one target
+-- 14 times the bytes of a clause: its code as a base, and what stands around the bases of one target, or for these where there are none
 abbrev price : Clause → Term → ℕ
-price c t = cond (eqb (c .parent) 255) (excepted t) 0 + 18
+price c t = cond (eqb (c .parent) 255) (charge t) 0 + 196
 
 -- the clauses that have p, with their terms
 unfoldable cost : (Clause → Bool) → List Clause → List Term → ℕ
@@ -143,35 +147,40 @@ cost p [] ts = 0
 cost p (c ∷ cs) [] = 0
 cost p (c ∷ cs) (t ∷ ts) = cond (p c) (price c t) 0 + cost p cs ts
 
+-- 14 times the bytes of bases, with what stands around them
+abbrev worth : Terms → ℕ
+worth none = 0
+worth (also e es) = 14 * (sizes (also e es) + 18)
+
+worth-sizes : (es : Terms) → 14 * sizes es ≤ worth es
+unfolding size
+worth-sizes none = omega arith
+worth-sizes (also e es) = omega arith
+
 module _ (t : Target) where
-  bases-cost : (cs : List Clause) (ts : List Term) → sizes (select (isBase t) cs ts) ≤ cost (hasTarget t) cs ts
+  bases-cost : (cs : List Clause) (ts : List Term) → worth (select (isBase t) cs ts) ≤ cost (hasTarget t) cs ts
   unfolding select size cost
   bases-cost [] ts = omega arith
   bases-cost (c ∷ cs) [] = omega arith
-  bases-cost (c ∷ cs) (u ∷ ts) = go (hasTarget t c) (eqb (c .parent) 255) (bases-cost cs ts)
+  bases-cost (c ∷ cs) (u ∷ ts) = go (hasTarget t c) (eqb (c .parent) 255) (select (isBase t) cs ts) (bases-cost cs ts)
     where
-      go : (a b : Bool) → sizes (select (isBase t) cs ts) ≤ cost (hasTarget t) cs ts
-          → sizes (cond (a && b) (also u (select (isBase t) cs ts)) (select (isBase t) cs ts))
-          ≤ cond a (cond b (excepted u) 0 + 18) 0 + cost (hasTarget t) cs ts
-      go true true h = omega arith
-      go true false h = omega arith
-      go false b h = omega arith
+      go : (a b : Bool) (es : Terms) → worth es ≤ cost (hasTarget t) cs ts
+          → worth (cond (a && b) (also u es) es) ≤ cond a (cond b (charge u) 0 + 196) 0 + cost (hasTarget t) cs ts
+      go true true es h = omega (arith, worth-sizes es)
+      go true false es h = omega arith
+      go false b es h = omega arith
 
   -- one clause at least has the target
-  some-cost : (cs : List Clause) (ts : List Term) → length ts ≡ length cs → any (hasTarget t) cs ≡ true
-      → sizes (select (isBase t) cs ts) + 18 ≤ cost (hasTarget t) cs ts
-  unfolding select size cost any
+  some-cost : (cs : List Clause) (ts : List Term) → length ts ≡ length cs → any (hasTarget t) cs ≡ true → 196 ≤ cost (hasTarget t) cs ts
+  unfolding cost any
   some-cost [] ts l e = absurd (false≢true e)
   some-cost (c ∷ cs) [] l e = absurd (omega arith)
-  some-cost (c ∷ cs) (u ∷ ts) l e = go (hasTarget t c) (eqb (c .parent) 255) e (bases-cost cs ts) (some-cost cs ts (omega arith))
+  some-cost (c ∷ cs) (u ∷ ts) l e = go (hasTarget t c) e (some-cost cs ts (omega arith))
     where
-      go : (a b : Bool) → (a || any (hasTarget t) cs) ≡ true → sizes (select (isBase t) cs ts) ≤ cost (hasTarget t) cs ts
-          → (any (hasTarget t) cs ≡ true → sizes (select (isBase t) cs ts) + 18 ≤ cost (hasTarget t) cs ts)
-          → sizes (cond (a && b) (also u (select (isBase t) cs ts)) (select (isBase t) cs ts)) + 18
-          ≤ cond a (cond b (excepted u) 0 + 18) 0 + cost (hasTarget t) cs ts
-      go true true e h r = omega arith
-      go true false e h r = omega arith
-      go false b e h r = omega (arith, r e)
+      go : (a : Bool) → (a || any (hasTarget t) cs) ≡ true → (any (hasTarget t) cs ≡ true → 196 ≤ cost (hasTarget t) cs ts)
+          → 196 ≤ cond a (price c u) 0 + cost (hasTarget t) cs ts
+      go true e r = omega arith
+      go false e r = omega (arith, r e)
 
   no-base : (cs : List Clause) (ts : List Term) → any (hasTarget t) cs ≡ false → select (isBase t) cs ts ≡ none
   unfolding select any
@@ -184,16 +193,14 @@ module _ (t : Target) where
   no-rule [] e = refl
   no-rule (c ∷ cs) e = let h = neither (hasTarget t c) (any (hasTarget t) cs) e in rw (h .0, no-rule cs (h .1))
 
-  without-size : (ts : Terms) → size (withoutRules ts) ≤ 15 + sizes ts
-  unfolding size
-  without-size none = omega arith
-  without-size (also u none) = omega arith
-  without-size (also u (also w ws)) = omega arith
-
-  with-size : (ts : Terms) → size (withRules ts) ≤ 15 + sizes ts
-  unfolding size
-  with-size none = omega arith
-  with-size (also u us) = omega arith
+-- a tree, with an override's store
+tree-size : (b : Bool) (ts : Terms) (k : ℕ) → worth ts ≤ k → 196 ≤ k → 14 * (size (cond b (withRules ts) (withoutRules ts)) + 3) ≤ k
+unfolding size
+tree-size true none k h l = omega arith
+tree-size true (also u us) k h l = omega arith
+tree-size false none k h l = omega arith
+tree-size false (also u none) k h l = omega arith
+tree-size false (also u (also w ws)) k h l = omega arith
 
 module _ (s : Scope) where
   terms-length : (n : ℕ) (cs : List Clause) → length (clauseTerms s n cs) ≡ length cs
@@ -208,28 +215,24 @@ module _ (s : Scope) where
   abbrev costOf : Target → ℕ
   costOf t = cost (hasTarget t) (s .clauses) terms
 
-  tree-cost : (t : Target) → hasClause s t ≡ true → size (tree s t) + 3 ≤ costOf t
+  tree-cost : (t : Target) → hasClause s t ≡ true → 14 * (size (tree s t) + 3) ≤ costOf t
   unfolding tree bases
   tree-cost t e =
-      let more = some-cost t (s .clauses) terms (terms-length 0 (s .clauses)) e in
-      go (hasRule s t) (select (isBase t) (s .clauses) terms) more
-    where
-      go : (b : Bool) (ts : Terms) → sizes ts + 18 ≤ costOf t → size (cond b (withRules ts) (withoutRules ts)) + 3 ≤ costOf t
-      go true ts h = omega (arith, with-size t ts)
-      go false ts h = omega (arith, without-size t ts)
+      tree-size (hasRule s t) (select (isBase t) (s .clauses) terms) (costOf t) (bases-cost t (s .clauses) terms)
+      (some-cost t (s .clauses) terms (terms-length 0 (s .clauses)) e)
 
   empty-tree : (t : Target) → hasClause s t ≡ false → size (tree s t) ≡ 1
   unfolding tree bases hasRule size
   empty-tree t e = rw (no-rule t (s .clauses) e, no-base t (s .clauses) terms e)
 
-  own-cost : (t : Target) → size (tree s t) ≤ 1 + costOf t
+  own-cost : (t : Target) → 14 * size (tree s t) ≤ 14 + costOf t
   own-cost t =
       ⊎-elim
       (λ (q : hasClause s t ≡ true). omega (arith, tree-cost t q))
       (λ (q : hasClause s t ≡ false). omega (arith, empty-tree t q))
       (decide (hasClause s t))
 
-  called-cost : (c v : ℕ) → override s c v ≤ costOf (calledTarget c v)
+  called-cost : (c v : ℕ) → 14 * override s c v ≤ costOf (calledTarget c v)
   called-cost c v =
       ⊎-elim
       (λ (q : hasClause s (calledTarget c v) ≡ true). rw q (tree-cost (calledTarget c v) q))
@@ -260,15 +263,15 @@ range-split f a (suc p) m =
     let r = range-split f (suc a) p m in
     rw (e, d) (omega (arith, r))
 
--- term by term, n more each
+-- 14 times a sum, term by term, n more each
 range-most : (f g : ℕ → ℕ) (n : ℕ) (most : ℕ → ℕ) → ((m : ℕ) → n + most m ≤ most (suc m)) → (a b m : ℕ)
-    → ((k : ℕ) → k < m → f (a + k) ≤ n + g (b + k)) → range f a m ≤ most m + range g b m
+    → ((k : ℕ) → k < m → 14 * f (a + k) ≤ n + g (b + k)) → 14 * range f a m ≤ most m + range g b m
 unfolding range
 range-most f g n most more a b zero h = omega arith
 range-most f g n most more a b (suc m) h =
     let za : a + 0 ≡ a = omega arith in
     let zb : b + 0 ≡ b = omega arith in
-    let here : f a ≤ n + g b = rw (za, zb) at (h 0 (omega arith)) in
+    let here : 14 * f a ≤ n + g b = rw (za, zb) at (h 0 (omega arith)) in
     let rest = range-most f g n most more (suc a) (suc b) m (λ k l.
     let ya : suc a + k ≡ a + suc k = omega arith in
     let yb : suc b + k ≡ b + suc k = omega arith in
@@ -352,21 +355,39 @@ module _ (own subs : ℕ) (theirs : ℕ → ℕ) (few : subs ≤ 255) where
 
 -- The cost of all clauses
 
-roots-cost : (cs : List Clause) (ts : List Term) → cost (λ c. true) cs ts ≤ 18 * length cs + sizes (select (λ c. eqb (c .parent) 255) cs ts)
-unfolding cost select size
+roots-cost : (cs : List Clause) (ts : List Term) → cost (λ c. true) cs ts ≤ 196 * length cs + allOf charge (select (λ c. eqb (c .parent) 255) cs ts)
+unfolding cost select allOf
 roots-cost [] ts = omega arith
 roots-cost (c ∷ cs) [] = omega arith
 roots-cost (c ∷ cs) (t ∷ ts) = go (eqb (c .parent) 255) (select (λ d. eqb (d .parent) 255) cs ts) (roots-cost cs ts)
   where
-    go : (b : Bool) (es : Terms) → cost (λ d. true) cs ts ≤ 18 * length cs + sizes es
-        → cond b (excepted t) 0 + 18 + cost (λ d. true) cs ts ≤ 18 * suc (length cs) + sizes (cond b (also t es) es)
+    go : (b : Bool) (es : Terms) → cost (λ d. true) cs ts ≤ 196 * length cs + allOf charge es
+        → cond b (charge t) 0 + 196 + cost (λ d. true) cs ts ≤ 196 * suc (length cs) + allOf charge (cond b (also t es) es)
     go true es h = omega arith
     go false es h = omega arith
 
-excepted-sum : (s : Scope) (xs : List ℕ) → sum (λ m. excepted (termOf s m)) xs ≤ 14 * sum (partsOf s) xs
+named-sum : (s : Scope) (xs : List ℕ) → sum (named s) xs ≡ 46 * sum (weightOf bytes s) xs
 unfolding sum
-excepted-sum s [] = omega arith
-excepted-sum s (x ∷ xs) = omega (arith, size-parts (termOf s x), excepted-sum s xs)
+named-sum s [] = omega arith
+named-sum s (x ∷ xs) = omega (arith, named-sum s xs)
+
+-- the nodes' own bytes
+nodes-bytes : (f : ℕ → ℕ) (xs : List Node) (a : ℕ) → ((k : ℕ) → k < length xs → f (a + k) ≡ nodeBytes (getD xs k noNode)) → range f a (length xs) ≡ allBytes xs
+unfolding range allBytes
+nodes-bytes f [] a h = refl
+nodes-bytes f (x ∷ xs) a h =
+    let z : a + 0 ≡ a = omega arith in
+    let here : f a ≡ nodeBytes x = ap f (sym z) ∙ h 0 (omega arith) in
+    let rest = nodes-bytes f xs (suc a) (λ k l. let y : suc a + k ≡ a + suc k = omega arith in ap f y ∙ h (suc k) (omega arith)) in
+    omega (arith, here, rest)
+
+all-nodes : (s : Scope) → range (ownOf bytes s) 0 (length (s .nodes)) ≡ allBytes (s .nodes)
+unfolding termOf
+all-nodes s =
+    nodes-bytes (ownOf bytes s) (s .nodes) 0
+    (λ k l.
+    let z : 0 + k ≡ k = omega arith in
+    rw z (ap bytes (term-here (s .nodes) (length (s .nodes)) k l) ∙ made-bytes (termBelow (s .nodes) k) (getD (s .nodes) k noNode)))
 
 -- Blocks
 
@@ -388,6 +409,11 @@ once-sum : (f : ℕ → ℕ) (edge : ℕ → ℕ → Bool) (n : ℕ) (xs : List 
 once-sum f edge n xs c =
     sum-below n xs (no-repeats xs (c .once)) (λ x e. let p = among-place xs x e in let b = c .below (p .0) (p .1) in omega (arith, b, p .2)) f
 
+-- code that is short beside the records of a scope
+record Short (size : ℕ) (s : Scope) : Type 0 where
+  seven : size ≤ 7 * (1 + inner s)
+  tight : 14 * size ≤ 46 * (1 + inner s) + 33856
+
 module _ (book : List Scope) (s : Scope) (within : WithinLimits s) (formed : WellFormed book s)
     (complete : CompleteOrder (dependsOn s) (stepCount s) (stepOrder s)) where
   abbrev v : ℕ
@@ -396,13 +422,14 @@ module _ (book : List Scope) (s : Scope) (within : WithinLimits s) (formed : Wel
   abbrev n : ℕ
   n = length (s .subScopes)
 
-  all-cost : cost (λ c. true) (s .clauses) (terms s) ≤ 42 * length (s .clauses) + 14 * length (s .nodes)
+  all-cost : cost (λ c. true) (s .clauses) (terms s) ≤ 532 * length (s .clauses) + 46 * allBytes (s .nodes)
   all-cost =
       let few = within .clauses in
-      let sized = clause-sizes s (s .clauses) 0 (λ c. eqb (c .parent) 255) (λ c e l. omega (arith, eqb-true (c .parent) 255 e)) in
-      omega (arith, roots-cost (s .clauses) (terms s), sized, excepted-sum s (gathered clauseNodes (s .clauses)), named-parts book s formed)
+      let nodes = gathered clauseNodes (s .clauses) in
+      let sized = clause-code s (s .clauses) 0 (λ c. eqb (c .parent) 255) (λ c e l. omega (arith, eqb-true (c .parent) 255 e)) in
+      omega (arith, roots-cost (s .clauses) (terms s), sized, named-sum s nodes, named-weight book s formed bytes, all-nodes s)
 
-  own-step : (k : ℕ) → k < v → stepSize book s (0 + k) ≤ 7 + costOf s (ownTarget (0 + k))
+  own-step : (k : ℕ) → k < v → 14 * stepSize book s (0 + k) ≤ 98 + costOf s (ownTarget (0 + k))
   unfolding stepSize
   own-step k l =
       let z : 0 + k ≡ k = omega arith in
@@ -411,55 +438,74 @@ module _ (book : List Scope) (s : Scope) (within : WithinLimits s) (formed : Wel
   abbrev called : ℕ → ℕ
   called k = range (λ x. costOf s (calledTarget k x)) 0 (variablesOf book s k)
 
-  call-step : (k : ℕ) → k < n → stepSize book s (0 + v + k) ≤ 2 + called (0 + k)
+  call-step : (k : ℕ) → k < n → 14 * stepSize book s (0 + v + k) ≤ 28 + called (0 + k)
   unfolding stepSize
   call-step k l =
       let z : 0 + k ≡ k = omega arith in
       let y : 0 + v + k ≡ v + k = omega arith in
       let d : v + k - v ≡ k = omega arith in
       rw (z, y, le-ltb (v + k) v (omega arith), d)
-      (omega (arith, range-least (override s k) (λ x. costOf s (calledTarget k x)) 0 (variablesOf book s k) (called-cost s k)))
+      (omega (
+        arith,
+        range-most (override s k) (λ x. costOf s (calledTarget k x)) 0 (λ m. 0) (λ m. omega arith) 0 0 (variablesOf book s k)
+            (λ x h. omega (arith, called-cost s k (0 + x))),
+      ))
 
-  block-most : 2 + 2 * length (s .variables) + 2 * length (s .subScopes) + sum (stepSize book s) (stepOrder s) ≤ 7 * (1 + inner s)
+  block-most : 14 * (2 + 2 * length (s .variables) + 2 * length (s .subScopes) + sum (stepSize book s) (stepOrder s))
+      ≤ 28 + 126 * length (s .variables) + 56 * length (s .subScopes) + 532 * length (s .clauses) + 46 * allBytes (s .nodes)
   unfolding stepCount
   block-most =
       let few = within .subScopes in
       let steps = once-sum (stepSize book s) (dependsOn s) (v + n) (stepOrder s) complete in
       let split = range-split (stepSize book s) 0 v n in
-      let own = range-most (stepSize book s) (λ x. costOf s (ownTarget x)) 7 (λ m. 7 * m) (λ m. omega arith) 0 0 v own-step in
-      let calls = range-most (stepSize book s) called 2 (λ m. 2 * m) (λ m. omega arith) (0 + v) 0 n call-step in
+      let own = range-most (stepSize book s) (λ x. costOf s (ownTarget x)) 98 (λ m. 98 * m) (λ m. omega arith) 0 0 v own-step in
+      let calls = range-most (stepSize book s) called 28 (λ m. 28 * m) (λ m. omega arith) (0 + v) 0 n call-step in
       omega (arith, steps, split, own, calls, targets-cost v n (variablesOf book s) (omega arith) (s .clauses) (terms s), all-cost)
+
+  -- by the book's bytes alone, and with the limits of variables and clauses
+  block-bytes : Short (2 + 2 * length (s .variables) + 2 * length (s .subScopes) + sum (stepSize book s) (stepOrder s)) s
+  block-bytes =
+      let few = within .variables in
+      let less = within .clauses in
+      record { seven = omega (arith, block-most); tight = omega (arith, block-most) }
 
 -- Books
 
-range-scopes : (f : ℕ → ℕ) (ss : List Scope) (a : ℕ) → ((k : ℕ) → k < length ss → f (a + k) ≤ 7 * (1 + inner (getD ss k emptyScope)))
-    → range f a (length ss) ≤ 7 * together ss
-unfolding range together
-range-scopes f [] a h = omega arith
-range-scopes f (s ∷ ss) a h =
-    let z : a + 0 ≡ a = omega arith in
-    let here : f a ≤ 7 * (1 + inner s) = subst (λ (k : ℕ). f k ≤ 7 * (1 + inner s)) z (h 0 (omega arith)) in
-    let rest = range-scopes f ss (suc a) (λ k l.
-    let y : a + suc k ≡ suc a + k = omega arith in
-    subst (λ (m : ℕ). f m ≤ 7 * (1 + inner (getD ss k emptyScope))) y (h (suc k) (omega arith))) in
-    omega (arith, here, rest)
+module _ (f : ℕ → ℕ) where
+  range-scopes : (ss : List Scope) (a : ℕ) → ((k : ℕ) → k < length ss → Short (f (a + k)) (getD ss k emptyScope))
+      → (range f a (length ss) ≤ 7 * together ss) × (14 * range f a (length ss) ≤ 46 * together ss + 33856 * length ss)
+  unfolding range together
+  range-scopes [] a h = (omega arith, omega arith)
+  range-scopes (s ∷ ss) a h =
+      let z : a + 0 ≡ a = omega arith in
+      let here : Short (f a) s = subst (λ (k : ℕ). Short (f k) s) z (h 0 (omega arith)) in
+      let rest = range-scopes ss (suc a) (λ k l.
+      let y : a + suc k ≡ suc a + k = omega arith in
+      subst (λ (m : ℕ). Short (f m) (getD ss k emptyScope)) y (h (suc k) (omega arith))) in
+      (omega (arith, here .seven, rest .0), omega (arith, here .tight, rest .1))
 
 module _ (bytes : List ℕ) (n : ℕ) (accepted : judge bytes ≡ Accepted n) where
-  pub code-bound : length (codeOf (scopesOf bytes)) ≤ 7 * length bytes
+  both-bounds : (length (codeOf (scopesOf bytes)) ≤ 7 * length bytes) × (14 * length (codeOf (scopesOf bytes)) ≤ 46 * length bytes + 33856 * n)
   unfolding codeOf
-  code-bound =
+  both-bounds =
       let book = scopesOf bytes in
       let a = accepted-book bytes n accepted in
       let sound = scan-sound (records bytes) .1 (accepted-faultless bytes n accepted .sound) in
       let count = a .count in
-      let most : range (blockSize book) 0 (length book) ≤ 7 * together book =
-      range-scopes (blockSize book) book 0 (λ k l.
+      let most = range-scopes (blockSize book) book 0 (λ k l.
       let z : k ≡ 0 + k = omega arith in
-      subst (λ (i : ℕ). blockSize book i ≤ 7 * (1 + inner (scopeAt book k))) z
-      (block-most book (scopeAt book k) (a .within k) (a .formed k (omega arith)) (a .stepOrders k (omega arith)))) in
+      subst (λ (i : ℕ). Short (blockSize book i) (scopeAt book k)) z
+      (block-bytes book (scopeAt book k) (a .within k) (a .formed k (omega arith)) (a .stepOrders k (omega arith)))) in
       let once : sum (blockSize book) (blocks book) ≤ range (blockSize book) 0 n = once-sum (blockSize book) (calls book) n (blocks book) (a .blockOrder) in
       let same : range (blockSize book) 0 n ≡ range (blockSize book) 0 (length book) = ap (range (blockSize book) 0) count in
-      omega (arith, blocks-length book (blocks book), once, same, most, scopes-bytes bytes sound)
+      let long = blocks-length book (blocks book) in
+      let held = scopes-bytes bytes sound in
+      (omega (arith, long, once, same, most .0, held), omega (arith, long, once, same, most .1, held))
 
-  pub code-max : length (codeOf (scopesOf bytes)) ≤ 229376
-  code-max = omega (arith, code-bound, accepted-book bytes n accepted .size)
+  pub code-bound : length (codeOf (scopesOf bytes)) ≤ 7 * length bytes
+  code-bound = both-bounds .0
+
+  pub code-max : length (codeOf (scopesOf bytes)) ≤ 185051
+  code-max =
+      let a = accepted-book bytes n accepted in
+      omega (arith, both-bounds .1, a .size, a .scopes)

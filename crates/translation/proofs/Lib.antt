@@ -4,6 +4,7 @@ pub mod Sums
 pub mod Bounds
 pub mod Sayable
 pub mod Runnable
+pub mod Hefts
 pub mod Bytes
 pub mod Lengths
 pub mod Examples

@@ -1,5 +1,5 @@
 -- How large a term is, by one count: the term itself and every term in it. The other measures are bounded by it.
---     parts-all, sizes-all    the parts and the code of exceptions, as sums
+--     parts-all         the parts of exceptions, as a sum
 --     size-parts        the bytes of its code
 --     leaves-parts      its leaves
 --     defaults-parts    its defaults
@@ -13,20 +13,28 @@ use Rattle.calculus.specs.declared.Value.the-variants.{Truth, Number}
 use Rattle.translation.specs.Code.{literalSize, ifAny, size, sizes}
 use Rattle.translation.specs.Measures.{leaves, allLeaves, defaults, allDefaults}
 
+-- what each term has of its own, over the term itself and every term in it
 unfoldable mutual
-  pub parts : Term → ℕ
-  parts (literal v) = 1
-  parts (own x) = 1
-  parts (called s x) = 1
-  parts (error c) = 1
-  parts (unary op a) = suc (parts a)
-  parts (binary op a b) = suc (parts a + parts b)
-  parts (choice c a b) = suc (parts c + parts a + parts b)
-  parts (default es j c) = suc (allParts es + parts j + parts c)
+  pub weigh : (Term → ℕ) → Term → ℕ
+  weigh w (literal v) = w (literal v)
+  weigh w (own x) = w (own x)
+  weigh w (called s x) = w (called s x)
+  weigh w (error c) = w (error c)
+  weigh w (unary op a) = w (unary op a) + weigh w a
+  weigh w (binary op a b) = w (binary op a b) + (weigh w a + weigh w b)
+  weigh w (choice c a b) = w (choice c a b) + (weigh w c + weigh w a + weigh w b)
+  weigh w (default es j c) = w (default es j c) + (allWeigh w es + weigh w j + weigh w c)
 
-  pub allParts : Terms → ℕ
-  allParts none = 0
-  allParts (also e es) = parts e + allParts es
+  pub allWeigh : (Term → ℕ) → Terms → ℕ
+  allWeigh w none = 0
+  allWeigh w (also e es) = weigh w e + allWeigh w es
+
+-- one each
+abbrev pub parts : Term → ℕ
+parts t = weigh (λ u. 1) t
+
+abbrev pub allParts : Terms → ℕ
+allParts es = allWeigh (λ u. 1) es
 
 -- a measure of terms, of exceptions together
 unfoldable pub allOf : (Term → ℕ) → Terms → ℕ
@@ -34,18 +42,9 @@ allOf f none = 0
 allOf f (also e es) = f e + allOf f es
 
 pub parts-all : (es : Terms) → allParts es ≡ allOf parts es
-unfolding parts allOf
+unfolding weigh allOf
 parts-all none = omega arith
 parts-all (also e es) = omega (arith, parts-all es)
-
--- the code of a term as an exception: nine bytes more
-abbrev pub excepted : Term → ℕ
-excepted t = size t + 9
-
-pub sizes-all : (es : Terms) → sizes es ≡ allOf excepted es
-unfolding size allOf
-sizes-all none = omega arith
-sizes-all (also e es) = omega (arith, sizes-all es)
 
 literal-size : (v : Value) → literalSize v ≤ 5
 literal-size (Truth b) = omega arith
@@ -57,7 +56,7 @@ around none = omega arith
 around (also e es) = omega arith
 
 mutual
-  unfolding parts size
+  unfolding weigh size
 
   pub size-parts : (t : Term) → size t + 9 ≤ 14 * parts t
   size-parts (literal v) = omega (arith, literal-size v)
@@ -74,7 +73,7 @@ mutual
   sizes-parts (also e es) = omega (arith, size-parts e, sizes-parts es)
 
 mutual
-  unfolding parts leaves
+  unfolding weigh leaves
 
   pub leaves-parts : (t : Term) → leaves t ≤ parts t
   leaves-parts (literal v) = omega arith
@@ -92,7 +91,7 @@ mutual
 
 -- a default has a justification and a consequence, each at least one part
 mutual
-  unfolding parts defaults
+  unfolding weigh defaults
 
   pub defaults-parts : (t : Term) → 2 * defaults t + 1 ≤ parts t
   defaults-parts (literal v) = omega arith

@@ -2,7 +2,7 @@
 --     append-below, gathered-below    numbers that are below a bound in each of several lists
 --     sum-append       over two lists
 --     sum-below        over a list in which no number stands twice: no more than over all numbers below a bound of them
---     range-gathered   over all numbers of things each of which adds one to what it names
+--     range-gathered   over all numbers of things each of which adds something to what it names
 -- Assumes nothing.
 use Prim.Native.Nat.{ℕ, zero, suc, _+_, _≤_, _<_}
 use mathlib.Core.Path.{_≡_, refl, sym, ap}
@@ -97,13 +97,14 @@ sum-below n (x ∷ xs) e below f =
     let rest = sum-below n xs (h .1) (λ y r. below y (among-rest x xs y r)) (except x f) in
     omega (arith, sum-except f x xs (h .0), rest, range-except f x 0 n (omega arith) (omega arith))
 
--- over all numbers from a on of things, each of which adds one to what it names
-pub range-gathered : {A : Type 0} (f : ℕ → ℕ) (names : A → List ℕ) (xs : List A) (a : ℕ) (d : A)
-    → ((i : ℕ) → i < length xs → f (a + i) ≡ suc (sum f (names (getD xs i d)))) → range f a (length xs) ≡ length xs + sum f (gathered names xs)
+-- over all numbers from a on of things, each of which adds something to what it names
+pub range-gathered : {A : Type 0} (f g : ℕ → ℕ) (names : A → List ℕ) (xs : List A) (a : ℕ) (d : A)
+    → ((i : ℕ) → i < length xs → f (a + i) ≡ g (a + i) + sum f (names (getD xs i d)))
+    → range f a (length xs) ≡ range g a (length xs) + sum f (gathered names xs)
 unfolding range gathered sum
-range-gathered f names [] a d h = omega arith
-range-gathered f names (x ∷ xs) a d h =
+range-gathered f g names [] a d h = omega arith
+range-gathered f g names (x ∷ xs) a d h =
     let z : a + 0 ≡ a = omega arith in
-    let here : f a ≡ suc (sum f (names x)) = rw z at (h 0 (omega arith)) in
-    let more = range-gathered f names xs (suc a) d (λ i l. let y : suc a + i ≡ a + suc i = omega arith in rw y (h (suc i) (omega arith))) in
+    let here : f a ≡ g a + sum f (names x) = rw z at (h 0 (omega arith)) in
+    let more = range-gathered f g names xs (suc a) d (λ i l. let y : suc a + i ≡ a + suc i = omega arith in rw y (h (suc i) (omega arith))) in
     omega (arith, here, more, sum-append f (names x) (gathered names xs))
