@@ -205,11 +205,12 @@ fn scopes_with(stage: usize, scopes: usize) -> usize
     if stage == 1 { scopes + 1 } else { scopes }
 }
 
-// How many bytes of a book may begin a scope.
-fn scope_bytes(book: &[u8]) -> usize
+// How many bytes of a short book may begin a scope. A count of two bytes lets the compiler count many at a time.
+fn scope_bytes(book: &[u8]) -> u16
+    requires { ⌜ length (now book) < 512 ⌝ }
     ensures { λ r. ⌜ r ≡ scopeBytes (now (book .entry)) ⌝ }
 {
-    let mut count: usize = 0;
+    let mut count: u16 = 0;
     let mut at: usize = 0;
     while at < book.len() {
         if book[at] == KIND_SCOPE {
