@@ -1,7 +1,7 @@
 //! A short explanation: what decided each result. Inputs stand in the heading, variables
 //! with one definition in one line; of a called scope only what is read of it is told.
 
-use crate::evaluation::{enter, Entry, Fate, Joined, Taken, Tree, Trial};
+use crate::evaluation::{enter, Entry, Fate, Joined, Row, Taken, Tree, Trial};
 use crate::explain::{deciding, ending, heading, line, Explanation};
 use crate::inputs::Given;
 use crate::rulebook::Rulebook;
@@ -25,6 +25,9 @@ pub fn explain_briefly(book: &Rulebook, file: &str, scope: usize, given: Given) 
     };
     text + &format!("{end}; scopes entered: {}\n", entry.count())
 }
+
+/// Of so many clauses it is said why they did not hold.
+const SHOWN: usize = 3;
 
 struct Brief<'a> {
     book: &'a Rulebook,
@@ -170,13 +173,25 @@ impl Explanation<'_> {
             }
             (Ok(value), _) => format!("{name} = {}, since no rule held", words::value(value)),
             (Err(failure), _) => {
-                format!(
-                    "{name} is {}: {}",
-                    words::failure(failure),
-                    self.why_none(&tree.bases)
-                )
+                let why = self.why_none(&tree.bases);
+                let over = self.passed_over(&tree.bases);
+                format!("{name} is {}: {why}{over}", words::failure(failure))
             }
         }
+    }
+
+    /// The first clauses of a row of which none held, and why.
+    fn passed_over(&self, row: &Row) -> String {
+        if row.joined != Joined::Nothing {
+            return String::new();
+        }
+        let clauses = &self.book.scopes[self.entry.scope].clauses;
+        let said = row.trials.iter().take(SHOWN).map(|trial| {
+            let clause = &clauses[usize::from(trial.clause)];
+            let name = self.clause_name(trial.clause);
+            format!("; {name} was {}", self.fate(clause, trial))
+        });
+        said.collect()
     }
 
     /// Why a clause held, and what it says where that is to be worked out.

@@ -180,7 +180,7 @@ impl Explanation<'_> {
         }
     }
 
-    fn fate(&self, clause: &Clause, trial: &Trial) -> String {
+    pub(crate) fn fate(&self, clause: &Clause, trial: &Trial) -> String {
         match trial.fate {
             None => self.by_exceptions(trial),
             Some(Fate::Held) => {

@@ -188,3 +188,17 @@ the run ends in conflict; scopes entered: 2
 ";
     assert_eq!(briefly(text, &[]), expected);
 }
+
+#[test]
+fn briefly_why_nothing_held() {
+    let text = "scope s variable n : number variable y : yes/no variable x : number
+define x under condition y and n >= 18 as 1
+define x under condition n < 5 as 2";
+    let expected = "\
+f: scope s, given n = 17, y = yes
+x is empty: no definition held; the definition at 2:1 was passed over, 'y and n >= 18' is no \
+(y = yes, n = 17); the definition at 3:1 was passed over, 'n < 5' is no (n = 17)
+the run ends empty: something needed has no value; scopes entered: 1
+";
+    assert_eq!(briefly(text, &["n=17", "y=yes"]), expected);
+}
