@@ -52,37 +52,40 @@ fn calls(book: &Rulebook) -> Vec<(usize, usize)> {
     calls
 }
 
-/// How far below a scope that nothing calls each scope stands.
+/// How far below a scope that nothing calls each scope stands; those by themselves stand
+/// below all others.
 fn ranks(book: &Rulebook) -> Vec<usize> {
+    let calls = calls(book);
     let mut ranks = vec![0; book.scopes.len()];
     // No scope reaches itself: after as many rounds as there are scopes all is settled.
     for _ in 0..book.scopes.len() {
-        for (caller, scope) in book.scopes.iter().enumerate() {
-            for &callee in &scope.subscopes {
-                let callee = usize::from(callee);
-                ranks[callee] = ranks[callee].max(ranks[caller] + 1);
-            }
+        for &(caller, callee) in &calls {
+            ranks[callee] = ranks[callee].max(ranks[caller] + 1);
+        }
+    }
+    let last = ranks.iter().copied().max().unwrap_or(0);
+    for (scope, rank) in ranks.iter_mut().enumerate() {
+        let alone = !calls.iter().any(|&(a, b)| a == scope || b == scope);
+        if alone && !calls.is_empty() {
+            *rank = last + 1;
         }
     }
     ranks
 }
 
-/// The scopes of each row: one rank a row, broken where it would be too wide. With each
-/// row, whether a rank begins with it.
-fn rows(ranks: &[usize], shapes: &[Shape]) -> Vec<(bool, Vec<usize>)> {
-    let mut rows: Vec<(bool, Vec<usize>)> = Vec::new();
+/// The scopes of each row: one rank a row, broken where it would be too wide.
+fn rows(ranks: &[usize], shapes: &[Shape]) -> Vec<Vec<usize>> {
+    let mut rows: Vec<Vec<usize>> = Vec::new();
     for rank in 0..=ranks.iter().copied().max().unwrap_or(0) {
-        rows.push((true, Vec::new()));
+        let mut row: Vec<usize> = Vec::new();
         for scope in (0..ranks.len()).filter(|&scope| ranks[scope] == rank) {
-            let row = rows.last().map_or(&[][..], |(_, row)| row);
-            let full = row_width(row, shapes) + 2 * GAP + shapes[scope].width() > WIDEST;
-            if full && !row.is_empty() {
-                rows.push((false, Vec::new()));
+            let width = row_width(&row, shapes) + 2 * GAP + shapes[scope].width();
+            if width > WIDEST && !row.is_empty() {
+                rows.push(std::mem::take(&mut row));
             }
-            if let Some((_, row)) = rows.last_mut() {
-                row.push(scope);
-            }
+            row.push(scope);
         }
+        rows.push(row);
     }
     rows
 }
@@ -98,21 +101,17 @@ fn place(book: &Rulebook) -> Vec<Placed> {
         .map(|s| scope_shape(book, s))
         .collect();
     let rows = rows(&ranks(book), &shapes);
-    let widest = rows.iter().map(|(_, row)| row_width(row, &shapes)).max();
+    let widest = rows.iter().map(|row| row_width(row, &shapes)).max();
     let mut places = vec![(0, 0); shapes.len()];
-    let mut below = 0;
-    for (first, row) in &rows {
-        let top = match (*first, below) {
-            (_, 0) => 0,
-            (true, below) => below + BETWEEN,
-            (false, below) => below + GAP,
-        };
+    let mut top = 0;
+    for row in &rows {
         let mut left = (widest.unwrap_or(0) - row_width(row, &shapes)) / 2;
         for &scope in row {
             places[scope] = (left, top);
             left += shapes[scope].width() + 2 * GAP;
-            below = below.max(top + shapes[scope].height());
         }
+        let highest = row.iter().map(|&scope| shapes[scope].height()).max();
+        top += highest.unwrap_or(0) + BETWEEN;
     }
     let placed = shapes.into_iter().zip(places);
     placed
@@ -160,7 +159,7 @@ fn paint_call(placed: &[Placed], caller: usize, callee: usize, paint: &mut Strin
     );
 }
 
-/// The names of the calls, in the middle of their line.
+/// The names of the calls, on their line where it comes to the row of what is called.
 fn paint_label(
     book: &Rulebook,
     placed: &[Placed],
@@ -168,20 +167,44 @@ fn paint_label(
     callee: usize,
     paint: &mut String,
 ) {
-    let [x, y, to_x, to_y] = ends(placed, caller, callee);
     let calls = book.scopes[caller].subscopes.iter();
     let names = calls.zip(&book.names[caller].subscopes);
     let own = names.filter(|(&called, _)| usize::from(called) == callee);
     let label: Vec<&str> = own.map(|(_, word)| word.text.as_str()).collect();
     let label = label.join(", ");
     let width = label.chars().count() * LETTER + 6;
-    let left = ((x + to_x) / 2).saturating_sub(width / 2);
-    let middle = (y + to_y) / 2;
+    let ends = ends(placed, caller, callee);
+    let height = ends[3] - BETWEEN / 2;
+    let left = across(ends, height).saturating_sub(width / 2);
     *paint += &format!(
         "<rect width=\"{width}\" height=\"16\" transform=\"translate({left} {})\" fill=\"white\"/>\n",
-        middle - 8
+        height - 8
     );
-    *paint += &text(left + 3, middle + 4, &label, false, "#1c3f6b");
+    *paint += &text(left + 3, height + 4, &label, false, "#1c3f6b");
+}
+
+/// Where the line of a call is at a height: the curve rises with its parameter.
+fn across([x, y, to_x, to_y]: [usize; 4], height: usize) -> usize {
+    let [x, y, to_x, to_y, height] = [x, y, to_x, to_y, height].map(|n| n as f64);
+    let half = (y + to_y) / 2.0;
+    let at = |t: f64, ends: [f64; 4]| {
+        let s = 1.0 - t;
+        let weights = [s * s * s, 3.0 * s * s * t, 3.0 * s * t * t, t * t * t];
+        weights
+            .iter()
+            .zip(ends)
+            .map(|(w, end)| w * end)
+            .sum::<f64>()
+    };
+    let (mut low, mut high) = (0.0, 1.0);
+    for _ in 0..30 {
+        let middle = (low + high) / 2.0;
+        match at(middle, [y, half, half, to_y]) < height {
+            true => low = middle,
+            false => high = middle,
+        }
+    }
+    at(low, [x, x, to_x, to_x]) as usize
 }
 
 #[cfg(test)]
@@ -190,10 +213,24 @@ mod tests {
     use crate::reading::to_rulebook;
 
     #[test]
+    fn a_line_is_followed_to_its_ends() {
+        assert_eq!(across([10, 0, 10, 64], 32), 10);
+        assert!(across([0, 0, 100, 64], 1) < 5);
+        assert!((48..=50).contains(&across([0, 0, 100, 64], 32)));
+        assert!(across([0, 0, 100, 264], 232) > 80);
+    }
+
+    #[test]
     fn callers_stand_above_what_they_call() {
         let text = "scope b variable y : yes/no scope a sub-scope k : b sub-scope l : b sub-scope m : c scope c sub-scope n : b";
         let book = to_rulebook(text).expect("a sound text");
         assert_eq!(ranks(&book), [2, 0, 1]);
+        let alone = to_rulebook("scope a scope b sub-scope k : c scope c").expect("a sound text");
+        assert_eq!(ranks(&alone), [2, 0, 1]);
+        assert_eq!(
+            ranks(&to_rulebook("scope a scope b").expect("a sound text")),
+            [0, 0]
+        );
         let svg = map(&book, "f");
         assert_eq!(svg.matches("<rect x=").count(), 3);
         assert!(svg.contains(">k, l</text>"));
