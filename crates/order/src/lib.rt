@@ -104,8 +104,8 @@ fn write_order(deps: &mut [u8], n: usize, out: &mut [u8]) -> Ordered
     Ordered::Taken(k)
 }
 
-// The order of n vertices, written from the first byte of `out`; no later byte changes. In the matrix only the vertices change from which
-// rows are read.
+// The order of n vertices, written from the first byte of `out`; no later byte changes. The matrix is used up: what it holds afterwards is
+// left open.
 pub fn fill_order(deps: &mut [u8], n: usize, out: &mut [u8]) -> Ordered
     ensures { λ r. ⌜ Filled (now (deps .entry)) n (now (out .entry)) r (now (out .exit)) ⌝ }
 {
