@@ -44,7 +44,6 @@ pub const ROWS: usize = 124;
 pub const ROW: usize = 418;
 
 // The columns where the positions of each sort begin.
-
 pub const VARIABLES: usize = 4;
 
 pub const SUB_SCOPES: usize = 36;
