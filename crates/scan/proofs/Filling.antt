@@ -137,11 +137,11 @@ module _ (bytes : List ℕ) (room : ℕ) (index : List ℕ) (last scopes at : �
 
   was-read : Read m st n
   unfolding stepAt metAt
-  was-read = read m (endAt bytes at) st next e .0
+  was-read = read m (endAt bytes at n) st next e .0
 
   next-is : next ≡ at + 1 + n
   unfolding stepAt
-  next-is = read m (endAt bytes at) st next e .1 ∙ ends-at bytes at t st n here was-read
+  next-is = read m (endAt bytes at n) st next e .1 ∙ ends-at bytes at t st n here was-read
 
   pub next-inside : (at < next) × (next ≤ length bytes)
   next-inside = let i = steps.room bytes at t st n here was-read in let q = next-is in (omega arith, omega arith)

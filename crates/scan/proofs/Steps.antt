@@ -57,11 +57,11 @@ module _ (index : List ℕ) (last scopes : ℕ) (s : List ℕ) (at next k st n :
   by-tests false false = refl
 
 pub step-record : (book : List ℕ) (at : ℕ) (index : List ℕ) (last scopes : ℕ) → at < length book
-    → byRecord index last scopes book at (endAt book at) (recordAt Book book at) ≡ stepAt book at (tallyOf index last scopes)
+    → byRecord index last scopes book at (endAt book at (shapeIn Book (getD book at 0) .length)) (recordAt Book book at) ≡ stepAt book at (tallyOf index last scopes)
 unfolding stepAt stepOf recordAt metAt tallyOf bodyAt
 step-record book at index last scopes h =
     rw (lt-ltb at (length book) h, length-drop (at + 1) book)
-    (by-tests index last scopes book at (endAt book at) (getD book at 0) (shapeIn Book (getD book at 0) .stage) (shapeIn Book (getD book at 0) .length)
+    (by-tests index last scopes book at (endAt book at (shapeIn Book (getD book at 0) .length)) (getD book at 0) (shapeIn Book (getD book at 0) .stage) (shapeIn Book (getD book at 0) .length)
     (eqb (shapeIn Book (getD book at 0) .stage) 0) (ltb (length book - (at + 1)) (shapeIn Book (getD book at 0) .length)))
 
 pub as-record : (book : List ℕ) (at : ℕ) (r : Record) → r ≡ bookRecordAt book at → r ≡ recordAt Book book at
@@ -69,17 +69,13 @@ unfolding bookRecordAt
 as-record book at r e = e
 
 pub by-record : (book : List ℕ) (at : ℕ) (index : List ℕ) (last scopes : ℕ) → at < length book → (r : Record) → r ≡ recordAt Book book at
-    → byRecord index last scopes book at (endAt book at) r ≡ stepAt book at (tallyOf index last scopes)
+    → byRecord index last scopes book at (endAt book at (shapeIn Book (getD book at 0) .length)) r ≡ stepAt book at (tallyOf index last scopes)
 by-record book at index last scopes h r e = rw e (step-record book at index last scopes h)
-
-pub whole-step : (book : List ℕ) (at : ℕ) (index : List ℕ) (last scopes : ℕ) → at < length book → (k st n : ℕ) → Whole k st n ≡ recordAt Book book at
-    → (body : List ℕ) → body ≡ bodyAt book at n → (next : ℕ) → next ≡ endAt book at
-    → stepOver index last scopes k st next body ≡ stepAt book at (tallyOf index last scopes)
-whole-step book at index last scopes h k st n r body eb next en = rw (eb, en) (by-record book at index last scopes h (Whole k st n) r)
 
 -- a whole record ends within the book, and has a stage
 pub record Standing (book : List ℕ) (at st n : ℕ) : Type 0 where
   pub inside : at + 1 + n ≤ length book
+  pub long : n ≡ shapeIn Book (getD book at 0) .length
   pub known : 1 ≤ st
   pub below : st ≤ 5
 
@@ -100,7 +96,14 @@ whole-record book at k st n e = go (ltb at (length book)) (eqb (shapeIn Book (ge
         let k = eqb-false (shapeIn Book (getD book at 0) .stage) 0 q in
         let w = ltb-false (length book - (at + 1)) (shapeIn Book (getD book at 0) .length) r in
         let b = stage-below (getD book at 0) in
-        record { inside = omega arith; known = omega arith; below = omega arith }
+        record { inside = omega arith; long = en; known = omega arith; below = omega arith }
+
+pub whole-step : (book : List ℕ) (at : ℕ) (index : List ℕ) (last scopes : ℕ) → at < length book → (k st n : ℕ) → Whole k st n ≡ recordAt Book book at
+    → (body : List ℕ) → body ≡ bodyAt book at n → (next : ℕ) → next ≡ endAt book at n
+    → stepOver index last scopes k st next body ≡ stepAt book at (tallyOf index last scopes)
+whole-step book at index last scopes h k st n r body eb next en =
+    let en' : next ≡ endAt book at (shapeIn Book (getD book at 0) .length) = en ∙ ap (endAt book at) (whole-record book at k st n r .long) in
+    rw (eb, en') (by-record book at index last scopes h (Whole k st n) r)
 
 -- what a step answers where the rest answers r
 abbrev pub answer : Step → Scanned → Scanned
@@ -184,19 +187,19 @@ module _ (book : List ℕ) (at : ℕ) (t : Tally) (s n : ℕ) (inside : at < len
       (ap (λ (l : List Met). metAt book at t ∷ l)
       (skip n (drop (at + 1) book) (counted s t) (rw length-drop (omega (arith, room))) ∙ ap (λ (l : List ℕ). recordsFrom l 0 (counted s t)) (drop-drop n (at + 1) book)))
 
-  -- it is whole
-  pub ends-at : endAt book at ≡ at + 1 + n
-  unfolding endAt bookRecordAt recordAt metAt
+  -- where it ends
+  pub ends-at : endAt book at n ≡ at + 1 + n
+  unfolding endAt metAt
   ends-at =
-      let w : ltb (length book - (at + 1)) (shapeIn Book (getD book at 0) .length) ≡ false = rw length-drop at (r .clean .whole) in
-      rw (lt-ltb at (length book) inside, r .clean .known, w, r .body)
+      let w : ltb (length book - (at + 1)) n ≡ false = rw (r .body) (rw length-drop at (r .clean .whole)) in
+      rw (lt-ltb at (length book) inside, w)
 
   pub scan-next : (next : ℕ) → Next s next ≡ stepAt book at t → scan (recordsFrom (drop (at + 1 + n) book) 0 (counted s t)) ≡ scan (recordsFrom (drop at book) 0 t)
   unfolding stepAt
   scan-next next e =
       sym
       (ap scan records-at
-      ∙ scan-answer (metAt book at t) (endAt book at) (recordsFrom (drop (at + 1 + n) book) 0 (counted s t))
+      ∙ scan-answer (metAt book at t) (endAt book at (shapeIn Book (getD book at 0) .length)) (recordsFrom (drop (at + 1 + n) book) 0 (counted s t))
       ∙ rw (← e))
 
 pub scan-stop : (book : List ℕ) (at : ℕ) (t : Tally) (f : Fault) → at < length book → Stop f ≡ stepAt book at t
@@ -205,7 +208,7 @@ unfolding stepAt
 scan-stop book at t f h e =
     sym
     (ap scan (records-head book at t h)
-    ∙ scan-answer (metAt book at t) (endAt book at) _
+    ∙ scan-answer (metAt book at t) (endAt book at (shapeIn Book (getD book at 0) .length)) _
     ∙ rw (← e))
 
 pub scan-end : (book : List ℕ) (at : ℕ) (t : Tally) → length book ≤ at → Sound ≡ scan (recordsFrom (drop at book) 0 t)

@@ -1,12 +1,12 @@
 -- One record of a book, as the pass over the records reads it.
-use Prim.Native.Nat.{ℕ, _+_}
+use Prim.Native.Nat.{ℕ, _+_, _-_}
 use mathlib.Core.Bool.{cond, not}
 use mathlib.Core.List.{List}
-use lib.ListN.{getD, drop}
+use lib.ListN.{length, getD, drop}
+use lib.Dec.{ltb}
+use Rattle.record.specs.Kinds.{shapeIn}
 use Rattle.record.specs.Record.{recordAt}
 use Rattle.record.specs.declared.Record.{Record}
-use Rattle.record.specs.declared.Record.the-variants.{End, Unknown, Whole}
-use Rattle.record.specs.declared.Record.the-variants.{Truncated as Record·Truncated}
 use Rattle.record.specs.declared.Medium.the-variants.{Book}
 use Rattle.book.specs.declared.Tally.{Tally}
 use Rattle.answers.specs.declared.Fault.the-variants.{Truncated, UnknownKind, OutOfOrder, LimitExceeded, InvalidByte}
@@ -29,23 +29,16 @@ stepOf m next =
 unfoldable pub bookRecordAt : List ℕ → ℕ → Record
 bookRecordAt bytes at = recordAt Book bytes at
 
--- where a record that stands at a position ends; at that position, if it is not whole
-abbrev pub endOf : ℕ → Record → ℕ
-endOf at End = at
-endOf at Unknown = at
-endOf at Record·Truncated = at
-endOf at (Whole k s n) = at + 1 + n
-
--- "reading goes on from the record after the last one read"
-unfoldable pub endAt : List ℕ → ℕ → ℕ
-endAt bytes at = endOf at (bookRecordAt bytes at)
+-- "reading goes on from the record after the last one read": after a record at a position, its body of n bytes; at that position, if it is not whole
+unfoldable pub endAt : List ℕ → ℕ → ℕ → ℕ
+endAt bytes at n = cond (ltb at (length bytes)) (cond (ltb (length bytes - (at + 1)) n) at (at + 1 + n)) at
 
 -- the record that begins at a position
 unfoldable pub metAt : List ℕ → ℕ → Tally → Met
 metAt bytes at t = record { before = t; kind = getD bytes at 0; rest = drop (at + 1) bytes }
 
 unfoldable pub stepAt : List ℕ → ℕ → Tally → Step
-stepAt bytes at t = stepOf (metAt bytes at t) (endAt bytes at)
+stepAt bytes at t = stepOf (metAt bytes at t) (endAt bytes at (shapeIn Book (getD bytes at 0) .length))
 
 -- of a whole record, up to the next one, the faults 3, 4 and 5
 unfoldable pub stepOver : List ℕ → ℕ → ℕ → ℕ → ℕ → ℕ → List ℕ → Step

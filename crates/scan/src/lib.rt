@@ -88,16 +88,18 @@ fn book_record_at(book: &[u8], at: usize) -> Record
     record_at(Medium::Book, book, at)
 }
 
-// The position after the record at a position; the same position where no whole record stands.
-fn end_at(book: &[u8], at: usize) -> usize
-    ensures { λ r. ⌜ r ≡ endAt (now (book .entry)) at ⌝ }
+// The position after a record at a position, its body of so many bytes; the same position where the book ends before.
+fn end_at(book: &[u8], at: usize, length: usize) -> usize
+    ensures { λ r. ⌜ r ≡ endAt (now (book .entry)) at length ⌝ }
 {
-    match book_record_at(book, at) {
-        Record::End => at,
-        Record::Unknown => at,
-        Record::Truncated => at,
-        Record::Whole(_, _, length) => at + 1 + length,
+    if book.len() <= at {
+        return at;
     }
+    let start = at + 1;
+    if book.len() - start < length {
+        return at;
+    }
+    start + length
 }
 
 // A reader of a book, from a position on.
@@ -114,13 +116,13 @@ fn next<'a>(r: Reader<'a>) -> Record
     book_record_at(r.src, r.at)
 }
 
-// The reader after the record at a reader's position.
-fn after<'a>(r: Reader<'a>) -> Reader<'a>
-    ensures { λ s. ⌜ (s .src ≡ r .entry .src) × (s .at ≡ endAt (now (r .entry .src)) (r .entry .at)) ⌝ }
+// The reader after the record at a reader's position, its body of so many bytes.
+fn after<'a>(r: Reader<'a>, length: usize) -> Reader<'a>
+    ensures { λ s. ⌜ (s .src ≡ r .entry .src) × (s .at ≡ endAt (now (r .entry .src)) (r .entry .at) length) ⌝ }
 {
     Reader {
         src: r.src,
-        at: end_at(r.src, r.at),
+        at: end_at(r.src, r.at, length),
     }
 }
 
@@ -131,10 +133,10 @@ fn read_from(book: &[u8], at: usize) -> Record
     next(open_at(book, at))
 }
 
-fn read_on(book: &[u8], at: usize) -> usize
-    ensures { λ r. ⌜ r ≡ endAt (now (book .entry)) at ⌝ }
+fn read_on(book: &[u8], at: usize, length: usize) -> usize
+    ensures { λ r. ⌜ r ≡ endAt (now (book .entry)) at length ⌝ }
 {
-    let reader = after(open_at(book, at));
+    let reader = after(open_at(book, at), length);
     reader.at
 }
 
@@ -175,7 +177,7 @@ fn step_at(book: &[u8], index: &[u16], at: usize, last: usize, scopes: usize) ->
         Record::Truncated => Step::Stop(Fault::Truncated),
         Record::Whole(kind, stage, length) => {
             let body = body_at(book, at, length);
-            let next = read_on(book, at);
+            let next = read_on(book, at, length);
             step_over(index, last, scopes, kind, stage, next, body)
         }
     }

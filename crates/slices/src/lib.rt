@@ -10,10 +10,10 @@ ghost use Rattle.slices.specs.Bytes.{overwrite};
 pub fn part_of(s: &[u8], start: usize, length: usize) -> &[u8]
     ensures { λ r. ⌜ now r ≡ take length (drop start (now (s .entry))) ⌝ }
 {
-    if s.len() <= start {
+    if s.len() < start {
         return &s[..0];
     }
-    if s.len() - start <= length {
+    if s.len() - start < length {
         return &s[start..];
     }
     &s[start..start + length]

@@ -1,6 +1,6 @@
 -- `slices::part_of` meets its contract.
 -- Assumes nothing.
-use Prim.Native.Nat.{_-_}
+use Prim.Native.Nat.{_-_, _≤_}
 use native.Mathlib.Omega.{arith}
 use lib.Seq.{take-nil, take-all}
 use lib.ListN.{take, drop, drop-of-length-le, length-drop, length}
@@ -15,7 +15,7 @@ slice-aggregate-result : tie.Need-slice-aggregate-result
 slice-aggregate-result c = search needs
 
 returns : tie.Need-returns
-returns c = sym (ap (take (c .before .before .args .length)) (drop-of-length-le (now (c .before .before .args .s)) (c .before .if1 .taken)) ∙ take-nil (c .before .before .args .length))
+returns c = let l : length (now (c .before .before .args .s)) ≤ c .before .before .args .start = omega (arith, c .before .if1 .taken) in sym (ap (take (c .before .before .args .length)) (drop-of-length-le (now (c .before .before .args .s)) l) ∙ take-nil (c .before .before .args .length))
 
 sub-if2 : tie.Need-sub-if2
 sub-if2 c = search needs
