@@ -1,9 +1,11 @@
 -- What running answers, of any code and any input list.
 --     ran-answered             the cases of an answer
 --     run-light               a run enters no more scopes than the weight of the scope asked for, which is 4,096 at most
+--     run-weighs              a run that ends in values enters exactly that many
+--     run-some                a run that ends otherwise has entered one at least
 --     run-fits                values are one for each variable, of its type
 --     ran-values              of values: the results have the length known before the run, fit the memory and are written from its first byte
---     ran-end                 of an end: not one byte is written
+--     ran-end                 of an end: at least one scope was entered, and not one byte is written
 --     ran-refused             of a refusal: not one byte is written
 --     ran-unchanged           of anything but values: not one byte is written
 --     ran-size                the memory keeps its length
@@ -49,6 +51,7 @@ use Rattle.blocks.proofs.Blocks.{back-all}
 use Rattle.blocks.proofs.Limits.{limits}
 use Rattle.blocks.proofs.Invariant.{GivensFit, RanGood, Within, block-good, fit-of, run-within}
 use Rattle.blocks.proofs.Scopes.{givens-fit}
+use Rattle.runner.proofs.Counts.{AtLeast, run-at-least}
 
 -- Cases
 
@@ -180,6 +183,17 @@ module _ (code : List ℕ) (accepts : accepted code ≡ true) (i : ℕ) where
   pub run-light : (given : List Given) → countIn (reply (runIn (blocksOf code) i given) .answer) ≤ weightIn (blocksOf code) i
   run-light given = within-count (runIn (blocksOf code) i given) (weightIn (blocksOf code) i) (run-within (blocksOf code) (formed code accepts) i given)
 
+  pub run-weighs : (given : List Given) (vs : List Value) (count : ℕ) → runIn (blocksOf code) i given ≡ ran (values vs count)
+      → count ≡ weightIn (blocksOf code) i
+  run-weighs given vs count e =
+      let weight = weightIn (blocksOf code) i in
+      let least = subst (λ (r : Ran). AtLeast r weight) e (run-at-least (blocksOf code) i given) in
+      let most = subst (λ (r : Ran). Within r weight) e (run-within (blocksOf code) (formed code accepts) i given) in
+      omega (arith, least, most)
+
+  pub run-some : (given : List Given) (cause : Cause) (count : ℕ) → runIn (blocksOf code) i given ≡ ran (ended cause count) → 1 ≤ count
+  run-some given cause count e = subst (λ (r : Ran). AtLeast r (weightIn (blocksOf code) i)) e (run-at-least (blocksOf code) i given)
+
   light : weightIn (blocksOf code) i ≤ 4096
   light = weight-small (blocksOf code) (formed code accepts) i
 
@@ -232,7 +246,7 @@ module _ (code : List ℕ) (i : ℕ) (list memory : List ℕ) where
         finals = vs;
         run = h ∙ ap (λ (m : ℕ). ran (values vs m)) count;
         typed = run-fits code (a .asked .accepts) i (a .given) (a .fitting) vs k h;
-        most = omega (arith, counts a (ran (values vs k)) h, count);
+        weighs = sym count ∙ run-weighs code (a .asked .accepts) i (a .given) vs k h;
         long = sym (is ∙ size);
         fits = omega (arith, a .enough, is, size);
         whole = size;
@@ -251,6 +265,7 @@ module _ (code : List ℕ) (i : ℕ) (list memory : List ℕ) where
       record {
         entering = a;
         run = h ∙ ap (λ (x : Cause). ran (ended x k)) (ap causeIn e) ∙ ap (λ (m : ℕ). ran (ended d m)) count;
+        some = omega (arith, run-some code (a .asked .accepts) i (a .given) cause k h, count);
         most = omega (arith, counts a (ran (ended cause k)) h, count);
         unchanged = refl;
       }

@@ -1,3 +1,4 @@
 mod Types
+mod Counts
 pub mod Answers
 mod Service

@@ -51,7 +51,8 @@ pub record InValues (code : List ℕ) (i : ℕ) (list memory : List ℕ) (count 
   pub finals : List Value
   pub run : runIn (blocksOf code) i (entering .given) ≡ ran (values finals count)
   pub typed : ValuesFit (variablesOf (blocksOf code) i) finals
-  pub most : count ≤ weightIn (blocksOf code) i
+  -- "in a run that ends with values it equals the weight"
+  pub weighs : count ≡ weightIn (blocksOf code) i
   pub long : size ≡ resultLength (variablesOf (blocksOf code) i)
   pub fits : size ≤ length memory
   pub whole : length (results finals) ≡ size
@@ -61,5 +62,6 @@ pub record InValues (code : List ℕ) (i : ℕ) (list memory : List ℕ) (count 
 pub record InEnd (code : List ℕ) (i : ℕ) (list memory : List ℕ) (cause : Cause) (count : ℕ) (after : List ℕ) : Type 0 where
   pub entering : Entering code i list (length memory)
   pub run : runIn (blocksOf code) i (entering .given) ≡ ran (ended cause count)
+  pub some : 1 ≤ count
   pub most : count ≤ weightIn (blocksOf code) i
   pub unchanged : after ≡ memory
