@@ -35,7 +35,7 @@ use Rattle.trees.specs.Rows.{Evaluable}
 use Rattle.evaluation.specs.Run.{ended}
 use Rattle.evaluation.proofs.Entering.{accepted-complete, accepted-formed}
 use Rattle.scopes.specs.Steps.{stepOutcome, HandedAll, enteredAt, Came}
-use Rattle.scopes.specs.Known.{Known, Noting, Recalled, Entry, RunsSteps}
+use Rattle.scopes.specs.Known.{Known, Noting, Entry, RunsSteps}
 use Rattle.scopes.specs.declared.Ran.{Ran}
 use Rattle.scopes.specs.declared.Ran.the-variants.{Values, Ended}
 use Rattle.scopes.proofs.Cells.{Stored, valued, ends-by, stored, kept-none, pasted-length}
@@ -153,10 +153,10 @@ module _ {bytes index links orders : List ℕ} {i : ℕ} {given₀ own₀ memo�
   pub called-few : length (s .subScopes) ≤ 8
   called-few = e .world .sound .subScopes i
 
-  -- where nothing was recalled, the steps are run in cells that are cleared
-  pub runs-steps : (n : ℕ) {own : List ℕ} {r : ℕ} → Recalled bytes i given₀ r own → length (s .subScopes) * 32 ≤ n
+  -- the steps are run in cells that are cleared
+  pub runs-steps : (n : ℕ) {own : List ℕ} → length own ≡ 32 → AllKept own → length (s .subScopes) * 32 ≤ n
       → RunsSteps bytes index links orders i given₀ own (replicate n 0) memo₀
-  runs-steps n f l =
+  runs-steps n room kept l =
       let long : length {A = ℕ} (replicate n 0) ≡ n = length-replicate {A = ℕ} n 0 in
       record {
         entry = record {
@@ -164,8 +164,8 @@ module _ {bytes index links orders : List ℕ} {i : ℕ} {given₀ own₀ memo�
           scope = e .scope;
           givenRoom = e .givenRoom;
           givenKept = e .givenKept;
-          room = f .size;
-          kept = f .kept;
+          room = room;
+          kept = kept;
           known = e .known;
         };
         calledRoom = omega (arith, long);

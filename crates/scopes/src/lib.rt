@@ -177,7 +177,7 @@ fn run_steps(
             let j = sub_scope_at(book, index, i, k);
             let from = k * VARIABLES;
             let part = &mut called[from..from + VARIABLES];
-            match enter(book, index, links, orders, j, &handed, part, memo) {
+            match enter_sub(book, index, links, orders, j, &handed, part, memo) {
                 Ran::Values(m) => count += m,
                 Ran::Ended(c, m) => return Ran::Ended(c, count + m),
             }
@@ -187,9 +187,9 @@ fn run_steps(
     Ran::Values(count)
 }
 
-// Enters scope i: runs its steps, and leaves the values of its variables in `own`. What is known is not run again. Cells for the variables of
-// sub-scopes are cleared at each entry, so there are none where it has none, and few where it has one or two.
-pub fn enter(
+// Enters scope i for a scope that calls it: runs its steps, and leaves the values of its variables in `own`. What is known is not run again.
+// Cells for the variables of sub-scopes are cleared at each entry, so there are none where it has none, and few where it has one or two.
+fn enter_sub(
     book: &[u8],
     index: &[u16],
     links: &[u8],
@@ -215,6 +215,29 @@ pub fn enter(
     if calls <= 2 {
         let mut few = [0u64; 64];
         return run_steps(book, index, links, orders, i, given, own, &mut few, memo);
+    }
+    let mut all = [0u64; 256];
+    run_steps(book, index, links, orders, i, given, own, &mut all, memo)
+}
+
+// Enters scope i: runs its steps, and leaves the values of its variables in `own`.
+pub fn enter(
+    book: &[u8],
+    index: &[u16],
+    links: &[u8],
+    orders: &[u8],
+    i: usize,
+    given: &[u64],
+    own: &mut [u64],
+    memo: &mut [u64],
+) -> Ran
+    requires { ⌜ Entry (now book) (now index) (now links) (now orders) i (now given) (now own) (now memo) ⌝ }
+    ensures { λ r. ⌜ Came (now (book .entry)) i (now (given .entry)) r (now (own .exit)) ⌝ }
+    ensures { λ _. ⌜ Known (now (book .entry)) (now (memo .exit)) ⌝ }
+{
+    if sub_scope_count(book, index, i) == 0 {
+        let mut none = [0u64; 1];
+        return run_steps(book, index, links, orders, i, given, own, &mut none, memo);
     }
     let mut all = [0u64; 256];
     run_steps(book, index, links, orders, i, given, own, &mut all, memo)
