@@ -73,6 +73,7 @@ fn node_of(book: &[u8], at: usize) -> Node
         KIND_EQUAL => Node::Binary(Binary::Equal, a, book[at + 2]),
         KIND_LESS => Node::Binary(Binary::Less, a, book[at + 2]),
         KIND_CHOICE => Node::Choice(a, book[at + 2], book[at + 3]),
+        // A default: a node has no other kind.
         _ => Node::Default(a, book[at + 2], book[at + 3], book[at + 4], book[at + 5]),
     }
 }

@@ -572,6 +572,7 @@ fn control(kind: u8, rest: &[u8], st: &mut [u64], h: usize, tr: &mut [usize], t:
         KIND_PUSH_NOTHING => push(st, h, 0, 0, t),
         KIND_JOIN => join_top(st, h, t),
         KIND_SETTLE => settle(distance(rest, 0), st, h, t),
+        // Never met in accepted code: `step` and the entry of blocks do the other kinds.
         _ => Move::Stuck,
     }
 }
@@ -603,6 +604,7 @@ pub fn step(
         KIND_STORE => store_at(rest, heads, p, st, h, t, own, flags),
         KIND_OVERRIDE => override_at(rest, heads, places, p, marks, st, h, t, called),
         KIND_JUMP_IF_GIVEN => jump_if_given(first(rest), distance(rest, 1), own, flags, h, t),
+        // The kinds that use stack and tries alone.
         _ => control(kind, rest, st, h, tr, t),
     }
 }

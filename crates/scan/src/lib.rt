@@ -63,6 +63,7 @@ fn slot_of(stage: usize) -> Slot
             base: NODES,
             limit: 250,
         },
+        // Clauses: a whole record has no other stage.
         _ => Slot {
             base: CLAUSES,
             limit: 128,

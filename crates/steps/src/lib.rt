@@ -80,6 +80,7 @@ fn write_order(deps: &mut [u8], n: usize, out: &mut [u8]) -> usize
 {
     match fill_order(deps, n, out) {
         Ordered::Taken(k) => k,
+        // Never met: n is at most 40, and matrix and memory have room for it.
         Ordered::Unfit => 0,
     }
 }

@@ -248,6 +248,7 @@ fn landing_of(kind: u8, body: &[u8], u: Progress, heads: &[u8], sizes: &[usize])
         KIND_JUMP_IF_NO => Landing::Ahead(distance(body, 0)),
         KIND_ENTER => ahead_if(names_below(body, u.subs), 0),
         KIND_JUMP_IF_GIVEN => ahead_if(names_below(body, u.variables), distance(body, 1)),
+        // The others name nothing and have no distance.
         _ => Landing::Ahead(0),
     }
 }
