@@ -1,6 +1,7 @@
 // Records: the shape of each kind, and the record at a position.
-use slices::part_of;
 ghost use mathlib.Core.Path.{_≡_};
+ghost use Prim.Native.Nat.{_+_, _<_};
+ghost use lib.ListN.{length};
 ghost use Rattle.record.specs.Kinds.{shapesOf, shapeIn};
 ghost use Rattle.record.specs.Record.{recordAt, bodyAt};
 
@@ -180,12 +181,11 @@ pub fn record_at(medium: Medium, s: &[u8], at: usize) -> Record
     Record::Whole(kind, stage, length)
 }
 
-// The body of the record at a position, of so many bytes, as the part of s after its kind.
-pub fn body_at(s: &[u8], at: usize, length: usize) -> &[u8]
-    ensures { λ r. ⌜ now r ≡ bodyAt (now (s .entry)) at length ⌝ }
+// The body of the whole record at a position, of n bytes, as the part of s after its kind.
+pub fn body_at(s: &[u8], at: usize, n: usize) -> &[u8]
+    requires { ⌜ at + n < length (now s) ⌝ }
+    ensures { λ r. ⌜ now r ≡ bodyAt (now (s .entry)) at n ⌝ }
 {
-    if s.len() <= at {
-        return &s[..0];
-    }
-    part_of(s, at + 1, length)
+    let start = at + 1;
+    &s[start..start + n]
 }

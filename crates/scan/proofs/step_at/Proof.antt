@@ -1,6 +1,7 @@
 -- `scan::step_at` meets its contract.
 -- Assumes nothing.
 use mathlib.Core.Path.{sym, _∙_}
+use native.Mathlib.Omega.{arith}
 use Rattle.record.specs.declared.Record.the-variants.{End, Unknown, Truncated}
 use Rattle.scan.proofs.Steps.{as-record, by-record, whole-step, whole-record}
 use borrow.Author.Needs.{needs}
@@ -23,7 +24,7 @@ enum-known-kind : tie.Need-enum-known-kind
 enum-known-kind c = search needs
 
 body-at-requires : tie.Need-body-at-requires
-body-at-requires c κs = search needs
+body-at-requires c κs = let w = whole-record _ _ _ _ _ (sym (c .before .kind .given .1) ∙ as-record _ _ _ (c .before .before .before .read-from .ensures)) in omega arith
 
 read-on-requires : tie.Need-read-on-requires
 read-on-requires c κs = search needs

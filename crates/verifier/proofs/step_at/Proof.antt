@@ -48,7 +48,7 @@ add-next-2 : tie.Need-add-next-2
 add-next-2 c = let h = next-within _ _ _ _ _ _ _ _ (c .before .before .before .before .before .before .before .before .before .before .before .before .pre .1) (c .before .before .before .before .before .before .before .before .before .before .before .before .pre .0) _ (c .before .is-faulty .ensures) (c .if2 .left) _ (c .before .before .before .before .shape-in .ensures) in omega arith
 
 body-at-requires : tie.Need-body-at-requires
-body-at-requires c κs = search needs
+body-at-requires c κs = let h = next-within _ _ _ _ _ _ _ _ (c .before .before .before .before .before .before .before .before .before .before .before .before .pre .1) (c .before .before .before .before .before .before .before .before .before .before .before .before .pre .0) _ (c .before .is-faulty .ensures) (c .if2 .left) _ (c .before .before .before .before .shape-in .ensures) in omega arith
 
 sub-instruction : tie.Need-sub-instruction
 sub-instruction c = let h = next-within _ _ _ _ _ _ _ _ (c .before .before .before .before .before .before .before .before .before .before .before .before .before .pre .1) (c .before .before .before .before .before .before .before .before .before .before .before .before .before .pre .0) _ (c .before .before .is-faulty .ensures) (c .before .if2 .left) _ (c .before .before .before .before .before .shape-in .ensures) in omega arith
