@@ -27,7 +27,7 @@ use Rattle.evaluation.specs.Evaluate as evaluation
 use Rattle.evaluation.specs.Evaluate.{countIn, Reply, evaluate, memoryAfter}
 use Rattle.evaluation.specs.Answers.{Replied}
 use Rattle.answers.specs.declared.Refusal.{Refusal}
-use Rattle.answers.specs.declared.Refusal.the-variants.{Book, NoSuchScope, BadInput, BufferTooSmall, BadCode, Stuck}
+use Rattle.answers.specs.declared.Refusal.the-variants.{Book, NoSuchScope, BadInput, BufferTooSmall, BadCode, Stuck, BadChoice}
 use Rattle.answers.specs.declared.Answer.{Answer}
 use Rattle.answers.specs.declared.Answer.the-variants.{Values, Ended, Refused}
 use Rattle.evaluation.proofs.Counts.{values-count, ended-count}
@@ -49,6 +49,7 @@ refusesCode BadInput = false
 refusesCode BufferTooSmall = false
 refusesCode BadCode = true
 refusesCode Stuck = true
+refusesCode BadChoice = false
 
 abbrev ofCode : Answer → Bool
 ofCode (Values c l) = false

@@ -5,11 +5,11 @@ use Rattle.answers.specs.declared.Cause.the-variants.{Empty, Conflict, O
 use Rattle.answers.specs.declared.Fault.{Fault}
 use Rattle.answers.specs.declared.Fault.the-variants.{Truncated, UnknownKind, OutOfOrder, LimitExceeded, InvalidByte, DanglingReference, SharedNode, TypeMismatch, MixedClauses, ScopeCycle, WeightExceeded, DependencyCycle}
 use Rattle.answers.specs.declared.Refusal.{Refusal}
-use Rattle.answers.specs.declared.Refusal.the-variants.{Book, NoSuchScope, BadInput, BufferTooSmall, BadCode, Stuck}
+use Rattle.answers.specs.declared.Refusal.the-variants.{Book, NoSuchScope, BadInput, BufferTooSmall, BadCode, Stuck, BadChoice}
 use Rattle.answers.specs.declared.Judged.{Judged}
 use Rattle.answers.specs.declared.Judged.the-variants as judged
-use Rattle.answers.specs.declared.Compiled.{Compiled}
-use Rattle.answers.specs.declared.Compiled.the-variants as compiled
+use Rattle.answers.specs.declared.Produced.{Produced}
+use Rattle.answers.specs.declared.Produced.the-variants as produced
 use Rattle.answers.specs.declared.Answer.{Answer}
 use Rattle.answers.specs.declared.Answer.the-variants as answer
 
@@ -36,6 +36,8 @@ refusalNumber BadInput = 14
 refusalNumber BufferTooSmall = 15
 refusalNumber BadCode = 16
 refusalNumber Stuck = 17
+-- the first change request: "Turned away: 18"
+refusalNumber BadChoice = 18
 
 -- the number of an outcome without values, as in the first change request: "one byte of outcome (0 values, 1 empty, 2 conflict, 3 out of range)"
 abbrev pub causeNumber : Cause → ℕ
@@ -60,9 +62,9 @@ judgedNumbers (judged.Accepted n) = record { refusal = 0; outcome = 0; count = 0
 judgedNumbers (judged.Refused f) = refusedNumbers (Book f)
 
 -- "compiling, like each later writer, the length written"
-abbrev pub compiledNumbers : Compiled → Numbers
-compiledNumbers (compiled.Written n) = record { refusal = 0; outcome = 0; count = 0; length = n }
-compiledNumbers (compiled.Refused r) = refusedNumbers r
+abbrev pub producedNumbers : Produced → Numbers
+producedNumbers (produced.Written n) = record { refusal = 0; outcome = 0; count = 0; length = n }
+producedNumbers (produced.Refused r) = refusedNumbers r
 
 -- "an evaluation or a run its outcome, its count and the length of the results (0 without values)"
 abbrev pub answerNumbers : Answer → Numbers

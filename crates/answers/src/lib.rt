@@ -29,7 +29,7 @@ pub enum Judged {
     Refused(Fault),
 }
 
-// Why a service refuses: the numbers 1 to 17.
+// Why a service refuses: the numbers 1 to 18.
 pub enum Refusal {
     Book(Fault),
     NoSuchScope,
@@ -37,6 +37,7 @@ pub enum Refusal {
     BufferTooSmall,
     BadCode,
     Stuck,
+    BadChoice,
 }
 
 // What evaluating and running answer: the count of scopes entered and, where the run ends in values, the length of the results.
@@ -46,8 +47,8 @@ pub enum Answer {
     Refused(Refusal),
 }
 
-// What compiling answers: the length written, or why nothing is.
-pub enum Compiled {
+// What compiling and tabulating answer: the length written, or why nothing is.
+pub enum Produced {
     Written(usize),
     Refused(Refusal),
 }

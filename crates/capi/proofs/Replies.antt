@@ -6,9 +6,9 @@ use Prim.Native.Nat.{ℕ}
 use mathlib.Core.Path.{_≡_, _∙_, ap}
 use mathlib.Core.List.{List}
 use lib.ListN.{length}
-use Rattle.answers.specs.Numbers.{Numbers, compiledNumbers, answerNumbers}
+use Rattle.answers.specs.Numbers.{Numbers, producedNumbers, answerNumbers}
 use Rattle.answers.specs.declared.Answer.{Answer}
-use Rattle.answers.specs.declared.Compiled.{Compiled}
+use Rattle.answers.specs.declared.Produced.{Produced}
 use Rattle.evaluation.specs.Evaluate.{Reply, evaluate, Replies}
 use Rattle.compiler.specs.Compile.{Compiles}
 use Rattle.machine.specs.Service.{run}
@@ -16,16 +16,16 @@ use Rattle.numbers.specs.Packed.{packed, wrapped, Placed, Says}
 use Rattle.numbers.proofs.Unpacking.{says}
 use Rattle.engine.proofs.Placed.{compile-placed, evaluate-placed, run-placed}
 use Rattle.capi.specs.Replies.{PackedReply, PackedEvaluation, PackedRun}
-use Rattle.capi.specs.Compiled.{PackedCompilation}
+use Rattle.capi.specs.Productions.{PackedCompilation}
 
 -- the answer given is the one expected
 pub said : {A : Type 0} (numbers : A → Numbers) {given expected : A} {r : ℕ} → Placed (numbers expected) → given ≡ expected
     → r ≡ packed (wrapped (numbers given)) → Says (numbers expected) r
 said numbers {given} {expected} {r} room same packs = says (numbers expected) r room (packs ∙ ap (λ x. packed (wrapped (numbers x))) same)
 
-pub compiled : {bytes before : List ℕ} {c : Compiled} {r : ℕ} {after : List ℕ} → Compiles bytes before c after → r ≡ packed (wrapped (compiledNumbers c))
+pub compiled : {bytes before : List ℕ} {c : Produced} {r : ℕ} {after : List ℕ} → Compiles bytes before c after → r ≡ packed (wrapped (producedNumbers c))
     → PackedCompilation bytes before r after
-compiled {bytes} {before} h packs = record { answer = said compiledNumbers (compile-placed bytes before) (h .answer) packs; memory = h .memory }
+compiled {bytes} {before} h packs = record { answer = said producedNumbers (compile-placed bytes before) (h .answer) packs; memory = h .memory }
 
 replied : {reply : Reply} {before : List ℕ} {a : Answer} {r : ℕ} {after : List ℕ} → Placed (answerNumbers (reply .answer))
     → Replies reply before a after → r ≡ packed (wrapped (answerNumbers a)) → PackedReply reply before r after

@@ -1,2 +1,2 @@
 pub mod Replies
-pub mod Compiled
+pub mod Productions

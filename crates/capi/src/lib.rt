@@ -4,7 +4,7 @@ use engine::evaluate;
 use engine::judge;
 use engine::run;
 use numbers::pack_answer;
-use numbers::pack_compiled;
+use numbers::pack_produced;
 use numbers::pack_judged;
 ghost use mathlib.Core.Path.{_≡_};
 ghost use lib.ListN.{length};
@@ -12,7 +12,7 @@ ghost use Rattle.book.specs.Judge.{judge as Judge·judge};
 ghost use Rattle.answers.specs.Numbers.{judgedNumbers};
 ghost use Rattle.numbers.specs.Packed.{Says};
 ghost use Rattle.capi.specs.Replies.{PackedEvaluation, PackedRun};
-ghost use Rattle.capi.specs.Compiled.{PackedCompilation};
+ghost use Rattle.capi.specs.Productions.{PackedCompilation};
 
 // Judges a book: refusal * 2^56 + number of scopes.
 #[no_mangle]
@@ -27,7 +27,7 @@ pub extern "C" fn engine_judge(book: &[u8]) -> u64
 pub extern "C" fn engine_compile(book: &[u8], code: &mut [u8]) -> u64
     ensures { λ r. ⌜ PackedCompilation (now (book .entry)) (now (code .entry)) r (now (code .exit)) ⌝ }
 {
-    pack_compiled(compile(book, code))
+    pack_produced(compile(book, code))
 }
 
 // Evaluates a scope: refusal * 2^56 + outcome * 2^48 + count * 2^32 + length; results are written where the run ends in values.

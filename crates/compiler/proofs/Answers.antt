@@ -13,8 +13,9 @@ use Rattle.answers.specs.declared.Fault.{Fault}
 use Rattle.answers.specs.declared.Judged.{Judged}
 use Rattle.answers.specs.declared.Refusal.the-variants.{Book, BufferTooSmall}
 use Rattle.translation.specs.Blocks.{codeOf}
-use Rattle.compiler.specs.Compile.{Compilation, refuse, fitting, onJudged, compile, Compiles}
-use Rattle.answers.specs.declared.Compiled.the-variants.{Written, Refused}
+use Rattle.answers.specs.Production.{Production, refuse, fitting, onJudged}
+use Rattle.compiler.specs.Compile.{compile, Compiles}
+use Rattle.answers.specs.declared.Produced.the-variants.{Written, Refused}
 use Rattle.emitter.specs.Emission.{back, Emits}
 use Rattle.emitter.specs.Pieces.{bookPiece, bookSize}
 use Rattle.answers.specs.declared.Judged.the-variants as judged
@@ -24,7 +25,7 @@ pub refused : {bytes memory : List ℕ} {f : Fault} → judge bytes ≡ judged.R
 unfolding compile
 refused {bytes} {memory} {f} e =
     let c = ap (λ (j : Judged). onJudged j (fitting (codeOf (scopesOf bytes)) (length memory))) e in
-    record { answer = sym (ap (λ (x : Compilation). x .answer) c); memory = sym (ap (λ (x : Compilation). x .written ++ drop (length (x .written)) memory) c) }
+    record { answer = sym (ap (λ (x : Production). x .answer) c); memory = sym (ap (λ (x : Production). x .written ++ drop (length (x .written)) memory) c) }
 
 -- the last bytes, as a part of a slice
 abbrev rest : ℕ → List ℕ → List ℕ
@@ -48,13 +49,13 @@ module _ (bytes : List ℕ) (n : ℕ) (ok : judge bytes ≡ judged.Accepted n) w
   unfolding compile
   compiled room = ap (λ (j : Judged). onJudged j (fitting (codeOf (scopesOf bytes)) room)) ok
 
-  answers : {memory after : List ℕ} (c : Compilation) → fitting (codeOf (scopesOf bytes)) (length memory) ≡ c
+  answers : {memory after : List ℕ} (c : Production) → fitting (codeOf (scopesOf bytes)) (length memory) ≡ c
       → after ≡ c .written ++ drop (length (c .written)) memory → Compiles bytes memory (c .answer) after
   answers {memory} {after} c e h =
       let p = compiled (length memory) ∙ e in
       record {
-        answer = sym (ap (λ (x : Compilation). x .answer) p);
-        memory = h ∙ sym (ap (λ (x : Compilation). x .written ++ drop (length (x .written)) memory) p);
+        answer = sym (ap (λ (x : Production). x .answer) p);
+        memory = h ∙ sym (ap (λ (x : Production). x .written ++ drop (length (x .written)) memory) p);
       }
 
   pub short : {memory s o : List ℕ} {end : ℕ} → Emits s 0 (bookPiece bytes) (bookSize bytes) end o → length memory < end

@@ -20,15 +20,16 @@ use borrow.Author.Tests.{leb-true, leb-false}
 use Rattle.laws.proofs.Booleans.{decide}
 use Rattle.book.specs.Decode.{scopesOf}
 use Rattle.book.specs.Judge.{judge}
-use Rattle.answers.specs.Numbers.{compiledNumbers}
+use Rattle.answers.specs.Numbers.{producedNumbers}
 use Rattle.answers.specs.declared.Judged.{Judged}
 use Rattle.answers.specs.declared.Judged.the-variants as judged
 use Rattle.answers.specs.declared.Refusal.{Refusal}
-use Rattle.answers.specs.declared.Compiled.{Compiled}
-use Rattle.answers.specs.declared.Compiled.the-variants.{Written, Refused}
+use Rattle.answers.specs.declared.Produced.{Produced}
+use Rattle.answers.specs.declared.Produced.the-variants.{Written, Refused}
 use Rattle.translation.specs.Blocks.{codeOf}
 use Rattle.translation.proofs.Lengths.{code-bound, code-max}
-use Rattle.compiler.specs.Compile.{Compilation, fitting, onJudged, compile, codeMemory}
+use Rattle.answers.specs.Production.{Production, fitting, onJudged, producedMemory}
+use Rattle.compiler.specs.Compile.{compile}
 use Rattle.compiler.specs.Answers.{Replied, InCode}
 
 module _ (bytes : List ℕ) (room : ℕ) where
@@ -51,15 +52,15 @@ module _ (bytes : List ℕ) (room : ℕ) where
 
 -- Parts of an answer
 
-abbrev isWritten : Compiled → Bool
+abbrev isWritten : Produced → Bool
 isWritten (Written n) = true
 isWritten (Refused r) = false
 
-abbrev lengthIn : Compiled → ℕ
-lengthIn c = compiledNumbers c .length
+abbrev lengthIn : Produced → ℕ
+lengthIn c = producedNumbers c .length
 
 module _ (bytes memory : List ℕ) where
-  in-code : (n : ℕ) (c : Compilation) → Replied bytes (length memory) c → c .answer ≡ Written n → InCode bytes memory n (codeMemory c memory)
+  in-code : (n : ℕ) (c : Production) → Replied bytes (length memory) c → c .answer ≡ Written n → InCode bytes memory n (producedMemory c memory)
   in-code n c (Replied.faulty f h) e = absurd (false≢true (ap isWritten e))
   in-code n c (Replied.short m h l) e = absurd (false≢true (ap isWritten e))
   in-code n c (Replied.whole m h l) e =
@@ -73,45 +74,45 @@ module _ (bytes memory : List ℕ) where
         written = ap (λ (k : ℕ). codeOf (scopesOf bytes) ++ drop k memory) size;
       }
 
-  nothing-written : (c : Compilation) → Replied bytes (length memory) c → isWritten (c .answer) ≡ false → codeMemory c memory ≡ memory
+  nothing-written : (c : Production) → Replied bytes (length memory) c → isWritten (c .answer) ≡ false → producedMemory c memory ≡ memory
   nothing-written c (Replied.faulty f h) e = refl
   nothing-written c (Replied.short m h l) e = refl
   nothing-written c (Replied.whole m h l) e = absurd (false≢true (sym e))
 
   pub compiled-code : (size : ℕ) → compile bytes (length memory) .answer ≡ Written size
-      → InCode bytes memory size (codeMemory (compile bytes (length memory)) memory)
+      → InCode bytes memory size (producedMemory (compile bytes (length memory)) memory)
   compiled-code n = in-code n (compile bytes (length memory)) (compiled-replied bytes (length memory))
 
-  pub compiled-refused : (r : Refusal) → compile bytes (length memory) .answer ≡ Refused r → codeMemory (compile bytes (length memory)) memory ≡ memory
+  pub compiled-refused : (r : Refusal) → compile bytes (length memory) .answer ≡ Refused r → producedMemory (compile bytes (length memory)) memory ≡ memory
   compiled-refused r e = nothing-written (compile bytes (length memory)) (compiled-replied bytes (length memory)) (ap isWritten e)
 
   pub compiled-unchanged : ((size : ℕ) → compile bytes (length memory) .answer ≡ Written size → ⊥)
-      → codeMemory (compile bytes (length memory)) memory ≡ memory
+      → producedMemory (compile bytes (length memory)) memory ≡ memory
   compiled-unchanged other =
       nothing-written (compile bytes (length memory)) (compiled-replied bytes (length memory)) (not-written (compile bytes (length memory) .answer) other)
     where
-      not-written : (a : Compiled) → ((size : ℕ) → a ≡ Written size → ⊥) → isWritten a ≡ false
+      not-written : (a : Produced) → ((size : ℕ) → a ≡ Written size → ⊥) → isWritten a ≡ false
       not-written (Written n) h = absurd (h n refl)
       not-written (Refused r) h = refl
 
-  pub compiled-size : length (codeMemory (compile bytes (length memory)) memory) ≡ length memory
+  pub compiled-size : length (producedMemory (compile bytes (length memory)) memory) ≡ length memory
   compiled-size = by-answer (compile bytes (length memory) .answer) refl
     where
-      by-answer : (a : Compiled) → compile bytes (length memory) .answer ≡ a
-          → length (codeMemory (compile bytes (length memory)) memory) ≡ length memory
+      by-answer : (a : Produced) → compile bytes (length memory) .answer ≡ a
+          → length (producedMemory (compile bytes (length memory)) memory) ≡ length memory
       by-answer (Written n) e =
           let v = compiled-code n e in
           let whole = ap length (v .written) ∙ length-append (codeOf (scopesOf bytes)) (drop n memory) in
           omega (arith, whole, v .long, v .fits, length-drop n memory)
       by-answer (Refused r) e = ap length (compiled-refused r e)
 
-  written-length : (c : Compilation) → Replied bytes (length memory) c → (lengthIn (c .answer) ≡ length (c .written)) × (lengthIn (c .answer) ≤ 185051)
+  written-length : (c : Production) → Replied bytes (length memory) c → (lengthIn (c .answer) ≡ length (c .written)) × (lengthIn (c .answer) ≤ 185051)
   written-length c (Replied.faulty f h) = (refl, omega arith)
   written-length c (Replied.short m h l) = (refl, omega arith)
   written-length c (Replied.whole m h l) = (refl, code-max bytes m h)
 
-  pub compiled-length : compiledNumbers (compile bytes (length memory) .answer) .length ≡ length (compile bytes (length memory) .written)
+  pub compiled-length : producedNumbers (compile bytes (length memory) .answer) .length ≡ length (compile bytes (length memory) .written)
   compiled-length = written-length (compile bytes (length memory)) (compiled-replied bytes (length memory)) .0
 
-  pub compiled-most : compiledNumbers (compile bytes (length memory) .answer) .length ≤ 185051
+  pub compiled-most : producedNumbers (compile bytes (length memory) .answer) .length ≤ 185051
   compiled-most = written-length (compile bytes (length memory)) (compiled-replied bytes (length memory)) .1

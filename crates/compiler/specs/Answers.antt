@@ -8,12 +8,12 @@ use Rattle.book.specs.Judge.{judge}
 use Rattle.answers.specs.declared.Fault.{Fault}
 use Rattle.answers.specs.declared.Judged.the-variants as judged
 use Rattle.answers.specs.declared.Refusal.the-variants.{Book, BufferTooSmall}
-use Rattle.answers.specs.declared.Compiled.the-variants.{Written}
+use Rattle.answers.specs.declared.Produced.the-variants.{Written}
 use Rattle.translation.specs.Blocks.{codeOf}
-use Rattle.compiler.specs.Compile.{Compilation, refuse}
+use Rattle.answers.specs.Production.{Production, refuse}
 
 -- the cases of compiling a book, for a code memory of this length
-pub data Replied (bytes : List ℕ) (room : ℕ) : Compilation → Type 0 where
+pub data Replied (bytes : List ℕ) (room : ℕ) : Production → Type 0 where
   faulty : (f : Fault) → judge bytes ≡ judged.Refused f → Replied bytes room (refuse (Book f))
   short : (n : ℕ) → judge bytes ≡ judged.Accepted n → room < length (codeOf (scopesOf bytes)) → Replied bytes room (refuse BufferTooSmall)
   whole : (n : ℕ) → judge bytes ≡ judged.Accepted n → length (codeOf (scopesOf bytes)) ≤ room

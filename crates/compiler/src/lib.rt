@@ -1,5 +1,5 @@
 // Compiling a book: the service.
-use answers::Compiled;
+use answers::Produced;
 use answers::Judged;
 use answers::Refusal;
 use emitter::emit_blocks;
@@ -33,13 +33,13 @@ fn compile_through(
     n: usize,
     room: &mut [u8],
     code: &mut [u8],
-) -> Compiled
+) -> Produced
     requires { ⌜ Tabled (now book) (now index) (now blocks) (now orders) n ⌝ }
     ensures { λ r. ⌜ Compiles (now (book .entry)) (now (code .entry)) r (now (code .exit)) ⌝ }
 {
     let length = emit_blocks(book, index, blocks, orders, n, room);
     if code.len() < length {
-        return Compiled::Refused(Refusal::BufferTooSmall);
+        return Produced::Refused(Refusal::BufferTooSmall);
     }
     if length <= room.len() {
         let start = room.len() - length;
@@ -47,7 +47,7 @@ fn compile_through(
     } else {
         emit_blocks(book, index, blocks, orders, n, &mut code[..length]);
     }
-    Compiled::Written(length)
+    Produced::Written(length)
 }
 
 // Compiles an accepted book of n scopes. A short book gets less room, since clearing it takes time.
@@ -58,7 +58,7 @@ fn compile_accepted(
     orders: &[u8],
     n: usize,
     code: &mut [u8],
-) -> Compiled
+) -> Produced
     requires { ⌜ Tabled (now book) (now index) (now blocks) (now orders) n ⌝ }
     ensures { λ r. ⌜ Compiles (now (book .entry)) (now (code .entry)) r (now (code .exit)) ⌝ }
 {
@@ -75,7 +75,7 @@ fn compile_accepted(
 }
 
 // Compiles a book into lent memory, with an empty index.
-fn compile_in(book: &[u8], index: &mut [u16], code: &mut [u8]) -> Compiled
+fn compile_in(book: &[u8], index: &mut [u16], code: &mut [u8]) -> Produced
     requires { ⌜ Unfilled (now book) (now index) ⌝ }
     ensures { λ r. ⌜ Compiles (now (book .entry)) (now (code .entry)) r (now (code .exit)) ⌝ }
 {
@@ -85,12 +85,12 @@ fn compile_in(book: &[u8], index: &mut [u16], code: &mut [u8]) -> Compiled
     let judged = load(book, index, &mut blocks, &mut weights, &mut orders);
     match judged {
         Judged::Accepted(n) => { compile_accepted(book, index, &blocks, &orders, n, code) }
-        Judged::Refused(f) => Compiled::Refused(Refusal::Book(f)),
+        Judged::Refused(f) => Produced::Refused(Refusal::Book(f)),
     }
 }
 
 // Compiles a book into lent memory: the length written. A refusal leaves every byte as it was.
-pub fn compile(book: &[u8], code: &mut [u8]) -> Compiled
+pub fn compile(book: &[u8], code: &mut [u8]) -> Produced
     ensures { λ r. ⌜ Compiles (now (book .entry)) (now (code .entry)) r (now (code .exit)) ⌝ }
 {
     if has_few_scopes(book) {

@@ -7,15 +7,16 @@ use lib.Seq.{take-append-seam, drop-append-seam}
 use borrow.Author.Tests.{le-leb}
 use Rattle.book.specs.Decode.{scopesOf}
 use Rattle.book.specs.Judge.{judge}
-use Rattle.answers.specs.Numbers.{compiledNumbers}
+use Rattle.answers.specs.Numbers.{producedNumbers}
 use Rattle.answers.specs.declared.Judged.the-variants.{Accepted}
 use Rattle.evaluation.specs.Evaluate.{Reply, evaluate, memoryAfter}
 use Rattle.evaluator.specs.Service.{Evaluated}
 use Rattle.translation.specs.Blocks.{codeOf}
 use Rattle.machine.specs.Service.{run}
 use Rattle.agreement.proofs.Agreement.{agreement}
-use Rattle.compiler.specs.Compile.{Compilation, fitting, compile, Compiles}
-use Rattle.answers.specs.declared.Compiled.the-variants as compiled
+use Rattle.answers.specs.Production.{Production, fitting}
+use Rattle.compiler.specs.Compile.{compile, Compiles}
+use Rattle.answers.specs.declared.Produced.the-variants as produced
 use Rattle.runner.specs.Service.{Runs}
 use Rattle.engine.specs.Claim.{Memories, writtenCode, Agreed, Together}
 use Rattle.engine.specs.declared.Answers.{Answers}
@@ -29,15 +30,15 @@ module _ (bytes : List ℕ) (n i : ℕ) (list : List ℕ) (m : Memories) (r : An
   code = codeOf (scopesOf bytes)
 
   -- the code fits, so it is what compiling answers
-  compiles : compile bytes (length (m .codeBefore)) ≡ record { answer = compiled.Written (length code); written = code }
+  compiles : compile bytes (length (m .codeBefore)) ≡ record { answer = produced.Written (length code); written = code }
   unfolding compile fitting
   compiles = rw (accepts, le-leb (length code) (length (m .codeBefore)) fits)
 
-  answered : r .compiled ≡ compiled.Written (length code)
-  answered = compiling .answer ∙ ap (λ (c : Compilation). c .answer) compiles
+  answered : r .compiled ≡ produced.Written (length code)
+  answered = compiling .answer ∙ ap (λ (c : Production). c .answer) compiles
 
   memory : m .codeAfter ≡ code ++ drop (length code) (m .codeBefore)
-  memory = compiling .memory ∙ ap (λ (c : Compilation). c .written ++ drop (length (c .written)) (m .codeBefore)) compiles
+  memory = compiling .memory ∙ ap (λ (c : Production). c .written ++ drop (length (c .written)) (m .codeBefore)) compiles
 
   wrote : writtenCode m r ≡ code
   wrote = rw (answered, memory) (take-append-seam code (drop (length code) (m .codeBefore)))
@@ -75,7 +76,7 @@ module _ (bytes : List ℕ) (n i : ℕ) (list : List ℕ) (m : Memories) (r : An
 -- from what the services ensure; the code run is a part of the code memory
 pub together : (bytes : List ℕ) (i : ℕ) (list : List ℕ) (m : Memories) (r : Answers) (size : ℕ) (part : List ℕ) → r .judged ≡ judge bytes
     → Compiles bytes (m .codeBefore) (r .compiled) (m .codeAfter) → Evaluated bytes i list (m .evaluatedBefore) (r .evaluated) (m .evaluatedAfter)
-    → size ≡ compiledNumbers (r .compiled) .length → part ≡ take size (drop 0 (m .codeAfter)) → Runs part i list (m .ranBefore) (r .ran) (m .ranAfter)
+    → size ≡ producedNumbers (r .compiled) .length → part ≡ take size (drop 0 (m .codeAfter)) → Runs part i list (m .ranBefore) (r .ran) (m .ranAfter)
     → Together bytes i list m r
 together bytes i list m r size part judges compiling evaluating sized handed running =
     let whole : part ≡ writtenCode m r = handed ∙ ap (λ (n : ℕ). take n (m .codeAfter)) sized in

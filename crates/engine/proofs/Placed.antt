@@ -8,15 +8,15 @@ use mathlib.Core.Path.{_≡_, refl}
 use mathlib.Core.List.{List}
 use native.Mathlib.Omega.{arith}
 use lib.ListN.{length}
-use Rattle.answers.specs.Numbers.{refusalNumber, causeNumber, refusedNumbers, judgedNumbers, compiledNumbers, answerNumbers}
+use Rattle.answers.specs.Numbers.{refusalNumber, causeNumber, refusedNumbers, judgedNumbers, producedNumbers, answerNumbers}
 use Rattle.answers.specs.declared.Cause.{Cause}
 use Rattle.answers.specs.declared.Cause.the-variants.{Empty, Conflict, OutOfRange}
 use Rattle.answers.specs.declared.Refusal.{Refusal}
-use Rattle.answers.specs.declared.Refusal.the-variants.{Book, NoSuchScope, BadInput, BufferTooSmall, BadCode, Stuck}
+use Rattle.answers.specs.declared.Refusal.the-variants.{Book, NoSuchScope, BadInput, BufferTooSmall, BadCode, Stuck, BadChoice}
 use Rattle.answers.specs.declared.Judged.{Judged}
 use Rattle.answers.specs.declared.Judged.the-variants as judged
-use Rattle.answers.specs.declared.Compiled.{Compiled}
-use Rattle.answers.specs.declared.Compiled.the-variants as compiled
+use Rattle.answers.specs.declared.Produced.{Produced}
+use Rattle.answers.specs.declared.Produced.the-variants as produced
 use Rattle.answers.specs.declared.Answer.{Answer}
 use Rattle.answers.specs.declared.Answer.the-variants as answer
 use Rattle.book.specs.Judge.{judge}
@@ -37,6 +37,7 @@ refusal-small BadInput = omega arith
 refusal-small BufferTooSmall = omega arith
 refusal-small BadCode = omega arith
 refusal-small Stuck = omega arith
+refusal-small BadChoice = omega arith
 
 cause-small : (c : Cause) → causeNumber c < 256
 cause-small Empty = omega arith
@@ -51,9 +52,9 @@ answer-placed (answer.Values n l) h k = record { refusal = omega arith; outcome 
 answer-placed (answer.Ended c n) h k = record { refusal = omega arith; outcome = cause-small c; count = omega arith; length = omega arith }
 answer-placed (answer.Refused r) h k = refused-placed r
 
-compiled-placed : (c : Compiled) → compiledNumbers c .length ≤ 185051 → Placed (compiledNumbers c)
-compiled-placed (compiled.Written n) h = record { refusal = omega arith; outcome = omega arith; count = omega arith; length = omega arith }
-compiled-placed (compiled.Refused r) h = refused-placed r
+compiled-placed : (c : Produced) → producedNumbers c .length ≤ 185051 → Placed (producedNumbers c)
+compiled-placed (produced.Written n) h = record { refusal = omega arith; outcome = omega arith; count = omega arith; length = omega arith }
+compiled-placed (produced.Refused r) h = refused-placed r
 
 judged-placed : (bytes : List ℕ) (j : Judged) → judge bytes ≡ j → Placed (judgedNumbers j)
 judged-placed bytes (judged.Accepted n) e =
@@ -64,7 +65,7 @@ judged-placed bytes (judged.Refused f) e = refused-placed (Book f)
 pub judge-placed : (bytes : List ℕ) → Placed (judgedNumbers (judge bytes))
 judge-placed bytes = judged-placed bytes (judge bytes) refl
 
-pub compile-placed : (bytes memory : List ℕ) → Placed (compiledNumbers (compile bytes (length memory) .answer))
+pub compile-placed : (bytes memory : List ℕ) → Placed (producedNumbers (compile bytes (length memory) .answer))
 compile-placed bytes memory = compiled-placed (compile bytes (length memory) .answer) (compiled-most bytes memory)
 
 pub evaluate-placed : (bytes : List ℕ) (i : ℕ) (list memory : List ℕ) → Placed (answerNumbers (evaluate bytes i list (length memory) .answer))

@@ -9,7 +9,7 @@ use lib.ListN.{length, take, drop}
 use Rattle.book.specs.Decode.{scopesOf}
 use Rattle.book.specs.Scopes.{weight}
 use Rattle.book.specs.Judge.{judge}
-use Rattle.answers.specs.Numbers.{compiledNumbers}
+use Rattle.answers.specs.Numbers.{producedNumbers}
 use Rattle.answers.specs.declared.Judged.the-variants.{Accepted}
 use Rattle.evaluation.specs.Evaluate.{countIn}
 use Rattle.answers.specs.declared.Refusal.the-variants.{BadCode, Stuck}
@@ -18,7 +18,7 @@ use Rattle.evaluator.specs.Service.{Evaluated}
 use Rattle.translation.specs.Blocks.{codeOf}
 use Rattle.machine.specs.Acceptance.{accepted}
 use Rattle.compiler.specs.Compile.{Compiles}
-use Rattle.answers.specs.declared.Compiled.the-variants as compiled
+use Rattle.answers.specs.declared.Produced.the-variants as produced
 use Rattle.runner.specs.Service.{Runs}
 use Rattle.engine.specs.declared.Answers.{Answers}
 
@@ -33,13 +33,13 @@ pub record Memories : Type 0 where
 
 -- "the bytes that compiling wrote, of the length it handed back"
 abbrev pub writtenCode : Memories → Answers → List ℕ
-writtenCode m r = take (compiledNumbers (r .compiled) .length) (m .codeAfter)
+writtenCode m r = take (producedNumbers (r .compiled) .length) (m .codeAfter)
 
 -- of a book whose code is `code`, scope i being asked for
 pub record Agreed (bytes code : List ℕ) (i : ℕ) (m : Memories) (r : Answers) : Type 0 where
   -- compiling writes exactly that code; "Lent memory changes only where code or values are written, from its first byte, and nothing after
   -- them"
-  pub sized : r .compiled ≡ compiled.Written (length code)
+  pub sized : r .compiled ≡ produced.Written (length code)
   pub written : writtenCode m r ≡ code
   pub kept : drop (length code) (m .codeAfter) ≡ drop (length code) (m .codeBefore)
   -- "A book is accepted when none of faults 1 to 12 is in it, code when 16 is not"

@@ -2,7 +2,7 @@
 // the one crate that a user names.
 pub use answers::Answer;
 pub use answers::Cause;
-pub use answers::Compiled;
+pub use answers::Produced;
 pub use answers::Fault;
 pub use answers::Judged;
 pub use answers::Refusal;
@@ -15,24 +15,24 @@ pub use numbers::refusal_number;
 pub use runner::run;
 use slices::part_of;
 ghost use mathlib.Core.Path.{_≡_};
-ghost use Rattle.answers.specs.Numbers.{compiledNumbers};
+ghost use Rattle.answers.specs.Numbers.{producedNumbers};
 ghost use Rattle.engine.specs.Claim.{Together};
 
 // What the four services answer.
 pub struct Answers {
     pub judged: Judged,
-    pub compiled: Compiled,
+    pub compiled: Produced,
     pub evaluated: Answer,
     pub ran: Answer,
 }
 
 // The length of the code that compiling handed back; 0 with a refusal.
-fn written_length(c: Compiled) -> usize
-    ensures { λ r. ⌜ r ≡ compiledNumbers c .length ⌝ }
+fn written_length(c: Produced) -> usize
+    ensures { λ r. ⌜ r ≡ producedNumbers c .length ⌝ }
 {
     match c {
-        Compiled::Written(n) => n,
-        Compiled::Refused(_) => 0,
+        Produced::Written(n) => n,
+        Produced::Refused(_) => 0,
     }
 }
 

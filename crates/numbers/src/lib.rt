@@ -1,12 +1,12 @@
 // The answers of the services as numbers: the paper's number of a fault, of a refusal and of an outcome, and a whole answer as one number.
 use answers::Answer;
 use answers::Cause;
-use answers::Compiled;
+use answers::Produced;
 use answers::Fault;
 use answers::Judged;
 use answers::Refusal;
 ghost use mathlib.Core.Path.{_≡_};
-ghost use Rattle.answers.specs.Numbers.{faultNumber, refusalNumber, causeNumber, judgedNumbers, compiledNumbers, answerNumbers};
+ghost use Rattle.answers.specs.Numbers.{faultNumber, refusalNumber, causeNumber, judgedNumbers, producedNumbers, answerNumbers};
 ghost use Rattle.numbers.specs.Packed.{packed, wrapped};
 
 // The paper's number of a fault.
@@ -40,6 +40,7 @@ pub fn refusal_number(r: Refusal) -> u8
         Refusal::BufferTooSmall => 15,
         Refusal::BadCode => 16,
         Refusal::Stuck => 17,
+        Refusal::BadChoice => 18,
     }
 }
 
@@ -51,6 +52,28 @@ pub fn cause_number(c: Cause) -> u8
         Cause::Empty => 1,
         Cause::Conflict => 2,
         Cause::OutOfRange => 3,
+    }
+}
+
+// The number of the outcome in an answer: 0 for values, and with a refusal.
+pub fn answer_outcome(a: Answer) -> u8
+    ensures { λ n. ⌜ n ≡ answerNumbers a .outcome ⌝ }
+{
+    match a {
+        Answer::Values(_, _) => 0,
+        Answer::Ended(c, _) => cause_number(c),
+        Answer::Refused(_) => 0,
+    }
+}
+
+// The length of the results in an answer: 0 without values.
+pub fn answer_length(a: Answer) -> usize
+    ensures { λ n. ⌜ n ≡ answerNumbers a .length ⌝ }
+{
+    match a {
+        Answer::Values(_, l) => l,
+        Answer::Ended(_, _) => 0,
+        Answer::Refused(_) => 0,
     }
 }
 
@@ -81,13 +104,13 @@ pub fn pack_judged(j: Judged) -> u64
     }
 }
 
-// What compiling answers, as one number.
-pub fn pack_compiled(c: Compiled) -> u64
-    ensures { λ r. ⌜ r ≡ packed (wrapped (compiledNumbers c)) ⌝ }
+// What compiling or tabulating answers, as one number.
+pub fn pack_produced(c: Produced) -> u64
+    ensures { λ r. ⌜ r ≡ packed (wrapped (producedNumbers c)) ⌝ }
 {
     match c {
-        Compiled::Written(n) => pack(0, 0, 0, n),
-        Compiled::Refused(r) => pack(refusal_number(r), 0, 0, 0),
+        Produced::Written(n) => pack(0, 0, 0, n),
+        Produced::Refused(r) => pack(refusal_number(r), 0, 0, 0),
     }
 }
 

@@ -8,15 +8,15 @@ use Rattle.capi.proofs.engine_compile.Tie as tie
 compile-requires : tie.Need-compile-requires
 compile-requires c κs = search needs
 
-pack-compiled-requires : tie.Need-pack-compiled-requires
-pack-compiled-requires c κs = search needs
+pack-produced-requires : tie.Need-pack-produced-requires
+pack-produced-requires c κs = search needs
 
 same-length : tie.Need-same-length
 same-length c = search needs
 
 returns : tie.Need-returns
-returns c = compiled (c .before .before .before .compile .ensures) (c .pack-compiled .ensures)
+returns c = compiled (c .before .before .before .compile .ensures) (c .pack-produced .ensures)
 
 pub engine-compile-spec : {M : Type 1} → statement M
 engine-compile-spec =
-    tie.close (tie.spec compile-requires pack-compiled-requires same-length returns)
+    tie.close (tie.spec compile-requires pack-produced-requires same-length returns)
