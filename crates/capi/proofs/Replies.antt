@@ -8,24 +8,29 @@ use mathlib.Core.List.{List}
 use lib.ListN.{length}
 use Rattle.answers.specs.Numbers.{Numbers, producedNumbers, answerNumbers}
 use Rattle.answers.specs.declared.Answer.{Answer}
+use Rattle.answers.specs.Production.{Production, Produces}
 use Rattle.answers.specs.declared.Produced.{Produced}
 use Rattle.evaluation.specs.Evaluate.{Reply, evaluate, Replies}
-use Rattle.compiler.specs.Compile.{Compiles}
+use Rattle.compiler.specs.Compile.{compile}
 use Rattle.machine.specs.Service.{run}
 use Rattle.numbers.specs.Packed.{packed, wrapped, Placed, Says}
 use Rattle.numbers.proofs.Unpacking.{says}
 use Rattle.engine.proofs.Placed.{compile-placed, evaluate-placed, run-placed}
 use Rattle.capi.specs.Replies.{PackedReply, PackedEvaluation, PackedRun}
-use Rattle.capi.specs.Productions.{PackedCompilation}
+use Rattle.capi.specs.Productions.{PackedProduction, PackedCompilation}
 
 -- the answer given is the one expected
 pub said : {A : Type 0} (numbers : A → Numbers) {given expected : A} {r : ℕ} → Placed (numbers expected) → given ≡ expected
     → r ≡ packed (wrapped (numbers given)) → Says (numbers expected) r
 said numbers {given} {expected} {r} room same packs = says (numbers expected) r room (packs ∙ ap (λ x. packed (wrapped (numbers x))) same)
 
-pub compiled : {bytes before : List ℕ} {c : Produced} {r : ℕ} {after : List ℕ} → Compiles bytes before c after → r ≡ packed (wrapped (producedNumbers c))
-    → PackedCompilation bytes before r after
-compiled {bytes} {before} h packs = record { answer = said producedNumbers (compile-placed bytes before) (h .answer) packs; memory = h .memory }
+produced : {p : Production} {before : List ℕ} {c : Produced} {r : ℕ} {after : List ℕ} → Placed (producedNumbers (p .answer))
+    → Produces p before c after → r ≡ packed (wrapped (producedNumbers c)) → PackedProduction p before r after
+produced room h packs = record { answer = said producedNumbers room (h .answer) packs; memory = h .memory }
+
+pub compiled : (bytes : List ℕ) {before : List ℕ} {c : Produced} {r : ℕ} {after : List ℕ} → Produces (compile bytes (length before)) before c after
+    → r ≡ packed (wrapped (producedNumbers c)) → PackedCompilation bytes before r after
+compiled bytes {before} = produced (compile-placed bytes before)
 
 replied : {reply : Reply} {before : List ℕ} {a : Answer} {r : ℕ} {after : List ℕ} → Placed (answerNumbers (reply .answer))
     → Replies reply before a after → r ≡ packed (wrapped (answerNumbers a)) → PackedReply reply before r after

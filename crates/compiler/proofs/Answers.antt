@@ -13,7 +13,8 @@ use Rattle.answers.specs.declared.Fault.{Fault}
 use Rattle.answers.specs.declared.Judged.{Judged}
 use Rattle.answers.specs.declared.Refusal.the-variants.{Book, BufferTooSmall}
 use Rattle.translation.specs.Blocks.{codeOf}
-use Rattle.answers.specs.Production.{Production, refuse, fitting, onJudged}
+use Rattle.answers.specs.Production.{fitting, onJudged}
+use Rattle.answers.proofs.Production.{produces-refusal, produces-all, produces-none}
 use Rattle.compiler.specs.Compile.{compile, Compiles}
 use Rattle.answers.specs.declared.Produced.the-variants.{Written, Refused}
 use Rattle.emitter.specs.Emission.{back, Emits}
@@ -21,11 +22,10 @@ use Rattle.emitter.specs.Pieces.{bookPiece, bookSize}
 use Rattle.answers.specs.declared.Judged.the-variants as judged
 use Rattle.emitter.proofs.Book.{book-length, book-code}
 
-pub refused : {bytes memory : List ℕ} {f : Fault} → judge bytes ≡ judged.Refused f → Compiles bytes memory (Refused (Book f)) memory
+pub refused : (bytes : List ℕ) {memory : List ℕ} {f : Fault} → judge bytes ≡ judged.Refused f → Compiles bytes memory (Refused (Book f)) memory
 unfolding compile
-refused {bytes} {memory} {f} e =
-    let c = ap (λ (j : Judged). onJudged j (fitting (codeOf (scopesOf bytes)) (length memory))) e in
-    record { answer = sym (ap (λ (x : Production). x .answer) c); memory = sym (ap (λ (x : Production). x .written ++ drop (length (x .written)) memory) c) }
+refused bytes {memory} {f} e =
+    produces-refusal (Book f) (ap (λ (j : Judged). onJudged j (fitting (codeOf (scopesOf bytes)) (length memory))) e)
 
 -- the last bytes, as a part of a slice
 abbrev rest : ℕ → List ℕ → List ℕ
@@ -49,21 +49,10 @@ module _ (bytes : List ℕ) (n : ℕ) (ok : judge bytes ≡ judged.Accepted n) w
   unfolding compile
   compiled room = ap (λ (j : Judged). onJudged j (fitting (codeOf (scopesOf bytes)) room)) ok
 
-  answers : {memory after : List ℕ} (c : Production) → fitting (codeOf (scopesOf bytes)) (length memory) ≡ c
-      → after ≡ c .written ++ drop (length (c .written)) memory → Compiles bytes memory (c .answer) after
-  answers {memory} {after} c e h =
-      let p = compiled (length memory) ∙ e in
-      record {
-        answer = sym (ap (λ (x : Production). x .answer) p);
-        memory = h ∙ sym (ap (λ (x : Production). x .written ++ drop (length (x .written)) memory) p);
-      }
-
   pub short : {memory s o : List ℕ} {end : ℕ} → Emits s 0 (bookPiece bytes) (bookSize bytes) end o → length memory < end
       → Compiles bytes memory (Refused BufferTooSmall) memory
-  unfolding fitting
   short {memory} {s} {o} {end} a l =
-      let few = lt-leb (length (codeOf (scopesOf bytes))) (length memory) (omega (arith, code-size, a .next)) in
-      answers (refuse BufferTooSmall) (rw few) refl
+      produces-none (codeOf (scopesOf bytes)) (compiled (length memory)) (omega (arith, code-size, a .next))
 
   whole : {s o : List ℕ} {end : ℕ} → Emits s 0 (bookPiece bytes) (bookSize bytes) end o → end ≤ length s → back end o ≡ codeOf (scopesOf bytes)
   unfolding back
@@ -73,13 +62,9 @@ module _ (bytes : List ℕ) (n : ℕ) (ok : judge bytes ≡ judged.Accepted n) w
 
   module _ {memory s o part : List ℕ} {end : ℕ} (a : Emits s 0 (bookPiece bytes) (bookSize bytes) end o) (l : end ≤ length memory) where
     answered : part ≡ codeOf (scopesOf bytes) → Compiles bytes memory (Written end) (part ++ drop end memory)
-    unfolding fitting
     answered f =
-        let c = codeOf (scopesOf bytes) in
-        let k = a .next in
-        let long : length c ≡ end = omega (arith, code-size) in
-        let enough = le-leb (length c) (length memory) (omega arith) in
-        answers (record { answer = Written end; written = c }) (rw (enough, long)) (rw (f, long))
+        let long : length (codeOf (scopesOf bytes)) ≡ end = omega (arith, code-size, a .next) in
+        rw (f, ← long) (produces-all (codeOf (scopesOf bytes)) (compiled (length memory)) (omega (arith, long)))
 
     -- the code is copied
     pub moved : end ≤ length o → part ≡ rest end o → Compiles bytes memory (Written end) (part ++ drop end memory)

@@ -1,6 +1,6 @@
 // Compiling a book: the service.
-use answers::Produced;
 use answers::Judged;
+use answers::Produced;
 use answers::Refusal;
 use emitter::emit_blocks;
 use judge::load;

@@ -2,9 +2,9 @@
 // the one crate that a user names.
 pub use answers::Answer;
 pub use answers::Cause;
-pub use answers::Produced;
 pub use answers::Fault;
 pub use answers::Judged;
+pub use answers::Produced;
 pub use answers::Refusal;
 pub use compiler::compile;
 pub use evaluator::evaluate;

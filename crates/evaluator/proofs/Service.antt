@@ -19,14 +19,13 @@ use Rattle.book.specs.Judge.{judge}
 use Rattle.answers.specs.declared.Fault.{Fault}
 use Rattle.answers.specs.declared.Judged.{Judged}
 use Rattle.answers.specs.declared.Judged.the-variants as judged
-use Rattle.acceptance.proofs.Acceptance.{accepted-faultless, accepted-count}
-use Rattle.acceptance.proofs.Limits.{accepted-within, accepted-scopes}
+use Rattle.acceptance.proofs.Acceptance.{accepted-count}
 use Rattle.lists.specs.Inputs.{bad, inputs}
 use Rattle.lists.specs.Reading.{Taken}
 use Rattle.lists.specs.Results.{resultLength}
 use Rattle.lists.specs.Writing.{resultLengthAt}
 use Rattle.lists.specs.Writing as writing
-use Rattle.links.specs.Links.{Sound, Blanks, AllLinked}
+use Rattle.links.specs.Links.{Blanks, AllLinked}
 use Rattle.evaluation.specs.Run.{enter}
 use Rattle.evaluation.specs.Types.{Fitting}
 use Rattle.evaluation.specs.Evaluate.{replyOf, evaluate, asked, refuse, onJudged}
@@ -37,8 +36,8 @@ use Rattle.evaluation.proofs.Replies.{same-reply, refuses}
 use Rattle.evaluation.proofs.Types.{inputs-fitting}
 use Rattle.scopes.specs.Steps.{givensFrom, enteredAt}
 use Rattle.scopes.specs.Known.{Known}
-use Rattle.scopes.proofs.Known.{nothing-known}
 use Rattle.loaded.specs.Loaded.{RunsLoaded, Replied}
+use Rattle.loaded.proofs.Preparing as preparing
 use Rattle.evaluator.specs.Service.{Asked, Evaluated}
 use Rattle.scopes.specs.declared.Ran.{Ran}
 use Rattle.scopes.specs.declared.Ran.the-variants as ran
@@ -100,47 +99,21 @@ module _ (bytes : List ℕ) (n i : ℕ) (ok : judge bytes ≡ judged.Accepted n)
           there = rw (lt-ltb i (length (scopesOf bytes)) (omega (arith, count)), taken .list, le-leb (resultLength (scopeAt (scopesOf bytes) i .variables)) (length memory) l)
 
 module _ {bytes index orders : List ℕ} {n i : ℕ} {given memory : List ℕ} (a : Asked bytes index orders n i given memory) where
-  total : n ≡ length (scopesOf bytes)
-  total = accepted-count bytes n (a .tabled .accepted)
-
-  pub sound : Sound bytes index
-  sound =
-      record {
-        laid = a .tabled .laid;
-        variables = λ j. accepted-within bytes n (a .tabled .accepted) j .variables;
-        subScopes = λ j. accepted-within bytes n (a .tabled .accepted) j .subScopes;
-        clauses = λ j. accepted-within bytes n (a .tabled .accepted) j .clauses;
-        named = accepted-faultless bytes n (a .tabled .accepted) .named;
-      }
-
-  -- links for n scopes at least, none of which is set
   pub blank-links : (size : ℕ) → n * 834 ≤ size → Blanks bytes index n (replicate size 255)
-  blank-links size few =
-      let long : length {A = ℕ} (replicate size 255) ≡ size = length-replicate {A = ℕ} size 255 in
-      record {
-        sound = sound;
-        size = omega (arith, few, long);
-        blank = λ k l. getD-replicate {A = ℕ} size k 255 0 (omega (arith, few, l));
-      }
+  blank-links = preparing.blank-links (a .tabled .accepted) (a .tabled .laid)
 
-  -- rows for n scopes at least, none of which is known
   pub blank-memo : (size : ℕ) → n * 33 ≤ size → Known bytes (replicate size 0)
-  blank-memo size few = nothing-known bytes size (omega (arith, few, total))
+  blank-memo = preparing.blank-memo (a .tabled .accepted) (a .tabled .laid)
 
   pub scopes-few : n ≤ 32
-  scopes-few = accepted-scopes bytes n (a .tabled .accepted)
+  scopes-few = preparing.few-scopes (a .tabled .accepted) (a .tabled .laid)
 
   -- the book is loaded, once its links are filled
   pub runs-loaded : {links memo : List ℕ} → AllLinked bytes n links → Known bytes memo → RunsLoaded bytes index links orders i given memo memory
   runs-loaded linked known =
       record {
-        world = record {
-          accepted = a .tabled .accepted ∙ ap judged.Accepted total;
-          sound = sound;
-          linked = record { rows = λ j l. linked .rows j (omega (arith, total)) };
-          stepOrders = a .tabled .stepOrders;
-        };
-        scope = omega (arith, a .scope, total);
+        world = preparing.world (a .tabled .accepted) (a .tabled .laid) linked (a .tabled .stepOrders);
+        scope = omega (arith, a .scope, accepted-count bytes n (a .tabled .accepted));
         givenRoom = a .givenRoom;
         givenKept = a .givenKept;
         fitting = a .fitting;

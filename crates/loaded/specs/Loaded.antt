@@ -1,9 +1,13 @@
--- Running a scope of a loaded book.
+-- Preparing a book, and running a scope of a loaded one.
 use Prim.Native.Nat.{ℕ, _<_, _≤_}
 use mathlib.Core.Path.{_≡_}
 use mathlib.Core.List.{List}
-use lib.ListN.{length}
+use lib.ListN.{length, replicate}
 use Rattle.answers.specs.declared.Answer.{Answer}
+use Rattle.answers.specs.declared.Judged.{Judged}
+use Rattle.answers.specs.declared.Judged.the-variants.{Accepted}
+use Rattle.book.specs.Judge.{judge}
+use Rattle.scan.specs.Filling.{Unfilled}
 use Rattle.cells.specs.Codec.{AllKept}
 use Rattle.book.specs.Decode.{scopesOf}
 use Rattle.book.specs.References.{scopeAt}
@@ -12,6 +16,17 @@ use Rattle.evaluation.specs.Types.{Fitting}
 use Rattle.evaluation.specs.Evaluate.{replyOf, Replies}
 use Rattle.scopes.specs.Steps.{World, givensFrom, enteredAt}
 use Rattle.scopes.specs.Known.{Known}
+
+-- tables that are still empty: an index, links for 32 scopes, orders
+pub record Unprepared (bytes index links orders : List ℕ) : Type 0 where
+  pub unfilled : Unfilled bytes index
+  pub unlinked : links ≡ replicate 26688 255
+  pub room : 1280 ≤ length orders
+
+-- what judging answers, and of an accepted book the tables
+pub record Prepared (bytes index links orders : List ℕ) (r : Judged) : Type 0 where
+  pub answer : r ≡ judge bytes
+  pub world : (n : ℕ) → r ≡ Accepted n → World bytes index links orders
 
 -- the book is loaded and has scope i; what is given, in a cell for each variable, fits its variables; its results have room
 pub record RunsLoaded (bytes index links orders : List ℕ) (i : ℕ) (given memo memory : List ℕ) : Type 0 where

@@ -1,9 +1,9 @@
 // The answers of the services as numbers: the paper's number of a fault, of a refusal and of an outcome, and a whole answer as one number.
 use answers::Answer;
 use answers::Cause;
-use answers::Produced;
 use answers::Fault;
 use answers::Judged;
+use answers::Produced;
 use answers::Refusal;
 ghost use mathlib.Core.Path.{_≡_};
 ghost use Rattle.answers.specs.Numbers.{faultNumber, refusalNumber, causeNumber, judgedNumbers, producedNumbers, answerNumbers};

@@ -15,7 +15,7 @@ same-length : tie.Need-same-length
 same-length c = search needs
 
 returns : tie.Need-returns
-returns c = compiled (c .before .before .before .compile .ensures) (c .pack-produced .ensures)
+returns c = compiled _ (c .before .before .before .compile .ensures) (c .pack-produced .ensures)
 
 pub engine-compile-spec : {M : Type 1} → statement M
 engine-compile-spec =

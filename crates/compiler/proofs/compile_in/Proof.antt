@@ -53,7 +53,7 @@ same-length-3 : tie.Need-same-length-3
 same-length-3 c = search needs
 
 returns-2 : tie.Need-returns-2
-returns-2 c = refused (sym (c .before .before .before .before .before .before .before .before .load .ensures .answer) ∙ c .before .judged2 .given .1)
+returns-2 c = refused _ (sym (c .before .before .before .before .before .before .before .before .load .ensures .answer) ∙ c .before .judged2 .given .1)
 
 pub compile-in-spec : {M : Type 1} → statement M
 compile-in-spec =
