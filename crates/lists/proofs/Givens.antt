@@ -2,21 +2,23 @@
 --     good-number  a good list says of each variable whether it is given
 --     good-typed   what is given has its variable's type
 --     good-short   a good list has at most 6 bytes a variable
+--     good-more    a good list with more bytes behind it: they are read on with what it gives
 -- Assumes nothing.
 use Prim.Native.Nat.{ℕ, zero, suc, _+_, _*_, _≤_, _<_}
 use mathlib.Core.Path.{_≡_, refl, sym, ap, _∙_}
 use mathlib.Core.Bool.{Bool, true, false, false≢true, cond}
-use mathlib.Core.List.{List, [], _∷_, map}
+use mathlib.Core.List.{List, [], _∷_, _++_, map}
 use mathlib.Core.Logic.{⊎-elim}
 use native.Mathlib.Omega.{arith}
-use lib.ListN.{length, getD, set, length-set, length-map, List·getD-map}
+use lib.ListN.{length, getD, set, length-append, length-set, length-map, List·getD-append, List·getD-map}
 use lib.Seq.{getD-set-same, getD-set-other}
-use lib.Dec.{eqb}
-use borrow.Author.Tests.{eqb-true, eqb-false}
+use lib.Dec.{eqb, ltb}
+use borrow.Author.Tests.{le-ltb, eqb-true, eqb-false}
 use Rattle.calculus.specs.declared.Value.{Value}
 use Rattle.calculus.specs.declared.Given.{Given}
 use Rattle.calculus.specs.declared.Given.the-variants.{Absent, Present}
-use Rattle.laws.proofs.Booleans.{decide}
+use Rattle.slices.specs.Bytes.{bigEndian, numberAt}
+use Rattle.laws.proofs.Booleans.{decide, neither}
 use Rattle.book.specs.declared.ValueType.{ValueType}
 use Rattle.book.specs.declared.ValueType.the-variants.{YesNo}
 use Rattle.book.specs.declared.Variable.{Variable}
@@ -153,3 +155,68 @@ module _ (variables : List Variable) (bytes : List ℕ) (gs : List Given) (e : i
       let s = short-from variables bytes 0 (map (λ v. Absent) variables) gs (length-map variables (λ v. Absent)) e in
       let u = unset-all variables in
       omega arith
+
+-- More bytes behind a list
+
+-- a record that is not bad is whole: what stands behind it changes nothing of it
+module _ (variables : List Variable) (gs : List Given) (k : ℕ) (rest more : List ℕ) (e : badRecord variables gs k rest ≡ false) where
+  kind-known : eqb (inputLength k) 0 ≡ false
+  unfolding badRecord
+  kind-known = neither (eqb (inputLength k) 0) _ e .0
+
+  within : (i : ℕ) → i < inputLength k → getD (rest ++ more) i 0 ≡ getD rest i 0
+  within i l = List·getD-append rest more 0 i (omega (arith, l, fine variables gs k rest e .whole))
+
+  long : 2 ≤ inputLength k
+  long = two (eqb k 1) (eqb k 2) kind-known
+    where
+      two : (a b : Bool) → eqb (cond a 2 (cond b 5 0)) 0 ≡ false → 2 ≤ cond a 2 (cond b 5 0)
+      two true b h = omega arith
+      two false true h = omega arith
+      two false false h = absurd (false≢true (sym h))
+
+  record-more : badRecord variables gs k (rest ++ more) ≡ false
+  unfolding badRecord
+  record-more =
+      let whole = fine variables gs k rest e .whole in
+      let cut : ltb (length (rest ++ more)) (inputLength k) ≡ false =
+      le-ltb (length (rest ++ more)) (inputLength k) (omega (arith, whole, length-append rest more)) in
+      let a = neither (eqb (inputLength k) 0) _ e .1 in
+      let b = neither (ltb (length rest) (inputLength k)) _ a .1 in
+      rw (kind-known, cut, within 0 (omega (arith, long)), within 1 (omega (arith, long))) b
+
+  value-more : inputValue k (rest ++ more) ≡ inputValue k rest
+  unfolding numberAt bigEndian
+  value-more =
+      ⊎-elim
+      (λ (q : eqb k 1 ≡ true). rw (q, within 1 (omega (arith, long))))
+      (λ (q : eqb k 1 ≡ false).
+      ⊎-elim
+      (λ (h : eqb k 2 ≡ true).
+      let five : inputLength k ≡ 5 = rw (q, h) in
+      rw (q, within 1 (omega (arith, five)), within 2 (omega (arith, five)), within 3 (omega (arith, five)), within 4 (omega (arith, five))))
+      (λ (h : eqb k 2 ≡ false). let none : inputLength k ≡ 0 = rw (q, h) in absurd (omega (arith, long, none)))
+      (decide (eqb k 2)))
+      (decide (eqb k 1))
+
+  target-more : getD (rest ++ more) 0 0 ≡ getD rest 0 0
+  target-more = within 0 (omega (arith, long))
+
+more-from : (variables : List Variable) (bytes more : List ℕ) (n : ℕ) (gs end : List Given) → n ≤ length bytes
+    → inputsFrom variables bytes n gs ≡ good end → inputsFrom variables (bytes ++ more) n gs ≡ inputsFrom variables more 0 end
+unfolding inputsFrom
+more-from variables [] more zero gs end l e = let p : gs ≡ end = cc in rw p
+more-from variables [] more (suc n) gs end l e = absurd (omega arith)
+more-from variables (k ∷ rest) more zero gs end l e =
+    ⊎-elim
+    (λ (q : badRecord variables gs k rest ≡ true). let b = rw q at e in let z : _≡_ {A = ℕ} 0 1 = cc in absurd (omega arith))
+    (λ (q : badRecord variables gs k rest ≡ false).
+    let r = more-from variables rest more (inputLength k) (set gs (getD rest 0 0) (Present (inputValue k rest))) end (fine variables gs k rest q .whole) (rw q at e) in
+    rw (record-more variables gs k rest more q, value-more variables gs k rest more q, target-more variables gs k rest more q) r)
+    (decide (badRecord variables gs k rest))
+more-from variables (b ∷ rest) more (suc n) gs end l e = more-from variables rest more n gs end (omega arith) e
+
+pub good-more : (variables : List Variable) (bytes more : List ℕ) (gs : List Given) → inputs variables bytes ≡ good gs
+    → inputs variables (bytes ++ more) ≡ inputsFrom variables more 0 gs
+unfolding inputs
+good-more variables bytes more gs e = more-from variables bytes more 0 (map (λ v. Absent) variables) gs (omega arith) e
