@@ -1,3 +1,4 @@
 pub mod Chosen
+pub mod Assignments
 pub mod Giving
 pub mod Rows
