@@ -1,4 +1,5 @@
 pub mod Chosen
 pub mod Assignments
 pub mod Giving
+pub mod Halves
 pub mod Rows
