@@ -38,6 +38,7 @@ use Rattle.scopes.specs.Steps.{givensFrom, enteredAt}
 use Rattle.scopes.specs.Known.{Known}
 use Rattle.loaded.specs.Loaded.{RunsLoaded, Replied}
 use Rattle.loaded.proofs.Preparing as preparing
+use Rattle.loaded.proofs.Taken.{taken-givens}
 use Rattle.evaluator.specs.Service.{Asked, Evaluated}
 use Rattle.scopes.specs.declared.Ran.{Ran}
 use Rattle.scopes.specs.declared.Ran.the-variants as ran
@@ -79,20 +80,12 @@ module _ (bytes : List ℕ) (n i : ℕ) (ok : judge bytes ≡ judged.Accepted n)
           none : asked (scopesOf bytes) i list (length memory) ≡ refuse BufferTooSmall
           none = rw (lt-ltb i (length (scopesOf bytes)) (omega (arith, count)), taken .list, lt-leb (resultLength (scopeAt (scopesOf bytes) i .variables)) (length memory) l)
 
-      same-givens : givensFrom given 0 (length (scopeAt (scopesOf bytes) i .variables)) ≡ taken .givens
-      same-givens =
-          ap (givensFrom given 0) (sym (taken .number))
-          ∙ givens-list given 0 (taken .givens) (λ x. let z : 0 + x ≡ x = omega arith in ap (givenAt given) z ∙ taken .decoded x)
-
-      pub given-fitting : Fitting (scopeAt (scopesOf bytes) i .variables) (givensFrom given 0 (length (scopeAt (scopesOf bytes) i .variables)))
-      given-fitting = subst (Fitting (scopeAt (scopesOf bytes) i .variables)) (sym same-givens) (inputs-fitting (scopeAt (scopesOf bytes) i .variables) list (taken .givens) (taken .list))
-
       pub evaluated : {memory after : List ℕ} {r : Answer} → resultLengthAt (scopesOf bytes) i ≤ length memory → Replied bytes i given memory r after
           → Evaluated bytes i list memory r after
       unfolding resultLengthAt enteredAt asked
       evaluated {memory} {after} {r} l q =
           let e : evaluate bytes i list (length memory) ≡ replyOf (enter (scopesOf bytes) (reverse (blocks (scopesOf bytes))) i (givensFrom given 0 (length (scopeAt (scopesOf bytes) i .variables)))) =
-          is-asked list (length memory) ∙ there ∙ ap (λ (gs : List Given). replyOf (enter (scopesOf bytes) (reverse (blocks (scopesOf bytes))) i gs)) (sym same-givens) in
+          is-asked list (length memory) ∙ there ∙ ap (λ (gs : List Given). replyOf (enter (scopesOf bytes) (reverse (blocks (scopesOf bytes))) i gs)) (sym (taken-givens taken)) in
           same-reply e q
         where
           there : asked (scopesOf bytes) i list (length memory) ≡ replyOf (enter (scopesOf bytes) (reverse (blocks (scopesOf bytes))) i (taken .givens))

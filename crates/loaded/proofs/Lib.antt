@@ -1,2 +1,3 @@
 pub mod Preparing
+pub mod Taken
 mod Running

@@ -4,7 +4,8 @@ use denote.Ref.{now}
 use mathlib.Core.Path.{refl}
 use borrow.Author.Tests.{not-true, not-false}
 use Rattle.acceptance.proofs.Limits.{accepted-within}
-use Rattle.evaluator.proofs.Service.{refused-scope, refused-input, refused-room, given-fitting, evaluated}
+use Rattle.evaluator.proofs.Service.{refused-scope, refused-input, refused-room, evaluated}
+use Rattle.loaded.proofs.Taken.{taken-fitting}
 use borrow.Author.Needs.{needs}
 use Rattle.evaluator.proofs.evaluate_accepted.Statement.{statement}
 use Rattle.evaluator.proofs.evaluate_accepted.Tie as tie
@@ -31,7 +32,7 @@ slice-aggregate-run : tie.Need-slice-aggregate-run
 slice-aggregate-run c = search needs
 
 run-requires : tie.Need-run-requires
-run-requires c κs = record { tabled = c .before .before .before .before .before .before .before .before .before .before .before .before .before .before .pre; scope = c .before .before .before .before .before .before .before .before .if1 .left; givenRoom = c .before .before .before .before .before .before .read-inputs .ensures .size; givenKept = c .before .before .before .before .before .before .read-inputs .ensures .taken (not-false _ (c .before .before .before .before .if2 .left)) .kept; fitting = given-fitting (now (c .before .before .before .before .before .before .before .before .before .before .before .before .before .before .args .book)) (c .before .before .before .before .before .before .before .before .before .before .before .before .before .before .args .n) (c .before .before .before .before .before .before .before .before .before .before .before .before .before .before .args .i) (c .before .before .before .before .before .before .before .before .before .before .before .before .before .before .pre .accepted) (c .before .before .before .before .before .before .before .before .if1 .left) (c .before .before .before .before .before .before .read-inputs .ensures .taken (not-false _ (c .before .before .before .before .if2 .left))); room = rw (← c .before .before .before .result-length .ensures) (c .before .before .if3 .left) }
+run-requires c κs = record { tabled = c .before .before .before .before .before .before .before .before .before .before .before .before .before .before .pre; scope = c .before .before .before .before .before .before .before .before .if1 .left; givenRoom = c .before .before .before .before .before .before .read-inputs .ensures .size; givenKept = c .before .before .before .before .before .before .read-inputs .ensures .taken (not-false _ (c .before .before .before .before .if2 .left)) .kept; fitting = taken-fitting (c .before .before .before .before .before .before .read-inputs .ensures .taken (not-false _ (c .before .before .before .before .if2 .left))); room = rw (← c .before .before .before .result-length .ensures) (c .before .before .if3 .left) }
 
 same-length : tie.Need-same-length
 same-length c = search needs
