@@ -1,1 +1,2 @@
 pub mod Production
+pub mod Within

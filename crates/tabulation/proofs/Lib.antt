@@ -3,3 +3,4 @@ pub mod Assignments
 pub mod Giving
 pub mod Halves
 pub mod Rows
+pub mod Answers
