@@ -55,7 +55,7 @@ fn input_value(kind: u8, rest: &[u8]) -> Value
     }
 }
 
-fn is_given(g: Given) -> bool
+pub fn is_given(g: Given) -> bool
     ensures { λ r. ⌜ r ≡ isGiven g ⌝ }
 {
     match g {
