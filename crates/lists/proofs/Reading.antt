@@ -75,7 +75,7 @@ value-fits k rest =
 abbrev pub Decoded : List ℕ → List Given → Type 0
 Decoded cells gs = (v : ℕ) → givenAt cells v ≡ getD gs v Absent
 
-held-at : (cells : List ℕ) (v : ℕ) → getD (map givenOf cells) v Absent ≡ givenAt cells v
+pub held-at : (cells : List ℕ) (v : ℕ) → getD (map givenOf cells) v Absent ≡ givenAt cells v
 unfolding givenAt givenOf
 held-at cells v = List·getD-map givenOf cells v 0
 

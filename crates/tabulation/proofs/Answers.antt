@@ -35,13 +35,13 @@ use Rattle.lists.specs.Inputs.{Inputs, bad, good, inputs}
 use Rattle.evaluation.specs.Answers.{Asked}
 use Rattle.tabulation.specs.Chosen.{badChoice}
 use Rattle.tabulation.specs.Tabulate.{table, onInputs, asked, tabulate}
-use Rattle.tabulation.specs.Answers.{Choosing, Replied, InTable}
+use Rattle.tabulation.specs.Answers.{Tabulable, Replied, InTable}
 use Rattle.tabulation.proofs.Rows.{table-length, table-most}
 
 -- The cases
 
 module _ (bytes : List ℕ) (i : ℕ) (chosen fixed : List ℕ) (room : ℕ) where
-  on-fitting : Choosing bytes i chosen fixed → Replied bytes i chosen fixed room (fitting (table bytes i chosen fixed) room)
+  on-fitting : Tabulable bytes i chosen fixed → Replied bytes i chosen fixed room (fitting (table bytes i chosen fixed) room)
   on-fitting c = fitting-cases (Replied bytes i chosen fixed room) (table bytes i chosen fixed) room (Replied.whole c) (Replied.short c)
 
   on-inputs : Asked bytes i → (r : Inputs) → inputs (scopeAt (scopesOf bytes) i .variables) fixed ≡ r

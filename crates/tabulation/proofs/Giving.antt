@@ -1,5 +1,6 @@
 -- What the input records of an assignment give, behind a fixed input list.
 --     unfit-record       a variable is unfit exactly where its input record would be bad
+--     fit-after          giving one variable makes no other unfit
 --     assigned-inputs    a good list with the records of an assignment is good, and gives what `giving` says
 --     giving-length      one for each variable, as before
 -- Assumes nothing.
@@ -31,8 +32,7 @@ unfolding unfit badRecord
 unfit-record variables gs v false rest = rw (le-ltb (suc (suc (length rest))) 2 (omega arith))
 unfit-record variables gs v true rest = rw (le-ltb (suc (suc (length rest))) 2 (omega arith))
 
--- giving one variable makes no other unfit
-fit-after : (variables : List Variable) (gs : List Given) (v : ℕ) (g : Given) (vs : List ℕ) → among vs v ≡ false
+pub fit-after : (variables : List Variable) (gs : List Given) (v : ℕ) (g : Given) (vs : List ℕ) → among vs v ≡ false
     → any (unfit variables gs) vs ≡ false → any (unfit variables (set gs v g)) vs ≡ false
 unfolding any among unfit
 fit-after variables gs v g [] other ok = refl

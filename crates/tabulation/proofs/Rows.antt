@@ -39,7 +39,7 @@ use Rattle.tabulation.specs.Chosen.{badChoice, inOrder}
 use Rattle.tabulation.specs.Assignments.{assignments, power, binary, assigned}
 use Rattle.tabulation.specs.Giving.{giving}
 use Rattle.tabulation.specs.Tabulate.{rowOf, row, rows, table}
-use Rattle.tabulation.specs.Answers.{Choosing, Rowed}
+use Rattle.tabulation.specs.Answers.{Tabulable, Rowed}
 use Rattle.tabulation.proofs.Chosen.{order-repeated, order-fit, chosen-count, chosen-few}
 use Rattle.tabulation.proofs.Assignments.{assignments-count, assignment-at, assignment-length, binary-below}
 use Rattle.tabulation.proofs.Giving.{assigned-inputs}
@@ -139,7 +139,7 @@ power-grows zero (suc m) l = let r = power-grows zero m (omega arith) in omega a
 power-grows (suc k) zero l = absurd (omega arith)
 power-grows (suc k) (suc m) l = let r = power-grows k m (omega arith) in omega arith
 
-module _ (bytes : List ℕ) (i : ℕ) (chosen fixed : List ℕ) (c : Choosing bytes i chosen fixed) where
+module _ (bytes : List ℕ) (i : ℕ) (chosen fixed : List ℕ) (c : Tabulable bytes i chosen fixed) where
   abbrev scopeVariables : List Variable
   scopeVariables = scopeAt (scopesOf bytes) i .variables
 

@@ -25,7 +25,7 @@ use Rattle.tabulation.specs.Assignments.{power}
 use Rattle.tabulation.specs.Tabulate.{table}
 
 -- the scope asked for is one of an accepted book, the fixed input list is good, and the variables may be chosen
-pub record Choosing (bytes : List ℕ) (i : ℕ) (chosen fixed : List ℕ) : Type 0 where
+pub record Tabulable (bytes : List ℕ) (i : ℕ) (chosen fixed : List ℕ) : Type 0 where
   pub asked : Asked bytes i
   pub given : List Given
   pub read : inputs (scopeAt (scopesOf bytes) i .variables) fixed ≡ good given
@@ -43,13 +43,13 @@ pub data Replied (bytes : List ℕ) (i : ℕ) (chosen fixed : List ℕ) (room : 
   malformed : Asked bytes i → inputs (scopeAt (scopesOf bytes) i .variables) fixed ≡ bad → Replied bytes i chosen fixed room (refuse BadInput)
   unfit : Asked bytes i → (given : List Given) → inputs (scopeAt (scopesOf bytes) i .variables) fixed ≡ good given
       → badChoice (scopeAt (scopesOf bytes) i .variables) given chosen ≡ true → Replied bytes i chosen fixed room (refuse BadChoice)
-  short : Choosing bytes i chosen fixed → room < length (table bytes i chosen fixed) → Replied bytes i chosen fixed room (refuse BufferTooSmall)
-  whole : Choosing bytes i chosen fixed → length (table bytes i chosen fixed) ≤ room
+  short : Tabulable bytes i chosen fixed → room < length (table bytes i chosen fixed) → Replied bytes i chosen fixed room (refuse BufferTooSmall)
+  whole : Tabulable bytes i chosen fixed → length (table bytes i chosen fixed) ≤ room
       → Replied bytes i chosen fixed room (record { answer = Written (length (table bytes i chosen fixed)); written = table bytes i chosen fixed })
 
 -- where the answer is a length: the memory before and after
 pub record InTable (bytes : List ℕ) (i : ℕ) (chosen fixed memory : List ℕ) (size : ℕ) (after : List ℕ) : Type 0 where
-  pub choosing : Choosing bytes i chosen fixed
+  pub choosing : Tabulable bytes i chosen fixed
   pub whole : length (table bytes i chosen fixed) ≡ size
   pub long : size ≡ power (length chosen) * suc (resultLength (scopeAt (scopesOf bytes) i .variables))
   pub fits : size ≤ length memory

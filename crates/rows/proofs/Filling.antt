@@ -1,0 +1,197 @@
+-- Filling the rows of a table.
+--     none-left, last-row           where no variable is left: one row
+--     one-of, shorter, first-half   where one is: the others are fewer, and the table has two halves
+--     fills-first, fills-second     each half asks for what the whole does
+--     room, room-second, room-last  the variable has a cell
+--     whole, restored               the two halves are the whole, and the cell holds nothing again
+-- Assumes nothing.
+use Prim.Native.Nat.{ℕ, suc, _+_, _-_, _*_, _/_, _<_}
+use mathlib.Core.Path.{_≡_, refl, sym, ap, _∙_}
+use mathlib.Core.Bool.{Bool, true, false}
+use mathlib.Core.List.{List, [], _∷_, _++_, append-nil}
+use native.Mathlib.Omega.{arith}
+use lib.ListN.{length, getD, set, take, drop, length-set, length-append, length-drop}
+use lib.Seq.{take-at, drop-at, take-length, drop-length, set-set, set-getD, length-take-le}
+use Rattle.laws.proofs.Booleans.{neither}
+use Rattle.calculus.specs.declared.Value.the-variants.{Truth}
+use Rattle.calculus.specs.declared.Given.{Given}
+use Rattle.calculus.specs.declared.Given.the-variants.{Present}
+use Rattle.calculus.proofs.Numbers.{zero-fits}
+use Rattle.cells.specs.Codec.{noCell, yesCell, truthCell, valueCell}
+use Rattle.cells.proofs.Variables.{kept-stored}
+use Rattle.slices.proofs.Parts.{all-left}
+use Rattle.book.specs.Lists.{any}
+use Rattle.book.specs.Decode.{scopesOf}
+use Rattle.book.specs.References.{scopeAt}
+use Rattle.book.specs.declared.ValueType.the-variants.{YesNo}
+use Rattle.book.specs.declared.Variable.{Variable}
+use Rattle.book.proofs.Same.{same-type}
+use Rattle.lists.specs.Writing.{resultLengthAt}
+use Rattle.scopes.specs.Steps.{givensFrom}
+use Rattle.scopes.specs.Known.{Known}
+use Rattle.tabulation.specs.Assignments.{power}
+use Rattle.tabulation.specs.Chosen.{among, repeated, unfit}
+use Rattle.tabulation.proofs.Chosen.{Fit, fit}
+use Rattle.tabulation.proofs.Giving.{fit-after}
+use Rattle.rows.specs.Filling.{cellRow, cellRows, FillsRow, FillsRows}
+use Rattle.rows.proofs.Power.{doubled}
+use Rattle.rows.proofs.Cells.{not-given, givens-set, fitting-set}
+use Rattle.rows.proofs.Rows.{no-choice, both-halves}
+
+none-of : (chosen : List ℕ) → length chosen ≡ 0 → chosen ≡ []
+none-of [] e = refl
+none-of (v ∷ vs) e = absurd (omega arith)
+
+-- the first of the chosen variables, and the others
+split : (chosen : List ℕ) → (length chosen ≡ 0 → ⊥) → chosen ≡ getD chosen 0 0 ∷ take (length chosen - 1) (drop 1 chosen)
+split [] more = absurd (more refl)
+split (v ∷ vs) more = ap (λ (l : List ℕ). v ∷ l) (sym (all-left 1 (v ∷ vs)))
+
+pub one-of : {chosen vs : List ℕ} {v : ℕ} → (length chosen ≡ 0 → ⊥) → v ≡ getD chosen 0 0 → vs ≡ take (length chosen - 1) (drop 1 chosen) → chosen ≡ v ∷ vs
+one-of {chosen} more p q = split chosen more ∙ rw (p, q)
+
+-- the first chosen variable may be chosen; it is not among the others, and they may be chosen though it is given
+module _ (variables : List Variable) (gs : List Given) (v : ℕ) (vs : List ℕ) where
+  first-fit : any (unfit variables gs) (v ∷ vs) ≡ false → Fit variables gs v
+  unfolding any
+  first-fit e = fit variables gs v (neither (unfit variables gs v) (any (unfit variables gs) vs) e .0)
+
+  others-distinct : repeated (v ∷ vs) ≡ false → repeated vs ≡ false
+  unfolding repeated
+  others-distinct e = neither (among vs v) (repeated vs) e .1
+
+  others-fit : repeated (v ∷ vs) ≡ false → any (unfit variables gs) (v ∷ vs) ≡ false → (g : Given) → any (unfit variables (set gs v g)) vs ≡ false
+  unfolding repeated any
+  others-fit d e g =
+      fit-after variables gs v g vs (neither (among vs v) (repeated vs) d .0) (neither (unfit variables gs v) (any (unfit variables gs) vs) e .1)
+
+-- a list of which the first h bytes are put in place
+abbrev joined : List ℕ → ℕ → List ℕ → List ℕ
+joined first h table = first ++ drop h table
+
+module _ (first table : List ℕ) (h : ℕ) (size : length first ≡ h) where
+  behind : drop h (joined first h table) ≡ drop h table
+  behind = drop-at first (drop h table) h size
+
+  left : length (joined first h table) - h ≡ length (drop h table)
+  left = let l = length-append first (drop h table) in omega arith
+
+  rest-length : length (take (length (joined first h table) - h) (drop h (joined first h table))) ≡ length table - h
+  rest-length = rw (left, behind) (ap length (take-length (drop h table)) ∙ length-drop h table)
+
+  halves : (second : List ℕ) → take h (joined first h table) ++ (second ++ drop (length (joined first h table) - h) (drop h (joined first h table))) ≡ first ++ second
+  halves second =
+      rw (left, behind, drop-length (drop h table), take-at first (drop h table) h size) (ap (λ (l : List ℕ). first ++ l) (append-nil second))
+
+module _ {bytes index links orders : List ℕ} {i : ℕ} {chosen given memo table : List ℕ}
+    (f : FillsRows bytes index links orders i chosen given memo table) where
+  abbrev variables : List Variable
+  variables = scopeAt (scopesOf bytes) i .variables
+
+  abbrev gives : List ℕ → List Given
+  gives cells = givensFrom cells 0 (length variables)
+
+  pub none-left : length chosen ≡ 0 → FillsRow bytes index links orders i given memo table
+  unfolding power
+  none-left e =
+      let size : length table ≡ suc (resultLengthAt (scopesOf bytes) i) = let s = rw e at (f .size) in omega arith in
+      let d = length-drop 1 table in
+      record {
+        runs =
+            record {
+              world = f .world;
+              scope = f .scope;
+              givenRoom = f .givenRoom;
+              givenKept = f .givenKept;
+              fitting = f .fitting;
+              known = f .known;
+              room = omega arith;
+            };
+        size = size;
+      }
+
+  pub last-row : {row : List ℕ} → length chosen ≡ 0 → row ≡ cellRow bytes i given → row ≡ cellRows bytes i chosen given
+  last-row e r = r ∙ sym (ap (λ (vs : List ℕ). cellRows bytes i vs given) (none-of chosen e) ∙ no-choice bytes i given)
+
+  module _ {v : ℕ} {vs : List ℕ} (is : chosen ≡ v ∷ vs) where
+    pub shorter : length vs < length chosen
+    shorter = let l = ap length is in omega arith
+
+    distinct : repeated (v ∷ vs) ≡ false
+    distinct = ap repeated (sym is) ∙ f .distinct
+
+    allFit : any (unfit variables (gives given)) (v ∷ vs) ≡ false
+    allFit = ap (any (unfit variables (gives given))) (sym is) ∙ f .fit
+
+    fits : Fit variables (gives given) v
+    fits = first-fit variables (gives given) v vs allFit
+
+    pub room : v < length given
+    room = let k = fits .known in let g = f .givenRoom in let w = f .world .sound .variables i in omega arith
+
+    twice : length table ≡ 2 * (power (length vs) * suc (resultLengthAt (scopesOf bytes) i))
+    twice = f .size ∙ ap (λ (l : List ℕ). power (length l) * suc (resultLengthAt (scopesOf bytes) i)) is ∙ doubled (length vs) _
+
+    half : length table / 2 ≡ power (length vs) * suc (resultLengthAt (scopesOf bytes) i)
+    half = let t = twice in omega arith
+
+    pub first-half : length (take (length table / 2) table) ≡ length table / 2
+    first-half = length-take-le (length table / 2) table (omega arith)
+
+    -- the rows of the others, with the first set to no or yes
+    fills : (b : Bool) {cells known part : List ℕ} → cells ≡ set given v (truthCell b) → Known bytes known → length part ≡ length table / 2
+        → FillsRows bytes index links orders i vs cells known part
+    unfolding valueCell
+    fills b {cells} {known} {part} e k l =
+        let g : gives cells ≡ set (gives given) v (Present (Truth b)) = ap gives e ∙ givens-set given (length variables) v b room in
+        record {
+          world = f .world;
+          scope = f .scope;
+          givenRoom = ap length e ∙ length-set given v (valueCell (Truth b)) ∙ f .givenRoom;
+          givenKept = rw e (kept-stored given v (Truth b) zero-fits (f .givenKept));
+          fitting = rw g (fitting-set variables (gives given) v b (f .fitting) (sym (same-type YesNo _ (fits .typed))));
+          known = k;
+          distinct = others-distinct variables (gives given) v vs distinct;
+          fit = rw g (others-fit variables (gives given) v vs distinct allFit (Present (Truth b)));
+          size = l ∙ half;
+        }
+
+    pub fills-first : FillsRows bytes index links orders i vs (set given v noCell) memo (take (length table / 2) table)
+    fills-first = fills false refl (f .known) first-half
+
+    module _ {one : List ℕ} (same : one ≡ set given v noCell) where
+      pub room-second : v < length one
+      room-second = let l = ap length same in let s = length-set given v noCell in let r = room in omega arith
+
+      again : (c : ℕ) → set one v c ≡ set given v c
+      again c = ap (λ (xs : List ℕ). set xs v c) same ∙ set-set given v noCell c
+
+      module _ {first : List ℕ} (is-first : first ≡ cellRows bytes i vs (set given v noCell)) (kept : length first ≡ length (take (length table / 2) table)) where
+        abbrev all : List ℕ
+        all = joined first (length table / 2) table
+
+        size : length first ≡ length table / 2
+        size = kept ∙ first-half
+
+        pub fills-second : {known : List ℕ} → Known bytes known
+            → FillsRows bytes index links orders i vs (set one v yesCell) known (take (length all - length table / 2) (drop (length table / 2) all))
+        fills-second k =
+            let t = twice in
+            let l : length table - length table / 2 ≡ length table / 2 = omega arith in
+            fills true (again yesCell) k (rest-length first table (length table / 2) size ∙ l)
+
+        pub whole : {second : List ℕ} → second ≡ cellRows bytes i vs (set one v yesCell)
+            → take (length table / 2) all ++ (second ++ drop (length all - length table / 2) (drop (length table / 2) all)) ≡ cellRows bytes i chosen given
+        whole {second} e =
+            halves first table (length table / 2) size second
+            ∙ rw (is-first, e, again yesCell) (sym (both-halves bytes i given v vs))
+            ∙ ap (λ (l : List ℕ). cellRows bytes i l given) (sym is)
+
+      module _ {two : List ℕ} (same-again : two ≡ set one v yesCell) where
+        pub room-last : v < length two
+        room-last = let l = ap length same-again in let s = length-set one v yesCell in let r = room-second in omega arith
+
+        pub restored : set two v 0 ≡ given
+        restored =
+            let z : getD given v 0 ≡ 0 = not-given given (length variables) v (fits .known) (fits .fresh) in
+            ap (λ (xs : List ℕ). set xs v 0) same-again ∙ set-set one v yesCell 0 ∙ again 0 ∙ ap (set given v) (sym z) ∙ set-getD given v 0

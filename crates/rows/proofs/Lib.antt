@@ -1,0 +1,6 @@
+mod Clearing
+mod Power
+mod Row
+pub mod Cells
+mod Rows
+mod Filling
