@@ -2,25 +2,27 @@
 -- else decides.
 --     tabulated-replied      the cases of an answer
 --     tabulated-table        of a length: it is that of 2^k rows and fits the memory; the table is written from the first byte
+--     tabulated-choice       of a length: each assignment's row, which holds evaluation's answer
 --     tabulated-refused      of a refusal: not one byte is written
 --     tabulated-unchanged    of anything but a length: not one byte is written
 --     tabulated-size         the memory keeps its length
 --     tabulated-length       the length in the answer is that of the bytes written
 --     tabulated-most         and is 790,528 at most
 -- Assumes nothing.
-use Prim.Native.Nat.{ℕ, _≤_}
+use Prim.Native.Nat.{ℕ, suc, _*_, _≤_}
 use mathlib.Core.Path.{_≡_, refl, sym, ap, _∙_}
 use mathlib.Core.Bool.{Bool, true, false, false≢true}
 use mathlib.Core.List.{List, _++_}
 use mathlib.Core.Logic.{⊎-elim}
 use native.Mathlib.Omega.{arith}
-use lib.ListN.{length, drop}
+use lib.ListN.{length, take, drop}
 use lib.Dec.{ltb}
 use borrow.Author.Tests.{ltb-true, ltb-false}
 use Rattle.laws.proofs.Booleans.{decide}
 use Rattle.book.specs.Decode.{scopesOf}
 use Rattle.book.specs.References.{scopeAt}
 use Rattle.book.specs.Judge.{judge}
+use Rattle.book.specs.declared.Variable.{Variable}
 use Rattle.answers.specs.Numbers.{producedNumbers}
 use Rattle.answers.specs.Production.{Production, fitting, onJudged, producedMemory}
 use Rattle.answers.specs.declared.Judged.{Judged}
@@ -32,11 +34,14 @@ use Rattle.answers.specs.declared.Produced.the-variants.{Written, Refused}
 use Rattle.answers.proofs.Within.{Within, isWritten, fitting-cases, within-refused, within-unchanged, within-size, within-length}
 use Rattle.acceptance.proofs.Acceptance.{accepted-count}
 use Rattle.lists.specs.Inputs.{Inputs, bad, good, inputs}
+use Rattle.lists.specs.Results.{resultLength}
 use Rattle.evaluation.specs.Answers.{Asked}
-use Rattle.tabulation.specs.Chosen.{badChoice}
+use Rattle.evaluation.specs.Evaluate.{evaluate}
+use Rattle.tabulation.specs.Chosen.{badChoice, inOrder}
+use Rattle.tabulation.specs.Assignments.{binary, assigned}
 use Rattle.tabulation.specs.Tabulate.{table, onInputs, asked, tabulate}
-use Rattle.tabulation.specs.Answers.{Tabulable, Replied, InTable}
-use Rattle.tabulation.proofs.Rows.{table-length, table-most}
+use Rattle.tabulation.specs.Answers.{Tabulable, Rowed, Replied, InTable}
+use Rattle.tabulation.proofs.Rows.{table-length, choice-in, choice-answers, table-most}
 
 -- The cases
 
@@ -106,6 +111,9 @@ module _ (bytes : List ℕ) (i : ℕ) (chosen fixed memory : List ℕ) where
   abbrev reply : Production
   reply = tabulate bytes i chosen fixed (length memory)
 
+  abbrev variables : List Variable
+  variables = scopeAt (scopesOf bytes) i .variables
+
   pub tabulated-refused : (r : Refusal) → reply .answer ≡ Refused r → producedMemory reply memory ≡ memory
   tabulated-refused r e = within-refused (tabulated-within bytes i chosen fixed (length memory)) r e memory
 
@@ -134,3 +142,11 @@ module _ (bytes : List ℕ) (i : ℕ) (chosen fixed memory : List ℕ) where
 
   pub tabulated-table : (size : ℕ) → reply .answer ≡ Written size → InTable bytes i chosen fixed memory size (producedMemory reply memory)
   tabulated-table size = in-table size reply (tabulated-replied bytes i chosen fixed (length memory))
+
+  -- "Every choice is there once, with evaluation's answer": the row of an assignment, in the memory afterwards
+  pub tabulated-choice : (size : ℕ) → reply .answer ≡ Written size → (a : List Bool) → length a ≡ length chosen
+      → Rowed (resultLength variables) (evaluate bytes i (fixed ++ assigned (inOrder chosen variables) a) (resultLength variables))
+      (take (suc (resultLength variables)) (drop (binary a * suc (resultLength variables)) (producedMemory reply memory)))
+  tabulated-choice size e a long =
+      let t = tabulated-table size e in
+      rw (t .written, choice-in bytes i chosen fixed (t .choosing) (drop size memory) a long) (choice-answers bytes i chosen fixed (t .choosing) a long)

@@ -18,19 +18,20 @@ use borrow.Author.Tests.{ltb-true, ltb-false}
 use Rattle.laws.proofs.Booleans.{decide}
 use Rattle.tabulation.specs.Assignments.{assignments, power, binary}
 
+-- two lists made of one
+two-halves : (f g : List Bool → List Bool) (xs : List (List Bool)) → length (map f xs ++ map g xs) ≡ 2 * length xs
+two-halves f g xs = omega (arith, length-append (map f xs) (map g xs), length-map xs f, length-map xs g)
+
+pub assignments-count : (k : ℕ) → length (assignments k) ≡ power k
+unfolding assignments power
+assignments-count zero = refl
+assignments-count (suc k) = two-halves _ _ (assignments k) ∙ ap (λ (n : ℕ). 2 * n) (assignments-count k)
+
 abbrev withNo : List Bool → List Bool
 withNo a = false ∷ a
 
 abbrev withYes : List Bool → List Bool
 withYes a = true ∷ a
-
-pub assignments-count : (k : ℕ) → length (assignments k) ≡ power k
-unfolding assignments power
-assignments-count zero = refl
-assignments-count (suc k) =
-    let c = assignments-count k in
-    let xs = assignments k in
-    omega (arith, length-append (map withNo xs) (map withYes xs), length-map xs withNo, length-map xs withYes)
 
 -- what stands in a mapped list
 map-at : (f : List Bool → List Bool) (xs : List (List Bool)) (n : ℕ) → n < length xs → getD (map f xs) n [] ≡ f (getD xs n [])

@@ -4,14 +4,14 @@
 --     assigned-inputs    a good list with the records of an assignment is good, and gives what `giving` says
 --     giving-length      one for each variable, as before
 -- Assumes nothing.
-use Prim.Native.Nat.{ℕ, suc, _≤_}
-use mathlib.Core.Path.{_≡_, refl, sym, ap, _∙_}
-use mathlib.Core.Bool.{Bool, true, false, not, _||_}
+use Prim.Native.Nat.{ℕ, suc}
+use mathlib.Core.Path.{_≡_, refl, sym, _∙_}
+use mathlib.Core.Bool.{Bool, true, false}
 use mathlib.Core.List.{List, [], _∷_, _++_}
 use native.Mathlib.Omega.{arith}
 use lib.ListN.{length, getD, set, length-set}
 use lib.Seq.{getD-set-other}
-use lib.Dec.{eqb, ltb}
+use lib.Dec.{eqb}
 use borrow.Author.Tests.{le-ltb, eqb-false}
 use Rattle.laws.proofs.Booleans.{neither}
 use Rattle.calculus.specs.declared.Value.the-variants.{Truth}
@@ -19,7 +19,7 @@ use Rattle.calculus.specs.declared.Given.{Given}
 use Rattle.calculus.specs.declared.Given.the-variants.{Absent, Present}
 use Rattle.book.specs.Lists.{any}
 use Rattle.book.specs.declared.Variable.{Variable}
-use Rattle.lists.specs.Inputs.{good, isGiven, badRecord, inputsFrom, inputs}
+use Rattle.lists.specs.Inputs.{good, badRecord, inputsFrom, inputs}
 use Rattle.lists.specs.Results.{bit}
 use Rattle.lists.proofs.Givens.{good-more}
 use Rattle.tabulation.specs.Chosen.{among, repeated, unfit}

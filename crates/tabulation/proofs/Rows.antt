@@ -6,7 +6,8 @@
 --     rows-length, rows-at    rows of one length: how long they are, and which stands where
 --     table-length     2^k rows
 --     row-at           the n-th row is that of the n-th assignment
---     choice-row       the row of an assignment stands at its binary number
+--     choice-row, choice-in    the row of an assignment stands at its binary number, also with bytes behind the table
+--     choice-answers   it holds evaluation's answer
 --     table-most       a table has 790,528 bytes at most
 -- Assumes nothing.
 use Prim.Native.Nat.{ℕ, zero, suc, _+_, _-_, _*_, _≤_, _<_}
@@ -14,15 +15,16 @@ use mathlib.Core.Path.{_≡_, refl, sym, ap, subst, _∙_}
 use mathlib.Core.Bool.{Bool, false}
 use mathlib.Core.List.{List, [], _∷_, _++_, append-nil}
 use native.Mathlib.Omega.{arith}
-use native.Mathlib.Nat.{suc-mul, mul-le-mul}
-use lib.ListN.{length, getD, take, drop, replicate, length-append, length-replicate}
-use lib.Seq.{take-suc, take-at, drop-append-add}
+use native.Mathlib.Nat.{suc-mul, mul-le-mul, mul-le-mul-right}
+use lib.ListN.{length, getD, take, drop, replicate, length-append, length-drop, length-replicate}
+use lib.Seq.{take-at, take-append-le, drop-append-le, drop-append-add}
 use borrow.Author.Tests.{lt-ltb, le-leb}
 use Rattle.calculus.specs.declared.Given.{Given}
 use Rattle.book.specs.Decode.{scopesOf}
 use Rattle.book.specs.References.{scopeAt}
 use Rattle.book.specs.Judge.{judge}
 use Rattle.book.specs.declared.Variable.{Variable}
+use Rattle.answers.specs.Numbers.{causeNumber}
 use Rattle.answers.specs.declared.Cause.{Cause}
 use Rattle.answers.specs.declared.Judged.{Judged}
 use Rattle.answers.specs.declared.Judged.the-variants as judged
@@ -46,6 +48,12 @@ use Rattle.tabulation.proofs.Giving.{assigned-inputs}
 
 -- The row of a reply
 
+row-empty : (size : ℕ) (cause : Cause) (count : ℕ) → Rowed size (replyOf (ended cause count)) (rowOf size (replyOf (ended cause count)))
+unfolding rowOf
+row-empty size cause count =
+    let all : size ≡ size - 0 = omega arith in
+    subst (λ (k : ℕ). Rowed size (replyOf (ended cause count)) (causeNumber cause ∷ replicate k 0)) all (Rowed.inEnd cause count)
+
 row-full : (size count : ℕ) (written : List ℕ) → length written ≡ size
     → Rowed size (record { answer = Values count (length written); written = written })
     (rowOf size (record { answer = Values count (length written); written = written }))
@@ -53,10 +61,6 @@ unfolding rowOf
 row-full size count written e =
     let none : size - size ≡ 0 = omega arith in
     rw (e, none, append-nil written) (Rowed.inValues count written e)
-
-row-empty : (size : ℕ) (cause : Cause) (count : ℕ) → Rowed size (replyOf (ended cause count)) (rowOf size (replyOf (ended cause count)))
-unfolding rowOf
-row-empty size cause count = let all : size - 0 ≡ size = omega arith in rw all (Rowed.inEnd cause count)
 
 rowed-length : {size : ℕ} {reply : Reply} {bytes : List ℕ} → Rowed size reply bytes → length bytes ≡ suc size
 rowed-length (Rowed.inValues count written e) = ap suc e
@@ -153,7 +157,8 @@ module _ (bytes : List ℕ) (i : ℕ) (chosen fixed : List ℕ) (c : Tabulable b
   count = assignments-count (length order) ∙ ap power as-many
 
   -- each row has the length of all
-  each-long : (j : ℕ) → j < length (assignments (length order)) → length (row bytes i chosen fixed (getD (assignments (length order)) j [])) ≡ suc (resultLength scopeVariables)
+  each-long : (j : ℕ) → j < length (assignments (length order))
+      → length (row bytes i chosen fixed (getD (assignments (length order)) j [])) ≡ suc (resultLength scopeVariables)
   each-long j l =
       row-length bytes (c .asked .scopes) i (c .asked .accepted) (c .asked .present) chosen fixed (c .given) (c .read) (c .fit)
       (getD (assignments (length order)) j [])
@@ -179,6 +184,26 @@ module _ (bytes : List ℕ) (i : ℕ) (chosen fixed : List ℕ) (c : Tabulable b
       row-at (binary a) (rw (← e) (binary-below a))
       ∙ ap (λ (k : ℕ). row bytes i chosen fixed (getD (assignments k) (binary a) [])) (sym e)
       ∙ ap (row bytes i chosen fixed) (assignment-at a)
+
+  -- it lies in the table, whatever stands behind that
+  pub choice-in : (rest : List ℕ) (a : List Bool) → length a ≡ length chosen
+      → take (suc (resultLength scopeVariables)) (drop (binary a * suc (resultLength scopeVariables)) (table bytes i chosen fixed ++ rest))
+      ≡ row bytes i chosen fixed a
+  choice-in rest a e =
+      let width = suc (resultLength scopeVariables) in
+      let whole = table bytes i chosen fixed in
+      let at = binary a * width in
+      let below : suc (binary a) ≤ power (length chosen) = rw (← e) (binary-below a) in
+      let inside : suc (binary a) * width ≤ power (length chosen) * width = mul-le-mul-right width below in
+      let end : at + width ≤ length whole = omega (arith, inside, suc-mul (binary a) width, table-length) in
+      ap (take width) (drop-append-le at whole rest (omega (arith, end)))
+      ∙ take-append-le width (drop at whole) rest (omega (arith, end, length-drop at whole))
+      ∙ choice-row a e
+
+  pub choice-answers : (a : List Bool) → length a ≡ length chosen
+      → Rowed (resultLength scopeVariables) (evaluate bytes i (fixed ++ assigned order a) (resultLength scopeVariables)) (row bytes i chosen fixed a)
+  choice-answers a e =
+      row-answers bytes (c .asked .scopes) i (c .asked .accepted) (c .asked .present) chosen fixed (c .given) (c .read) (c .fit) a (e ∙ sym as-many)
 
   pub table-most : length (table bytes i chosen fixed) ≤ 790528
   unfolding power
