@@ -29,7 +29,7 @@ use Rattle.lists.specs.Reading.{typed}
 use Rattle.lists.proofs.Types.{typed-count, typed-at}
 use Rattle.tabulation.specs.Chosen.{among, repeated, unfit, badChoice}
 use Rattle.tabulation.proofs.Chosen.{fit}
-use Rattle.choices.specs.Marks.{Marking}
+use Rattle.choices.specs.Marks.{ChosenMarked}
 
 -- One variable
 
@@ -52,15 +52,15 @@ repeated-later (suc n) [] e = e
 repeated-later (suc n) (x ∷ xs) e = rw (repeated-later n xs e) (or-true (among xs x))
 
 module _ {variables : List Variable} {given : List Given} {chosen marks : List ℕ} (size : length marks ≡ 32) where
-  refuse : badChoice variables given chosen ≡ true → Marking variables given chosen false marks
+  refuse : badChoice variables given chosen ≡ true → ChosenMarked variables given chosen false marks
   refuse bad = record { size = size; taken = λ e. absurd (false≢true e); exact = λ e. absurd (false≢true e); refused = λ e. bad }
 
-  pub too-many : 12 < length chosen → Marking variables given chosen false marks
+  pub too-many : 12 < length chosen → ChosenMarked variables given chosen false marks
   unfolding badChoice
   too-many h = refuse (rw (lt-ltb 12 (length chosen) h))
 
 -- those from a place on are good and marked, and no other is
-pub record Marked (variables : List Variable) (given : List Given) (chosen marks : List ℕ) (left : ℕ) : Type 0 where
+pub record MarkingChosen (variables : List Variable) (given : List Given) (chosen marks : List ℕ) (left : ℕ) : Type 0 where
   pub size : length marks ≡ 32
   pub inside : left ≤ length chosen
   pub once : repeated (drop left chosen) ≡ false
@@ -68,7 +68,7 @@ pub record Marked (variables : List Variable) (given : List Given) (chosen marks
   pub exact : (v : ℕ) → marked marks v ≡ among (drop left chosen) v
 
 pub start : (variables : List Variable) (given : List Given) (chosen : List ℕ) {marks : List ℕ} → marks ≡ replicate 32 0
-    → Marked variables given chosen marks (length chosen)
+    → MarkingChosen variables given chosen marks (length chosen)
 unfolding repeated any among
 start variables given chosen e =
     record {
@@ -79,8 +79,8 @@ start variables given chosen e =
       exact = λ v. rw (e, zero-marks 32 v, drop-length chosen);
     }
 
-module _ {variables : List Variable} {given : List Given} {chosen marks : List ℕ} {left : ℕ} (m : Marked variables given chosen marks left) where
-  pub stop : length chosen ≤ 12 → left ≡ 0 → Marking variables given chosen true marks
+module _ {variables : List Variable} {given : List Given} {chosen marks : List ℕ} {left : ℕ} (m : MarkingChosen variables given chosen marks left) where
+  pub stop : length chosen ≤ 12 → left ≡ 0 → ChosenMarked variables given chosen true marks
   unfolding badChoice
   stop few e =
       let once : repeated chosen ≡ false = rw e at (m .once) in
@@ -102,14 +102,14 @@ module _ {variables : List Variable} {given : List Given} {chosen marks : List �
         let s : suc (left - 1) ≡ left = omega arith in
         rw (drop-cons chosen (left - 1) 0 (omega arith), s)
 
-    pub unfit-one : unfit variables given (getD chosen (left - 1) 0) ≡ true → Marking variables given chosen false marks
+    pub unfit-one : unfit variables given (getD chosen (left - 1) 0) ≡ true → ChosenMarked variables given chosen false marks
     unfolding badChoice
     unfit-one e =
         let i = m .inside in
         refuse (m .size)
         (rw (any-at (unfit variables given) chosen (left - 1) (omega arith) 0 e, or-true (repeated chosen)) (or-true (ltb 12 (length chosen))))
 
-    pub twice : marked marks (getD chosen (left - 1) 0) ≡ true → Marking variables given chosen false marks
+    pub twice : marked marks (getD chosen (left - 1) 0) ≡ true → ChosenMarked variables given chosen false marks
     unfolding badChoice repeated
     twice e =
         let again : repeated (drop (left - 1) chosen) ≡ true = rw (first, ← m .exact v, e) in
@@ -119,7 +119,7 @@ module _ {variables : List Variable} {given : List Given} {chosen marks : List �
       pub has-mark : getD chosen (left - 1) 0 < length marks
       has-mark = let k = fit variables given v ok .known in let s = m .size in omega arith
 
-      pub turn : marked marks (getD chosen (left - 1) 0) ≡ false → Marked variables given chosen (set marks (getD chosen (left - 1) 0) 1) (left - 1)
+      pub turn : marked marks (getD chosen (left - 1) 0) ≡ false → MarkingChosen variables given chosen (set marks (getD chosen (left - 1) 0) 1) (left - 1)
       unfolding repeated any among
       turn new =
           let i = m .inside in

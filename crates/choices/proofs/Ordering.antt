@@ -1,6 +1,5 @@
 -- Laws of writing the marked numbers, the lowest first.
 --     start, marked-one, other-one, stop    writing goes on: at first, after a number that is marked or not, after all
---     room                                  there is a place for one more
 --     marks-order                           where exactly the chosen variables are marked, these are they in order
 -- Assumes nothing.
 use Prim.Native.Nat.{ℕ, suc, _+_, _≤_, _<_}
@@ -18,20 +17,20 @@ use Rattle.laws.proofs.Booleans.{decide}
 use Rattle.order.specs.Matrix.{marked}
 use Rattle.book.specs.declared.Variable.{Variable}
 use Rattle.tabulation.specs.Chosen.{among, chosenFrom, inOrder}
-use Rattle.choices.specs.Marks.{markedFrom, Ordering}
+use Rattle.choices.specs.Marks.{markedFrom, MarkedWritten}
 
 -- the marked numbers below v are written
-pub record Ordered (marks ordered : List ℕ) (count v : ℕ) : Type 0 where
+pub record WritingMarked (marks ordered : List ℕ) (count v : ℕ) : Type 0 where
   pub size : length ordered ≡ 32
   pub below : count ≤ v
   pub inside : v ≤ length marks
   pub rest : take count ordered ++ markedFrom v (drop v marks) ≡ markedFrom 0 marks
 
-pub start : (marks : List ℕ) {ordered : List ℕ} → length ordered ≡ 32 → Ordered marks ordered 0 0
+pub start : (marks : List ℕ) {ordered : List ℕ} → length ordered ≡ 32 → WritingMarked marks ordered 0 0
 start marks s = record { size = s; below = omega arith; inside = omega arith; rest = refl }
 
-module _ {marks ordered : List ℕ} {count v : ℕ} (o : Ordered marks ordered count v) (few : length marks ≤ 32) where
-  pub stop : length marks ≤ v → Ordering marks ordered
+module _ {marks ordered : List ℕ} {count v : ℕ} (o : WritingMarked marks ordered count v) (few : length marks ≤ 32) where
+  pub stop : length marks ≤ v → MarkedWritten marks ordered
   unfolding markedFrom
   stop h =
       let b = o .below in
@@ -43,10 +42,11 @@ module _ {marks ordered : List ℕ} {count v : ℕ} (o : Ordered marks ordered c
       record { size = o .size; written = rw n all }
 
   module _ (h : v < length marks) where
-    pub room : count < length ordered
+    -- there is a place for one more
+    room : count < length ordered
     room = let b = o .below in let s = o .size in omega arith
 
-    pub marked-one : (getD marks v 0 ≡ 0 → ⊥) → Ordered marks (set ordered count v) (count + 1) (v + 1)
+    pub marked-one : (getD marks v 0 ≡ 0 → ⊥) → WritingMarked marks (set ordered count v) (count + 1) (v + 1)
     unfolding markedFrom
     marked-one e =
         let b = o .below in
@@ -60,7 +60,7 @@ module _ {marks ordered : List ℕ} {count v : ℕ} (o : Ordered marks ordered c
               ∙ rw (drop-cons marks v 0 h, ne-eqb (getD marks v 0) 0 e) at (o .rest));
         }
 
-    pub other-one : getD marks v 0 ≡ 0 → Ordered marks ordered count (v + 1)
+    pub other-one : getD marks v 0 ≡ 0 → WritingMarked marks ordered count (v + 1)
     unfolding markedFrom
     other-one e =
         let b = o .below in

@@ -16,13 +16,13 @@ markedFrom v [] = []
 markedFrom v (m ∷ ms) = cond (eqb m 0) (markedFrom (suc v) ms) (v ∷ markedFrom (suc v) ms)
 
 -- what marking the chosen variables answers: whether they are good; and if they are, that they are marked and no other
-pub record Marking (variables : List Variable) (given : List Given) (chosen : List ℕ) (answer : Bool) (marks : List ℕ) : Type 0 where
+pub record ChosenMarked (variables : List Variable) (given : List Given) (chosen : List ℕ) (answer : Bool) (marks : List ℕ) : Type 0 where
   pub size : length marks ≡ 32
   pub taken : answer ≡ true → badChoice variables given chosen ≡ false
   pub exact : answer ≡ true → (v : ℕ) → marked marks v ≡ among chosen v
   pub refused : answer ≡ false → badChoice variables given chosen ≡ true
 
 -- the marked numbers are written from the first place on
-pub record Ordering (marks ordered : List ℕ) : Type 0 where
+pub record MarkedWritten (marks ordered : List ℕ) : Type 0 where
   pub size : length ordered ≡ 32
   pub written : take (length (markedFrom 0 marks)) ordered ≡ markedFrom 0 marks

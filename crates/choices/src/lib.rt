@@ -1,4 +1,5 @@
-// The chosen variables of a scope: whether they are good, and their order. 18: "more than 12 chosen, one chosen twice, absent, not yes/no, or in the fixed list".
+// The chosen variables of a scope: whether they are good, and their order.
+// 18: "more than 12 chosen, one chosen twice, absent, not yes/no, or in the fixed list".
 use book::ValueType;
 use cells::given_at;
 use inputs::is_given;
@@ -15,7 +16,7 @@ ghost use Rattle.book.specs.References.{scopeAt};
 ghost use Rattle.index.specs.Index.{Laid};
 ghost use Rattle.lists.specs.Reading.{typed};
 ghost use Rattle.tabulation.specs.Chosen.{unfit};
-ghost use Rattle.choices.specs.Marks.{Marking, Ordering};
+ghost use Rattle.choices.specs.Marks.{ChosenMarked, MarkedWritten};
 ghost use Rattle.choices.specs.Choosing.{Choosing};
 
 // Whether a variable cannot be chosen, by the type bytes and the cells of the fixed list.
@@ -36,7 +37,7 @@ fn is_unfit(types: &[u8], given: &[u64], v: u8) -> bool
 fn mark_chosen(types: &[u8], given: &[u64], chosen: &[u8], marks: &mut [u8]) -> bool
     requires { ⌜ length (now types) ≤ 32 ⌝ }
     requires { ⌜ now marks ≡ replicate 32 0 ⌝ }
-    ensures { λ r. ⌜ Marking (typed (now (types .entry))) (map givenOf (now (given .entry))) (now (chosen .entry)) r (now (marks .exit)) ⌝ }
+    ensures { λ r. ⌜ ChosenMarked (typed (now (types .entry))) (map givenOf (now (given .entry))) (now (chosen .entry)) r (now (marks .exit)) ⌝ }
 {
     if 12 < chosen.len() {
         return false;
@@ -61,7 +62,7 @@ fn mark_chosen(types: &[u8], given: &[u64], chosen: &[u8], marks: &mut [u8]) -> 
 fn order_marked(marks: &[u8], ordered: &mut [u8])
     requires { ⌜ length (now marks) ≤ 32 ⌝ }
     requires { ⌜ length (now ordered) ≡ 32 ⌝ }
-    ensures { λ _. ⌜ Ordering (now (marks .entry)) (now (ordered .exit)) ⌝ }
+    ensures { λ _. ⌜ MarkedWritten (now (marks .entry)) (now (ordered .exit)) ⌝ }
 {
     let mut count: usize = 0;
     let mut v: usize = 0;

@@ -10,18 +10,18 @@ use Rattle.order.proofs.Matrix.{marked-true, marked-false}
 use Rattle.cells.specs.Cells.{givenOf}
 use Rattle.lists.specs.Reading.{typed}
 use Rattle.lists.proofs.Types.{typed-count}
-use Rattle.choices.proofs.Marking.{Marked, too-many, start, turn, stop, unfit-one, twice, has-mark}
+use Rattle.choices.proofs.Marking.{MarkingChosen, too-many, start, turn, stop, unfit-one, twice, has-mark}
 use Rattle.choices.proofs.mark_chosen.Statement.{statement}
 use Rattle.choices.proofs.mark_chosen.Tie as tie
 
 abbrev Inv-loop : tie.InvT-loop
-Inv-loop types given chosen marks₀ left₀ marks left = Marked (typed types) (map givenOf given) chosen marks left
+Inv-loop types given chosen marks₀ left₀ marks left = MarkingChosen (typed types) (map givenOf given) chosen marks left
 
 abbrev μ-loop : tie.MeasureT-loop
 μ-loop types given chosen marks₀ left₀ marks left = left
 
 returns : tie.Need-returns Inv-loop μ-loop
-returns c = too-many (ap length (c .before .before .before .before .before .pre .1)) (c .if1 .taken)
+returns c = too-many (ap length (c .before .before .before .before .before .pre .1)) (omega (arith, c .if1 .taken))
 
 loop-holds : tie.Need-loop-holds Inv-loop μ-loop
 loop-holds c = start _ _ _ (c .before .before .before .before .before .pre .1)

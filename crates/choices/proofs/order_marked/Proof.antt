@@ -6,12 +6,12 @@ use mathlib.Core.Logic.{⊎-elim}
 use lib.ListN.{length}
 use native.Mathlib.Omega.{arith}
 use borrow.Author.Needs.{needs}
-use Rattle.choices.proofs.Ordering.{Ordered, start, marked-one, other-one, stop, room}
+use Rattle.choices.proofs.Ordering.{WritingMarked, start, marked-one, other-one, stop}
 use Rattle.choices.proofs.order_marked.Statement.{statement}
 use Rattle.choices.proofs.order_marked.Tie as tie
 
 abbrev Inv-loop : tie.InvT-loop
-Inv-loop marks ordered₀ count₀ v₀ ordered count v = Ordered marks ordered count v
+Inv-loop marks ordered₀ count₀ v₀ ordered count v = WritingMarked marks ordered count v
 
 abbrev μ-loop : tie.MeasureT-loop
 μ-loop marks ordered₀ count₀ v₀ ordered count v = length marks - v
@@ -23,13 +23,13 @@ shared-slice-read-if1 : tie.Need-shared-slice-read-if1 Inv-loop μ-loop
 shared-slice-read-if1 c = search needs
 
 cast-ordered : tie.Need-cast-ordered Inv-loop μ-loop
-cast-ordered c = omega (arith, c .before .before .before .before .pre .0, c .before .before .loop-test .taken)
+cast-ordered c = omega (arith, c .before .before .before .before .pre .0, c .before .before .loop-test .taken, c .before .before .before .loop .inv .below)
 
 slice-write-ordered : tie.Need-slice-write-ordered Inv-loop μ-loop
-slice-write-ordered c = room (c .before .before .before .loop .inv) (c .before .before .before .before .pre .0) (c .before .before .loop-test .taken)
+slice-write-ordered c = omega (arith, c .before .before .before .before .pre .0, c .before .before .loop-test .taken, c .before .before .before .loop .inv .below, c .before .before .before .loop .inv .size)
 
 add-count : tie.Need-add-count Inv-loop μ-loop
-add-count c = let r = room (c .before .before .before .loop .inv) (c .before .before .before .before .pre .0) (c .before .before .loop-test .taken) in omega (arith, r, c .before .before .before .loop .inv .size)
+add-count c = omega (arith, c .before .before .before .before .pre .0, c .before .before .loop-test .taken, c .before .before .before .loop .inv .below)
 
 add-v : tie.Need-add-v Inv-loop μ-loop
 add-v c = search needs
