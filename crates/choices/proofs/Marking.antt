@@ -27,7 +27,9 @@ use Rattle.cells.specs.Cells.{givenOf, givenAt}
 use Rattle.lists.specs.Inputs.{isGiven}
 use Rattle.lists.specs.Reading.{typed}
 use Rattle.lists.proofs.Types.{typed-count, typed-at}
-use Rattle.tabulation.specs.Chosen.{among, repeated, unfit, badChoice}
+use Rattle.order.specs.Order.{among}
+use Rattle.book.specs.Sharing.{repeats}
+use Rattle.tabulation.specs.Chosen.{unfit, badChoice}
 use Rattle.tabulation.proofs.Chosen.{fit}
 use Rattle.choices.specs.Marks.{ChosenMarked}
 
@@ -45,8 +47,8 @@ module _ (types cells : List ℕ) (v : ℕ) where
 
 -- All of them
 
-repeated-later : (n : ℕ) (xs : List ℕ) → repeated (drop n xs) ≡ true → repeated xs ≡ true
-unfolding repeated
+repeated-later : (n : ℕ) (xs : List ℕ) → repeats (drop n xs) ≡ true → repeats xs ≡ true
+unfolding repeats
 repeated-later zero xs e = e
 repeated-later (suc n) [] e = e
 repeated-later (suc n) (x ∷ xs) e = rw (repeated-later n xs e) (or-true (among xs x))
@@ -63,13 +65,13 @@ module _ {variables : List Variable} {given : List Given} {chosen marks : List �
 pub record MarkingChosen (variables : List Variable) (given : List Given) (chosen marks : List ℕ) (left : ℕ) : Type 0 where
   pub size : length marks ≡ 32
   pub inside : left ≤ length chosen
-  pub once : repeated (drop left chosen) ≡ false
+  pub once : repeats (drop left chosen) ≡ false
   pub fits : any (unfit variables given) (drop left chosen) ≡ false
   pub exact : (v : ℕ) → marked marks v ≡ among (drop left chosen) v
 
 pub start : (variables : List Variable) (given : List Given) (chosen : List ℕ) {marks : List ℕ} → marks ≡ replicate 32 0
     → MarkingChosen variables given chosen marks (length chosen)
-unfolding repeated any among
+unfolding repeats any among
 start variables given chosen e =
     record {
       size = rw e refl;
@@ -83,7 +85,7 @@ module _ {variables : List Variable} {given : List Given} {chosen marks : List �
   pub stop : length chosen ≤ 12 → left ≡ 0 → ChosenMarked variables given chosen true marks
   unfolding badChoice
   stop few e =
-      let once : repeated chosen ≡ false = rw e at (m .once) in
+      let once : repeats chosen ≡ false = rw e at (m .once) in
       let fits : any (unfit variables given) chosen ≡ false = rw e at (m .fits) in
       record {
         size = m .size;
@@ -107,12 +109,12 @@ module _ {variables : List Variable} {given : List Given} {chosen marks : List �
     unfit-one e =
         let i = m .inside in
         refuse (m .size)
-        (rw (any-at (unfit variables given) chosen (left - 1) (omega arith) 0 e, or-true (repeated chosen)) (or-true (ltb 12 (length chosen))))
+        (rw (any-at (unfit variables given) chosen (left - 1) (omega arith) 0 e, or-true (repeats chosen)) (or-true (ltb 12 (length chosen))))
 
     pub twice : marked marks (getD chosen (left - 1) 0) ≡ true → ChosenMarked variables given chosen false marks
-    unfolding badChoice repeated
+    unfolding badChoice repeats
     twice e =
-        let again : repeated (drop (left - 1) chosen) ≡ true = rw (first, ← m .exact v, e) in
+        let again : repeats (drop (left - 1) chosen) ≡ true = rw (first, ← m .exact v, e) in
         refuse (m .size) (rw (repeated-later (left - 1) chosen again) (or-true (ltb 12 (length chosen))))
 
     module _ (few : length variables ≤ 32) (ok : unfit variables given (getD chosen (left - 1) 0) ≡ false) where
@@ -120,7 +122,7 @@ module _ {variables : List Variable} {given : List Given} {chosen marks : List �
       has-mark = let k = fit variables given v ok .known in let s = m .size in omega arith
 
       pub turn : marked marks (getD chosen (left - 1) 0) ≡ false → MarkingChosen variables given chosen (set marks (getD chosen (left - 1) 0) 1) (left - 1)
-      unfolding repeated any among
+      unfolding repeats any among
       turn new =
           let i = m .inside in
           record {

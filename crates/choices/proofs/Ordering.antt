@@ -16,7 +16,8 @@ use borrow.Author.Tests.{eq-eqb, ne-eqb}
 use Rattle.laws.proofs.Booleans.{decide}
 use Rattle.order.specs.Matrix.{marked}
 use Rattle.book.specs.declared.Variable.{Variable}
-use Rattle.tabulation.specs.Chosen.{among, chosenFrom, inOrder}
+use Rattle.order.specs.Order.{among}
+use Rattle.tabulation.specs.Chosen.{chosenFrom, inOrder}
 use Rattle.choices.specs.Marks.{markedFrom, MarkedWritten}
 
 -- the marked numbers below v are written

@@ -8,7 +8,8 @@ use lib.Dec.{eqb}
 use Rattle.calculus.specs.declared.Given.{Given}
 use Rattle.order.specs.Matrix.{marked}
 use Rattle.book.specs.declared.Variable.{Variable}
-use Rattle.tabulation.specs.Chosen.{among, badChoice}
+use Rattle.order.specs.Order.{among}
+use Rattle.tabulation.specs.Chosen.{badChoice}
 
 -- the numbers that are marked, in order, the first byte's number being v
 unfoldable pub markedFrom : ℕ → List ℕ → List ℕ

@@ -30,7 +30,9 @@ use Rattle.lists.specs.Writing.{resultLengthAt}
 use Rattle.scopes.specs.Steps.{givensFrom}
 use Rattle.scopes.specs.Known.{Known}
 use Rattle.tabulation.specs.Assignments.{power}
-use Rattle.tabulation.specs.Chosen.{among, repeated, unfit}
+use Rattle.order.specs.Order.{among}
+use Rattle.book.specs.Sharing.{repeats}
+use Rattle.tabulation.specs.Chosen.{unfit}
 use Rattle.tabulation.proofs.Chosen.{Fit, fit}
 use Rattle.tabulation.proofs.Giving.{fit-after}
 use Rattle.rows.specs.Filling.{cellRow, cellRows, FillsRow, FillsRows}
@@ -56,14 +58,14 @@ module _ (variables : List Variable) (gs : List Given) (v : ℕ) (vs : List ℕ)
   unfolding any
   first-fit e = fit variables gs v (neither (unfit variables gs v) (any (unfit variables gs) vs) e .0)
 
-  others-distinct : repeated (v ∷ vs) ≡ false → repeated vs ≡ false
-  unfolding repeated
-  others-distinct e = neither (among vs v) (repeated vs) e .1
+  others-distinct : repeats (v ∷ vs) ≡ false → repeats vs ≡ false
+  unfolding repeats
+  others-distinct e = neither (among vs v) (repeats vs) e .1
 
-  others-fit : repeated (v ∷ vs) ≡ false → any (unfit variables gs) (v ∷ vs) ≡ false → (g : Given) → any (unfit variables (set gs v g)) vs ≡ false
-  unfolding repeated any
+  others-fit : repeats (v ∷ vs) ≡ false → any (unfit variables gs) (v ∷ vs) ≡ false → (g : Given) → any (unfit variables (set gs v g)) vs ≡ false
+  unfolding repeats any
   others-fit d e g =
-      fit-after variables gs v g vs (neither (among vs v) (repeated vs) d .0) (neither (unfit variables gs v) (any (unfit variables gs) vs) e .1)
+      fit-after variables gs v g vs (neither (among vs v) (repeats vs) d .0) (neither (unfit variables gs v) (any (unfit variables gs) vs) e .1)
 
 -- a list of which the first h bytes are put in place
 abbrev joined : List ℕ → ℕ → List ℕ → List ℕ
@@ -117,8 +119,8 @@ module _ {bytes index links orders : List ℕ} {i : ℕ} {chosen given memo tabl
     pub shorter : length vs < length chosen
     shorter = let l = ap length is in omega arith
 
-    distinct : repeated (v ∷ vs) ≡ false
-    distinct = ap repeated (sym is) ∙ f .distinct
+    distinct : repeats (v ∷ vs) ≡ false
+    distinct = ap repeats (sym is) ∙ f .distinct
 
     allFit : any (unfit variables (gives given)) (v ∷ vs) ≡ false
     allFit = ap (any (unfit variables (gives given))) (sym is) ∙ f .fit

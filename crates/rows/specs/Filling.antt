@@ -7,6 +7,7 @@ use lib.ListN.{length, set, take, drop, replicate}
 use Rattle.calculus.specs.declared.Value.the-variants.{Truth}
 use Rattle.cells.specs.Codec.{valueCell, AllKept}
 use Rattle.book.specs.Lists.{any}
+use Rattle.book.specs.Sharing.{gathered}
 use Rattle.book.specs.Decode.{scopesOf}
 use Rattle.book.specs.References.{scopeAt}
 use Rattle.lists.specs.Writing.{resultLengthAt}
@@ -16,8 +17,9 @@ use Rattle.scopes.specs.Steps.{World, givensFrom, enteredAt}
 use Rattle.scopes.specs.Known.{Known}
 use Rattle.loaded.specs.Loaded.{RunsLoaded}
 use Rattle.tabulation.specs.Assignments.{assignments, power}
-use Rattle.tabulation.specs.Chosen.{repeated, unfit}
-use Rattle.tabulation.specs.Tabulate.{rowOf, rows}
+use Rattle.book.specs.Sharing.{repeats}
+use Rattle.tabulation.specs.Chosen.{unfit}
+use Rattle.tabulation.specs.Tabulate.{rowOf}
 
 -- "or as many zero bytes where there are no values": zeros from a position on
 unfoldable pub cleared : List ℕ → ℕ → List ℕ
@@ -36,7 +38,7 @@ cellRow bytes i cells = rowOf (resultLengthAt (scopesOf bytes) i) (replyOf (ente
 
 -- "every choice of no and yes": the rows of all assignments
 unfoldable pub cellRows : List ℕ → ℕ → List ℕ → List ℕ → List ℕ
-cellRows bytes i vs cells = rows (λ a. cellRow bytes i (assign cells vs a)) (assignments (length vs))
+cellRows bytes i vs cells = gathered (λ a. cellRow bytes i (assign cells vs a)) (assignments (length vs))
 
 -- scope i can be run, and its row has its length
 pub record FillsRow (bytes index links orders : List ℕ) (i : ℕ) (given memo row : List ℕ) : Type 0 where
@@ -51,6 +53,6 @@ pub record FillsRows (bytes index links orders : List ℕ) (i : ℕ) (chosen giv
   pub givenKept : AllKept given
   pub fitting : Fitting (scopeAt (scopesOf bytes) i .variables) (givensFrom given 0 (length (scopeAt (scopesOf bytes) i .variables)))
   pub known : Known bytes memo
-  pub distinct : repeated chosen ≡ false
+  pub distinct : repeats chosen ≡ false
   pub fit : any (unfit (scopeAt (scopesOf bytes) i .variables) (givensFrom given 0 (length (scopeAt (scopesOf bytes) i .variables)))) chosen ≡ false
   pub size : length table ≡ power (length chosen) * suc (resultLengthAt (scopesOf bytes) i)

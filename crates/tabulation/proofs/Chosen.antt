@@ -21,12 +21,14 @@ use Rattle.laws.proofs.Booleans.{decide, both, or-cases, neither, both-ways, un
 use Rattle.calculus.specs.declared.Given.{Given}
 use Rattle.calculus.specs.declared.Given.the-variants.{Absent}
 use Rattle.book.specs.Lists.{any}
-use Rattle.book.proofs.Searches.{any-at}
+use Rattle.order.proofs.Among.{among-at}
 use Rattle.book.specs.Syntax.{sameType}
 use Rattle.book.specs.declared.ValueType.the-variants.{YesNo}
 use Rattle.book.specs.declared.Variable.{Variable}
 use Rattle.lists.specs.Inputs.{isGiven}
-use Rattle.tabulation.specs.Chosen.{among, repeated, unfit, badChoice, chosenFrom, inOrder}
+use Rattle.order.specs.Order.{among}
+use Rattle.book.specs.Sharing.{repeats}
+use Rattle.tabulation.specs.Chosen.{unfit, badChoice, chosenFrom, inOrder}
 
 -- Members
 
@@ -38,8 +40,8 @@ among-lacks p (w ∷ vs) v none here =
     let n = neither (p w) (any p vs) none in
     ⊎-elim
     (λ (q : eqb v w ≡ true). ap p (eqb-true v w q) ∙ n .0)
-    (λ (q : any (eqb v) vs ≡ true). among-lacks p vs v (n .1) q)
-    (or-cases (eqb v w) (any (eqb v) vs) here)
+    (λ (q : among vs v ≡ true). among-lacks p vs v (n .1) q)
+    (or-cases (eqb v w) (among vs v) here)
 
 -- The order
 
@@ -77,8 +79,8 @@ module _ (chosen : List ℕ) where
   order-later : (v : ℕ) (xs : List Variable) (w : ℕ) → w < v → among (chosenFrom chosen v xs) w ≡ false
   order-later v xs w l = untrue (among (chosenFrom chosen v xs) w) (λ e. let r = order-within v xs w e in omega (arith, r .1))
 
-  once-from : (v : ℕ) (xs : List Variable) → repeated (chosenFrom chosen v xs) ≡ false
-  unfolding repeated chosenFrom
+  once-from : (v : ℕ) (xs : List Variable) → repeats (chosenFrom chosen v xs) ≡ false
+  unfolding repeats chosenFrom
   once-from v [] = refl
   once-from v (x ∷ xs) =
       let rest = once-from (suc v) xs in
@@ -97,7 +99,7 @@ module _ (chosen : List ℕ) where
       (λ (q : among chosen v ≡ false). rw (q, rest))
       (decide (among chosen v))
 
-  pub order-repeated : (variables : List Variable) → repeated (inOrder chosen variables) ≡ false
+  pub order-repeated : (variables : List Variable) → repeats (inOrder chosen variables) ≡ false
   order-repeated variables = once-from 0 variables
 
   pub order-among : (variables : List Variable) (v : ℕ) → among (inOrder chosen variables) v ≡ (among chosen v && ltb v (length variables))
@@ -112,10 +114,7 @@ module _ (chosen : List ℕ) where
 
   -- what stands at a place is v at least
   at-least : (v : ℕ) (xs : List Variable) (j : ℕ) → j < length (chosenFrom chosen v xs) → v ≤ getD (chosenFrom chosen v xs) j 0
-  unfolding among
-  at-least v xs j l =
-      let w = getD (chosenFrom chosen v xs) j 0 in
-      order-within v xs w (any-at (eqb w) (chosenFrom chosen v xs) j l 0 (eq-eqb w w refl)) .1
+  at-least v xs j l = order-within v xs (getD (chosenFrom chosen v xs) j 0) (among-at (chosenFrom chosen v xs) j l) .1
 
   ascending-from : (v : ℕ) (xs : List Variable) (i j : ℕ) → i < j → j < length (chosenFrom chosen v xs)
       → getD (chosenFrom chosen v xs) i 0 < getD (chosenFrom chosen v xs) j 0
@@ -189,12 +188,12 @@ unfolding chosenFrom among any
 none-chosen v [] = refl
 none-chosen v (x ∷ xs) = none-chosen (suc v) xs
 
-count-order : (variables : List Variable) (chosen : List ℕ) → repeated chosen ≡ false → any (λ v. not (ltb v (length variables))) chosen ≡ false
+count-order : (variables : List Variable) (chosen : List ℕ) → repeats chosen ≡ false → any (λ v. not (ltb v (length variables))) chosen ≡ false
     → length (inOrder chosen variables) ≡ length chosen
-unfolding repeated any
+unfolding repeats any
 count-order variables [] once known = ap length (none-chosen 0 variables)
 count-order variables (c ∷ cs) once known =
-    let o = neither (among cs c) (repeated cs) once in
+    let o = neither (among cs c) (repeats cs) once in
     let k = neither (not (ltb c (length variables))) (any (λ v. not (ltb v (length variables))) cs) known in
     let here = ltb-true c (length variables) (not-false (ltb c (length variables)) (k .0)) in
     one-more c cs 0 variables (o .0) (omega arith) (omega (arith, here)) ∙ ap suc (count-order variables cs (o .1) (k .1))
@@ -230,11 +229,11 @@ known-from variables fixed (c ∷ cs) e =
     rw (lt-ltb c (length variables) (fit variables fixed c (n .0) .known), known-from variables fixed cs (n .1))
 
 module _ (variables : List Variable) (fixed : List Given) (chosen : List ℕ) (ok : badChoice variables fixed chosen ≡ false) where
-  tests : (ltb 12 (length chosen) ≡ false) × (repeated chosen ≡ false) × (any (unfit variables fixed) chosen ≡ false)
+  tests : (ltb 12 (length chosen) ≡ false) × (repeats chosen ≡ false) × (any (unfit variables fixed) chosen ≡ false)
   unfolding badChoice
   tests =
-      let a = neither (ltb 12 (length chosen)) (repeated chosen || any (unfit variables fixed) chosen) ok in
-      let b = neither (repeated chosen) (any (unfit variables fixed) chosen) (a .1) in
+      let a = neither (ltb 12 (length chosen)) (repeats chosen || any (unfit variables fixed) chosen) ok in
+      let b = neither (repeats chosen) (any (unfit variables fixed) chosen) (a .1) in
       (a .0, b .0, b .1)
 
   pub chosen-few : length chosen ≤ 12

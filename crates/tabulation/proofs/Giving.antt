@@ -22,7 +22,9 @@ use Rattle.book.specs.declared.Variable.{Variable}
 use Rattle.lists.specs.Inputs.{good, badRecord, inputsFrom, inputs}
 use Rattle.lists.specs.Results.{bit}
 use Rattle.lists.proofs.Givens.{good-more}
-use Rattle.tabulation.specs.Chosen.{among, repeated, unfit}
+use Rattle.order.specs.Order.{among}
+use Rattle.book.specs.Sharing.{repeats}
+use Rattle.tabulation.specs.Chosen.{unfit}
 use Rattle.tabulation.specs.Assignments.{assigned}
 use Rattle.tabulation.specs.Giving.{giving}
 
@@ -37,19 +39,19 @@ pub fit-after : (variables : List Variable) (gs : List Given) (v : ℕ) (g : Giv
 unfolding any among unfit
 fit-after variables gs v g [] other ok = refl
 fit-after variables gs v g (w ∷ vs) other ok =
-    let o = neither (eqb v w) (any (eqb v) vs) other in
+    let o = neither (eqb v w) (among vs v) other in
     let k = neither (unfit variables gs w) (any (unfit variables gs) vs) ok in
     let same : getD (set gs v g) w Absent ≡ getD gs w Absent = getD-set-other gs v w g Absent (λ e. eqb-false v w (o .0) (sym e)) in
     rw (same, k .0) (fit-after variables gs v g vs (o .1) (k .1))
 
-assigned-from : (variables : List Variable) (gs : List Given) (vs : List ℕ) (a : List Bool) → repeated vs ≡ false
+assigned-from : (variables : List Variable) (gs : List Given) (vs : List ℕ) (a : List Bool) → repeats vs ≡ false
     → any (unfit variables gs) vs ≡ false → length a ≡ length vs → inputsFrom variables (assigned vs a) 0 gs ≡ good (giving gs vs a)
-unfolding repeated any assigned giving inputsFrom
+unfolding repeats any assigned giving inputsFrom
 assigned-from variables gs [] [] once ok long = refl
 assigned-from variables gs [] (b ∷ bs) once ok long = absurd (omega arith)
 assigned-from variables gs (v ∷ vs) [] once ok long = absurd (omega arith)
 assigned-from variables gs (v ∷ vs) (b ∷ bs) once ok long =
-    let o = neither (among vs v) (repeated vs) once in
+    let o = neither (among vs v) (repeats vs) once in
     let k = neither (unfit variables gs v) (any (unfit variables gs) vs) ok in
     let g = Present (Truth b) in
     let fine : badRecord variables gs 1 (v ∷ bit b ∷ assigned vs bs) ≡ false = sym (unfit-record variables gs v b (assigned vs bs)) ∙ k .0 in
@@ -60,7 +62,7 @@ assigned-from variables gs (v ∷ vs) (b ∷ bs) once ok long =
     bit-back true = refl
 
 pub assigned-inputs : (variables : List Variable) (fixed : List ℕ) (gs : List Given) (vs : List ℕ) (a : List Bool) → inputs variables fixed ≡ good gs
-    → repeated vs ≡ false → any (unfit variables gs) vs ≡ false → length a ≡ length vs → inputs variables (fixed ++ assigned vs a) ≡ good (giving gs vs a)
+    → repeats vs ≡ false → any (unfit variables gs) vs ≡ false → length a ≡ length vs → inputs variables (fixed ++ assigned vs a) ≡ good (giving gs vs a)
 assigned-inputs variables fixed gs vs a e once ok long =
     good-more variables fixed (assigned vs a) gs e ∙ assigned-from variables gs vs a once ok long
 

@@ -8,27 +8,27 @@ use mathlib.Core.Bool.{Bool, true, false}
 use mathlib.Core.List.{List, [], _∷_, _++_, map, append-assoc}
 use lib.ListN.{length}
 use Rattle.tabulation.specs.Assignments.{assignments}
-use Rattle.tabulation.specs.Tabulate.{rows}
+use Rattle.book.specs.Sharing.{gathered}
 
-rows-append : (f : List Bool → List ℕ) (xs ys : List (List Bool)) → rows f (xs ++ ys) ≡ rows f xs ++ rows f ys
-unfolding rows
+rows-append : (f : List Bool → List ℕ) (xs ys : List (List Bool)) → gathered f (xs ++ ys) ≡ gathered f xs ++ gathered f ys
+unfolding gathered
 rows-append f [] ys = refl
-rows-append f (a ∷ xs) ys = ap (λ (l : List ℕ). f a ++ l) (rows-append f xs ys) ∙ sym (append-assoc (f a) (rows f xs) (rows f ys))
+rows-append f (a ∷ xs) ys = ap (λ (l : List ℕ). f a ++ l) (rows-append f xs ys) ∙ sym (append-assoc (f a) (gathered f xs) (gathered f ys))
 
-rows-map : (f : List Bool → List ℕ) (g : List Bool → List Bool) (xs : List (List Bool)) → rows f (map g xs) ≡ rows (λ a. f (g a)) xs
-unfolding rows
+rows-map : (f : List Bool → List ℕ) (g : List Bool → List Bool) (xs : List (List Bool)) → gathered f (map g xs) ≡ gathered (λ a. f (g a)) xs
+unfolding gathered
 rows-map f g [] = refl
 rows-map f g (a ∷ xs) = ap (λ (l : List ℕ). f (g a) ++ l) (rows-map f g xs)
 
 pub rows-halves : (f : List Bool → List ℕ) (k : ℕ)
-    → rows f (assignments (suc k)) ≡ rows (λ a. f (false ∷ a)) (assignments k) ++ rows (λ a. f (true ∷ a)) (assignments k)
+    → gathered f (assignments (suc k)) ≡ gathered (λ a. f (false ∷ a)) (assignments k) ++ gathered (λ a. f (true ∷ a)) (assignments k)
 unfolding assignments
 rows-halves f k =
     rows-append f (map (λ a. false ∷ a) (assignments k)) (map (λ a. true ∷ a) (assignments k))
     ∙ rw (rows-map f (λ a. false ∷ a) (assignments k), rows-map f (λ a. true ∷ a) (assignments k))
 
-pub rows-same : (f g : List Bool → List ℕ) (k : ℕ) → ((a : List Bool) → length a ≡ k → f a ≡ g a) → rows f (assignments k) ≡ rows g (assignments k)
-unfolding assignments rows
+pub rows-same : (f g : List Bool → List ℕ) (k : ℕ) → ((a : List Bool) → length a ≡ k → f a ≡ g a) → gathered f (assignments k) ≡ gathered g (assignments k)
+unfolding assignments gathered
 rows-same f g zero same = ap (λ (l : List ℕ). l ++ []) (same [] refl)
 rows-same f g (suc k) same =
     let no = rows-same (λ a. f (false ∷ a)) (λ a. g (false ∷ a)) k (λ a e. same (false ∷ a) (ap suc e)) in

@@ -20,6 +20,7 @@ use lib.ListN.{length, getD, take, drop, replicate, length-append, length-drop, 
 use lib.Seq.{take-at, take-append-le, drop-append-le, drop-append-add}
 use borrow.Author.Tests.{lt-ltb, le-leb}
 use Rattle.calculus.specs.declared.Given.{Given}
+use Rattle.book.specs.Sharing.{gathered}
 use Rattle.book.specs.Decode.{scopesOf}
 use Rattle.book.specs.References.{scopeAt}
 use Rattle.book.specs.Judge.{judge}
@@ -40,7 +41,7 @@ use Rattle.evaluation.proofs.Types.{inputs-fitting, values-length}
 use Rattle.tabulation.specs.Chosen.{badChoice, inOrder}
 use Rattle.tabulation.specs.Assignments.{assignments, power, binary, assigned}
 use Rattle.tabulation.specs.Giving.{giving}
-use Rattle.tabulation.specs.Tabulate.{rowOf, row, rows, table}
+use Rattle.tabulation.specs.Tabulate.{rowOf, row, table}
 use Rattle.tabulation.specs.Answers.{Tabulable, Rowed}
 use Rattle.tabulation.proofs.Chosen.{order-repeated, order-fit, chosen-count, chosen-few}
 use Rattle.tabulation.proofs.Assignments.{assignments-count, assignment-at, assignment-length, binary-below}
@@ -117,22 +118,22 @@ module _ (bytes : List ℕ) (n i : ℕ) (ok : judge bytes ≡ judged.Accepted n)
 -- Rows of one length
 
 module _ (f : List Bool → List ℕ) (size : ℕ) where
-  pub rows-length : (xs : List (List Bool)) → ((j : ℕ) → j < length xs → length (f (getD xs j [])) ≡ size) → length (rows f xs) ≡ length xs * size
-  unfolding rows
+  pub rows-length : (xs : List (List Bool)) → ((j : ℕ) → j < length xs → length (f (getD xs j [])) ≡ size) → length (gathered f xs) ≡ length xs * size
+  unfolding gathered
   rows-length [] h = omega arith
   rows-length (x ∷ xs) h =
       let more = rows-length xs (λ j l. h (suc j) (omega arith)) in
-      omega (arith, length-append (f x) (rows f xs), h 0 (omega arith), suc-mul (length xs) size)
+      omega (arith, length-append (f x) (gathered f xs), h 0 (omega arith), suc-mul (length xs) size)
 
   pub rows-at : (xs : List (List Bool)) → ((j : ℕ) → j < length xs → length (f (getD xs j [])) ≡ size) → (n : ℕ) → n < length xs
-      → take size (drop (n * size) (rows f xs)) ≡ f (getD xs n [])
-  unfolding rows
+      → take size (drop (n * size) (gathered f xs)) ≡ f (getD xs n [])
+  unfolding gathered
   rows-at [] h n l = absurd (omega arith)
-  rows-at (x ∷ xs) h zero l = let z : 0 * size ≡ 0 = omega arith in rw z (take-at (f x) (rows f xs) size (h 0 (omega arith)))
+  rows-at (x ∷ xs) h zero l = let z : 0 * size ≡ 0 = omega arith in rw z (take-at (f x) (gathered f xs) size (h 0 (omega arith)))
   rows-at (x ∷ xs) h (suc n) l =
       let here = h 0 (omega arith) in
       let z : suc n * size ≡ length (f x) + n * size = omega (arith, suc-mul n size) in
-      rw (z, drop-append-add (f x) (rows f xs) (n * size)) (rows-at xs (λ j k. h (suc j) (omega arith)) n (omega arith))
+      rw (z, drop-append-add (f x) (gathered f xs) (n * size)) (rows-at xs (λ j k. h (suc j) (omega arith)) n (omega arith))
 
 -- The table
 

@@ -15,12 +15,12 @@ unfoldable pub power : ℕ → ℕ
 power zero = 1
 power (suc k) = 2 * power k
 
--- the binary number of an assignment, the first variable being the highest digit
+-- "Every choice is there once": at the row of its binary number (choice-row), the first variable being the highest digit
 unfoldable pub binary : List Bool → ℕ
 binary [] = 0
 binary (b ∷ bs) = bit b * power (length bs) + binary bs
 
--- the input records of an assignment: "kind 1 (variable, 0 or 1)"
+-- the input records of an assignment of as many variables: "kind 1 (variable, 0 or 1)"
 unfoldable pub assigned : List ℕ → List Bool → List ℕ
 assigned [] bs = []
 assigned (v ∷ vs) [] = []

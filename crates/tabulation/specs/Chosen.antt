@@ -1,25 +1,18 @@
 -- The chosen variables: which lists of them are refused, and their order.
 use Prim.Native.Nat.{ℕ, suc}
-use mathlib.Core.Bool.{Bool, true, false, not, cond, _||_}
+use mathlib.Core.Bool.{Bool, not, cond, _||_}
 use mathlib.Core.List.{List, [], _∷_}
 use lib.ListN.{length, getD}
-use lib.Dec.{eqb, ltb}
+use lib.Dec.{ltb}
 use Rattle.calculus.specs.declared.Given.{Given}
 use Rattle.calculus.specs.declared.Given.the-variants.{Absent}
+use Rattle.order.specs.Order.{among}
 use Rattle.book.specs.Lists.{any}
+use Rattle.book.specs.Sharing.{repeats}
 use Rattle.book.specs.Syntax.{sameType}
 use Rattle.book.specs.declared.ValueType.the-variants.{YesNo}
 use Rattle.book.specs.declared.Variable.{Variable}
 use Rattle.lists.specs.Inputs.{isGiven}
-
--- v is in a list
-unfoldable pub among : List ℕ → ℕ → Bool
-among vs v = any (eqb v) vs
-
--- "one chosen twice"
-unfoldable pub repeated : List ℕ → Bool
-repeated [] = false
-repeated (v ∷ vs) = among vs v || repeated vs
 
 -- one variable, by the variables of the scope and what the fixed input list gives: "absent, not yes/no, or in the fixed list"
 unfoldable pub unfit : List Variable → List Given → ℕ → Bool
@@ -30,7 +23,7 @@ unfit variables fixed v =
 
 -- 18: "more than 12 chosen, one chosen twice, absent, not yes/no, or in the fixed list"
 unfoldable pub badChoice : List Variable → List Given → List ℕ → Bool
-badChoice variables fixed chosen = ltb 12 (length chosen) || (repeated chosen || any (unfit variables fixed) chosen)
+badChoice variables fixed chosen = ltb 12 (length chosen) || (repeats chosen || any (unfit variables fixed) chosen)
 
 -- the chosen ones of the variables from v on, in number order, whatever order they are handed in
 unfoldable pub chosenFrom : List ℕ → ℕ → List Variable → List ℕ

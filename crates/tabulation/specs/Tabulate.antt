@@ -1,5 +1,6 @@
--- The service: "List every choice of no and yes for at most 12 chosen yes/no variables of a scope, with a fixed input list for the rest."
-use Prim.Native.Nat.{ℕ, suc, _-_}
+-- The service: "List every choice of no and yes for at most 12 chosen yes/no variables of a scope, with a fixed input list for the rest." The
+-- paper's "sheet" is the table, its "line" a row.
+use Prim.Native.Nat.{ℕ, _-_}
 use mathlib.Core.Bool.{Bool, cond}
 use mathlib.Core.List.{List, [], _∷_, _++_}
 use lib.ListN.{length, replicate}
@@ -9,6 +10,7 @@ use Rattle.answers.specs.Production.{Production, refuse, fitting, onJudged, Pro
 use Rattle.answers.specs.declared.Refusal.the-variants.{NoSuchScope, BadInput, BadChoice}
 use Rattle.answers.specs.declared.Produced.{Produced}
 use Rattle.book.specs.Decode.{scopesOf}
+use Rattle.book.specs.Sharing.{gathered}
 use Rattle.book.specs.References.{scopeAt}
 use Rattle.book.specs.Judge.{judge}
 use Rattle.book.specs.declared.Variable.{Variable}
@@ -27,22 +29,19 @@ padded size bytes = bytes ++ replicate (size - length bytes) 0
 unfoldable pub rowOf : ℕ → Reply → List ℕ
 rowOf size reply = answerNumbers (reply .answer) .outcome ∷ padded size (reply .written)
 
--- the row of an assignment, "with evaluation's answer": evaluating with the fixed input list and the records of the assignment
+-- the row of an assignment, "with evaluation's answer": evaluating with the fixed input list and the records of the assignment; of a table that is
+-- written no such evaluation is refused (row-answers)
 unfoldable pub row : List ℕ → ℕ → List ℕ → List ℕ → List Bool → List ℕ
 row bytes i chosen fixed a =
     let variables = scopeAt (scopesOf bytes) i .variables in
     let size = resultLength variables in
     rowOf size (evaluate bytes i (fixed ++ assigned (inOrder chosen variables) a) size)
 
-unfoldable pub rows : (List Bool → List ℕ) → List (List Bool) → List ℕ
-rows f [] = []
-rows f (a ∷ rest) = f a ++ rows f rest
-
--- all rows, in the assignments' order
+-- the rows of all assignments, one after the other
 unfoldable pub table : List ℕ → ℕ → List ℕ → List ℕ → List ℕ
 table bytes i chosen fixed =
     let variables = scopeAt (scopesOf bytes) i .variables in
-    rows (row bytes i chosen fixed) (assignments (length (inOrder chosen variables)))
+    gathered (row bytes i chosen fixed) (assignments (length (inOrder chosen variables)))
 
 -- "Turned away: 18, .. after 14, before 15"
 abbrev pub onInputs : Inputs → List Variable → List ℕ → Production → Production
