@@ -1,11 +1,11 @@
 -- Filling the rows of a table.
---     none-left, last-row           where no variable is left: one row
---     one-of, shorter, first-half   where one is: the others are fewer, and the table has two halves
---     fills-first, fills-second     each half asks for what the whole does
---     room, room-second, room-last  the variable has a cell
---     whole, restored               the two halves are the whole, and the cell holds nothing again
+--     none-left, last-row         where no variable is left: one row
+--     first-half                  the table has two halves
+--     one-of, shorter             where a variable is left: the others are fewer
+--     fills-first, fills-second   each half asks for what the whole does
+--     whole, restored             the two halves are the whole, and the variable's cell holds nothing again
 -- Assumes nothing.
-use Prim.Native.Nat.{ℕ, suc, _+_, _-_, _*_, _/_, _<_}
+use Prim.Native.Nat.{ℕ, suc, _-_, _*_, _/_, _<_}
 use mathlib.Core.Path.{_≡_, refl, sym, ap, _∙_}
 use mathlib.Core.Bool.{Bool, true, false}
 use mathlib.Core.List.{List, [], _∷_, _++_, append-nil}
@@ -66,6 +66,9 @@ module _ (variables : List Variable) (gs : List Given) (v : ℕ) (vs : List ℕ)
   unfolding repeats any
   others-fit d e g =
       fit-after variables gs v g vs (neither (among vs v) (repeats vs) d .0) (neither (unfit variables gs v) (any (unfit variables gs) vs) e .1)
+
+pub first-half : (table : List ℕ) → length (take (length table / 2) table) ≡ length table / 2
+first-half table = length-take-le (length table / 2) table (omega arith)
 
 -- a list of which the first h bytes are put in place
 abbrev joined : List ℕ → ℕ → List ℕ → List ℕ
@@ -128,7 +131,7 @@ module _ {bytes index links orders : List ℕ} {i : ℕ} {chosen given memo tabl
     fits : Fit variables (gives given) v
     fits = first-fit variables (gives given) v vs allFit
 
-    pub room : v < length given
+    room : v < length given
     room = let k = fits .known in let g = f .givenRoom in let w = f .world .sound .variables i in omega arith
 
     twice : length table ≡ 2 * (power (length vs) * suc (resultLengthAt (scopesOf bytes) i))
@@ -136,9 +139,6 @@ module _ {bytes index links orders : List ℕ} {i : ℕ} {chosen given memo tabl
 
     half : length table / 2 ≡ power (length vs) * suc (resultLengthAt (scopesOf bytes) i)
     half = let t = twice in omega arith
-
-    pub first-half : length (take (length table / 2) table) ≡ length table / 2
-    first-half = length-take-le (length table / 2) table (omega arith)
 
     -- the rows of the others, with the first set to no or yes
     fills : (b : Bool) {cells known part : List ℕ} → cells ≡ set given v (truthCell b) → Known bytes known → length part ≡ length table / 2
@@ -158,42 +158,36 @@ module _ {bytes index links orders : List ℕ} {i : ℕ} {chosen given memo tabl
           size = l ∙ half;
         }
 
-    pub fills-first : FillsRows bytes index links orders i vs (set given v noCell) memo (take (length table / 2) table)
-    fills-first = fills false refl (f .known) first-half
+    pub fills-first : {one : List ℕ} → one ≡ set given v noCell → FillsRows bytes index links orders i vs one memo (take (length table / 2) table)
+    fills-first e = fills false e (f .known) (first-half table)
 
-    module _ {one : List ℕ} (same : one ≡ set given v noCell) where
-      pub room-second : v < length one
-      room-second = let l = ap length same in let s = length-set given v noCell in let r = room in omega arith
+    -- the cells with no, before the first half and after it, and those with yes
+    module _ {one after two : List ℕ} (is-one : one ≡ set given v noCell) (same : after ≡ one) (then : two ≡ set after v yesCell) where
+      is-two : two ≡ set given v yesCell
+      is-two = then ∙ ap (λ (xs : List ℕ). set xs v yesCell) (same ∙ is-one) ∙ set-set given v noCell yesCell
 
-      again : (c : ℕ) → set one v c ≡ set given v c
-      again c = ap (λ (xs : List ℕ). set xs v c) same ∙ set-set given v noCell c
-
-      module _ {first : List ℕ} (is-first : first ≡ cellRows bytes i vs (set given v noCell)) (kept : length first ≡ length (take (length table / 2) table)) where
+      module _ {first : List ℕ} (is-first : first ≡ cellRows bytes i vs one) (kept : length first ≡ length (take (length table / 2) table)) where
         abbrev all : List ℕ
         all = joined first (length table / 2) table
 
         size : length first ≡ length table / 2
-        size = kept ∙ first-half
+        size = kept ∙ first-half table
 
         pub fills-second : {known : List ℕ} → Known bytes known
-            → FillsRows bytes index links orders i vs (set one v yesCell) known (take (length all - length table / 2) (drop (length table / 2) all))
+            → FillsRows bytes index links orders i vs two known (take (length all - length table / 2) (drop (length table / 2) all))
         fills-second k =
             let t = twice in
             let l : length table - length table / 2 ≡ length table / 2 = omega arith in
-            fills true (again yesCell) k (rest-length first table (length table / 2) size ∙ l)
+            fills true is-two k (rest-length first table (length table / 2) size ∙ l)
 
-        pub whole : {second : List ℕ} → second ≡ cellRows bytes i vs (set one v yesCell)
+        pub whole : {second : List ℕ} → second ≡ cellRows bytes i vs two
             → take (length table / 2) all ++ (second ++ drop (length all - length table / 2) (drop (length table / 2) all)) ≡ cellRows bytes i chosen given
         whole {second} e =
             halves first table (length table / 2) size second
-            ∙ rw (is-first, e, again yesCell) (sym (both-halves bytes i given v vs))
+            ∙ rw (is-first, e, is-one, is-two) (sym (both-halves bytes i given v vs))
             ∙ ap (λ (l : List ℕ). cellRows bytes i l given) (sym is)
 
-      module _ {two : List ℕ} (same-again : two ≡ set one v yesCell) where
-        pub room-last : v < length two
-        room-last = let l = ap length same-again in let s = length-set one v yesCell in let r = room-second in omega arith
-
-        pub restored : set two v 0 ≡ given
-        restored =
-            let z : getD given v 0 ≡ 0 = not-given given (length variables) v (fits .known) (fits .fresh) in
-            ap (λ (xs : List ℕ). set xs v 0) same-again ∙ set-set one v yesCell 0 ∙ again 0 ∙ ap (set given v) (sym z) ∙ set-getD given v 0
+      pub restored : {end cells : List ℕ} → end ≡ two → cells ≡ set end v 0 → cells ≡ given
+      restored {end} {cells} e q =
+          let z : getD given v 0 ≡ 0 = not-given given (length variables) v (fits .known) (fits .fresh) in
+          q ∙ ap (λ (xs : List ℕ). set xs v 0) (e ∙ is-two) ∙ set-set given v yesCell 0 ∙ ap (set given v) (sym z) ∙ set-getD given v 0

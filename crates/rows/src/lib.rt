@@ -9,6 +9,7 @@ use slices::byte_at;
 use slices::part_of;
 ghost use mathlib.Core.Path.{_≡_};
 ghost use Prim.Native.Nat.{_≤_, suc, _*_};
+ghost use lib.ListN.{set};
 ghost use Rattle.scopes.specs.Known.{Known};
 ghost use Rattle.tabulation.specs.Assignments.{power};
 ghost use Rattle.rows.specs.Filling.{cleared, cellRow, cellRows, FillsRow, FillsRows};
@@ -44,6 +45,15 @@ fn fill_row(
     clear_from(row, 1 + answer_length(answer));
 }
 
+// A cell put at a place; nothing past the end.
+fn put_cell(cells: &mut [u64], at: usize, c: u64)
+    ensures { λ _. ⌜ now (cells .exit) ≡ set (now (cells .entry)) at c ⌝ }
+{
+    if at < cells.len() {
+        cells[at] = c;
+    }
+}
+
 // Fills the rows of all assignments of the chosen variables, the first one's changing slowest. Their cells hold nothing, and do so again
 // afterwards.
 pub fn fill_rows(
@@ -70,13 +80,13 @@ pub fn fill_rows(
     let v = byte_at(chosen, 0) as usize;
     let rest = part_of(chosen, 1, others);
     let half = table.len() / 2;
-    given[v] = NO;
+    put_cell(given, v, NO);
     let first = &mut table[..half];
     fill_rows(book, index, links, orders, i, rest, given, memo, first);
-    given[v] = YES;
+    put_cell(given, v, YES);
     let second = &mut table[half..];
     fill_rows(book, index, links, orders, i, rest, given, memo, second);
-    given[v] = NOTHING;
+    put_cell(given, v, NOTHING);
 }
 
 // The length of the table of k chosen variables, its results being of this length.
