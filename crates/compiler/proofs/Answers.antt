@@ -1,12 +1,11 @@
 -- What compiling answers, and what it leaves in the code memory.
 -- Assumes nothing.
 use Prim.Native.Nat.{ℕ, _-_, _<_, _≤_}
-use mathlib.Core.Path.{_≡_, refl, sym, ap, _∙_}
+use mathlib.Core.Path.{_≡_, sym, ap, _∙_}
 use mathlib.Core.List.{List, _++_}
 use native.Mathlib.Omega.{arith}
 use lib.ListN.{length, take, drop, drop-of-length-le, length-drop}
 use lib.Seq.{length-take-le, take-all}
-use borrow.Author.Tests.{le-leb, lt-leb}
 use Rattle.book.specs.Decode.{scopesOf}
 use Rattle.book.specs.Judge.{judge}
 use Rattle.answers.specs.declared.Fault.{Fault}

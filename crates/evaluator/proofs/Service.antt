@@ -3,15 +3,13 @@
 --     evaluated                           a good list and enough room: what the run comes to
 --     blank-links, blank-memo, scopes-few, runs-loaded    what the functions called ask for
 -- Assumes nothing.
-use Prim.Native.Nat.{ℕ, _+_, _*_, _<_, _≤_}
-use mathlib.Core.Path.{_≡_, sym, ap, subst, _∙_}
-use mathlib.Core.Bool.{false≢true}
-use mathlib.Core.List.{List, [], reverse}
+use Prim.Native.Nat.{ℕ, _*_, _<_, _≤_}
+use mathlib.Core.Path.{_≡_, sym, ap, _∙_}
+use mathlib.Core.List.{List, reverse}
 use native.Mathlib.Omega.{arith}
-use lib.ListN.{length, replicate, length-replicate, getD-replicate}
+use lib.ListN.{length, replicate}
 use borrow.Author.Tests.{lt-ltb, le-ltb, le-leb, lt-leb}
 use Rattle.calculus.specs.declared.Given.{Given}
-use Rattle.cells.specs.Cells.{givenAt}
 use Rattle.book.specs.Decode.{scopesOf}
 use Rattle.book.specs.References.{scopeAt}
 use Rattle.book.specs.Scopes.{blocks}
@@ -24,25 +22,19 @@ use Rattle.lists.specs.Inputs.{bad, inputs}
 use Rattle.lists.specs.Reading.{Taken}
 use Rattle.lists.specs.Results.{resultLength}
 use Rattle.lists.specs.Writing.{resultLengthAt}
-use Rattle.lists.specs.Writing as writing
 use Rattle.links.specs.Links.{Blanks, AllLinked}
 use Rattle.evaluation.specs.Run.{enter}
-use Rattle.evaluation.specs.Types.{Fitting}
 use Rattle.evaluation.specs.Evaluate.{replyOf, evaluate, asked, refuse, onJudged}
 use Rattle.answers.specs.declared.Refusal.the-variants.{Book, NoSuchScope, BadInput, BufferTooSmall}
 use Rattle.answers.specs.declared.Answer.{Answer}
 use Rattle.answers.specs.declared.Answer.the-variants.{Refused}
 use Rattle.evaluation.proofs.Replies.{same-reply, refuses}
-use Rattle.evaluation.proofs.Types.{inputs-fitting}
 use Rattle.scopes.specs.Steps.{givensFrom, enteredAt}
 use Rattle.scopes.specs.Known.{Known}
 use Rattle.loaded.specs.Loaded.{RunsLoaded, Replied}
 use Rattle.loaded.proofs.Preparing as preparing
 use Rattle.loaded.proofs.Taken.{taken-givens}
 use Rattle.evaluator.specs.Service.{Asked, Evaluated}
-use Rattle.scopes.specs.declared.Ran.{Ran}
-use Rattle.scopes.specs.declared.Ran.the-variants as ran
-use Rattle.scopes.proofs.Cells.{givens-list}
 
 pub refused-book : (bytes : List ℕ) (i : ℕ) (list : List ℕ) {memory : List ℕ} {f : Fault} → judge bytes ≡ judged.Refused f
     → Evaluated bytes i list memory (Refused (Book f)) memory

@@ -2,9 +2,8 @@
 --     no-choice, both-halves   the rows of no variable, and of one variable more: those with no, then those with yes
 -- Assumes nothing.
 use Prim.Native.Nat.{ℕ}
-use mathlib.Core.Path.{_≡_, refl, sym, ap, _∙_}
-use mathlib.Core.Bool.{Bool, true, false}
-use mathlib.Core.List.{List, [], _∷_, _++_, map, append-nil, append-assoc}
+use mathlib.Core.Path.{_≡_}
+use mathlib.Core.List.{List, [], _∷_, _++_, append-nil}
 use lib.ListN.{length, set}
 use Rattle.cells.specs.Codec.{noCell, yesCell, valueCell}
 use Rattle.tabulation.specs.Assignments.{assignments}

@@ -10,7 +10,7 @@ use mathlib.Core.List.{List, [], _∷_, _++_, map}
 use native.Mathlib.Omega.{arith}
 use lib.ListN.{length, getD, drop, set, length-set}
 use borrow.Author.Tests.{lt-ltb, le-ltb}
-use Rattle.answers.specs.Production.{Production, refuse, fitting, onJudged}
+use Rattle.answers.specs.Production.{refuse, fitting, onJudged}
 use Rattle.answers.proofs.Production.{produces-refusal, produces-all, produces-none}
 use Rattle.answers.specs.declared.Fault.{Fault}
 use Rattle.answers.specs.declared.Judged.{Judged}

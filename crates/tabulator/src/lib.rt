@@ -44,13 +44,29 @@ fn tabulate_loaded(
         return Produced::Refused(Refusal::BufferTooSmall);
     }
     let mut memo = [0u64; 1056];
-    fill_rows(book, index, links, orders, i, &ordered[..k], &mut given, &mut memo, &mut table[..length]);
+    fill_rows(
+        book,
+        index,
+        links,
+        orders,
+        i,
+        &ordered[..k],
+        &mut given,
+        &mut memo,
+        &mut table[..length],
+    );
     Produced::Written(length)
 }
 
 // Tabulates a scope of a book: a row for each choice of no and yes for the chosen variables, with a fixed input list for the rest. The length
 // written; a refusal leaves every byte as it was.
-pub fn tabulate(book: &[u8], scope: usize, chosen: &[u8], inputs: &[u8], table: &mut [u8]) -> Produced
+pub fn tabulate(
+    book: &[u8],
+    scope: usize,
+    chosen: &[u8],
+    inputs: &[u8],
+    table: &mut [u8],
+) -> Produced
     ensures { λ r.
         ⌜ Tabulates (now (book .entry)) scope (now (chosen .entry)) (now (inputs .entry)) (now (table .entry)) r (now (table .exit)) ⌝ }
 {
@@ -59,7 +75,17 @@ pub fn tabulate(book: &[u8], scope: usize, chosen: &[u8], inputs: &[u8], table: 
     let mut orders = [0u8; 1280];
     match prepare(book, &mut index, &mut links, &mut orders) {
         Judged::Accepted(n) => {
-            tabulate_loaded(book, &index, &links, &orders, n, scope, chosen, inputs, table)
+            tabulate_loaded(
+                book,
+                &index,
+                &links,
+                &orders,
+                n,
+                scope,
+                chosen,
+                inputs,
+                table,
+            )
         }
         Judged::Refused(f) => Produced::Refused(Refusal::Book(f)),
     }

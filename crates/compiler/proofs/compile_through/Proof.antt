@@ -4,10 +4,6 @@ use Rattle.compiler.proofs.Answers.{short, rest-long, moved, written}
 use mathlib.Core.Path.{refl, sym}
 use Rattle.compiler.proofs.compile_through.Statement.{statement}
 use Rattle.compiler.proofs.compile_through.Tie as tie
-use Rattle.compiler.proofs.compile_through.Reads as reads
-use Rattle.compiler.proofs.compile_through.Lts as lts
-use Rattle.compiler.proofs.copy.Reads as copy-reads
-use Rattle.emitter.proofs.emit_blocks.Reads as emit-blocks-reads
 
 -- src/lib.rt:740:9
 emit-blocks-requires : tie.Need-emit-blocks-requires
