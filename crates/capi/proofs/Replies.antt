@@ -1,6 +1,6 @@
 -- An answer as one number says the answer's numbers, since these have room; the memory is that of the service.
 --     said                              of any answer
---     compiled, evaluated, ran          of the three services that write
+--     compiled, tabulated, evaluated, ran          of the services that write
 -- Assumes nothing.
 use Prim.Native.Nat.{ℕ}
 use mathlib.Core.Path.{_≡_, _∙_, ap}
@@ -11,13 +11,14 @@ use Rattle.answers.specs.declared.Answer.{Answer}
 use Rattle.answers.specs.Production.{Production, Produces}
 use Rattle.answers.specs.declared.Produced.{Produced}
 use Rattle.evaluation.specs.Evaluate.{Reply, evaluate, Replies}
+use Rattle.tabulation.specs.Tabulate.{tabulate}
 use Rattle.compiler.specs.Compile.{compile}
 use Rattle.machine.specs.Service.{run}
 use Rattle.numbers.specs.Packed.{packed, wrapped, Placed, Says}
 use Rattle.numbers.proofs.Unpacking.{says}
-use Rattle.engine.proofs.Placed.{compile-placed, evaluate-placed, run-placed}
+use Rattle.engine.proofs.Placed.{compile-placed, tabulate-placed, evaluate-placed, run-placed}
 use Rattle.capi.specs.Replies.{PackedReply, PackedEvaluation, PackedRun}
-use Rattle.capi.specs.Productions.{PackedProduction, PackedCompilation}
+use Rattle.capi.specs.Productions.{PackedProduction, PackedCompilation, PackedTabulation}
 
 -- the answer given is the one expected
 pub said : {A : Type 0} (numbers : A → Numbers) {given expected : A} {r : ℕ} → Placed (numbers expected) → given ≡ expected
@@ -31,6 +32,11 @@ produced room h packs = record { answer = said producedNumbers room (h .answer) 
 pub compiled : (bytes : List ℕ) {before : List ℕ} {c : Produced} {r : ℕ} {after : List ℕ} → Produces (compile bytes (length before)) before c after
     → r ≡ packed (wrapped (producedNumbers c)) → PackedCompilation bytes before r after
 compiled bytes {before} = produced (compile-placed bytes before)
+
+pub tabulated : (bytes : List ℕ) (i : ℕ) (chosen fixed : List ℕ) {before : List ℕ} {c : Produced} {r : ℕ} {after : List ℕ}
+    → Produces (tabulate bytes i chosen fixed (length before)) before c after → r ≡ packed (wrapped (producedNumbers c))
+    → PackedTabulation bytes i chosen fixed before r after
+tabulated bytes i chosen fixed {before} = produced (tabulate-placed bytes i chosen fixed before)
 
 replied : {reply : Reply} {before : List ℕ} {a : Answer} {r : ℕ} {after : List ℕ} → Placed (answerNumbers (reply .answer))
     → Replies reply before a after → r ≡ packed (wrapped (answerNumbers a)) → PackedReply reply before r after

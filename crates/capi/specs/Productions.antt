@@ -6,6 +6,7 @@ use lib.ListN.{length}
 use Rattle.answers.specs.Numbers.{producedNumbers}
 use Rattle.answers.specs.Production.{Production, producedMemory}
 use Rattle.compiler.specs.Compile.{compile}
+use Rattle.tabulation.specs.Tabulate.{tabulate}
 use Rattle.numbers.specs.Packed.{Says}
 
 -- those of a production, its answer as one number, from which refusal and length are recovered
@@ -15,3 +16,6 @@ pub record PackedProduction (p : Production) (before : List ℕ) (r : ℕ) (afte
 
 abbrev pub PackedCompilation : List ℕ → List ℕ → ℕ → List ℕ → Type 0
 PackedCompilation bytes before = PackedProduction (compile bytes (length before)) before
+
+abbrev pub PackedTabulation : List ℕ → ℕ → List ℕ → List ℕ → List ℕ → ℕ → List ℕ → Type 0
+PackedTabulation bytes i chosen fixed before = PackedProduction (tabulate bytes i chosen fixed (length before)) before

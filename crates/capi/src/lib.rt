@@ -3,6 +3,7 @@ use engine::compile;
 use engine::evaluate;
 use engine::judge;
 use engine::run;
+use engine::tabulate;
 use numbers::pack_answer;
 use numbers::pack_judged;
 use numbers::pack_produced;
@@ -12,7 +13,7 @@ ghost use Rattle.book.specs.Judge.{judge as Judge·judge};
 ghost use Rattle.answers.specs.Numbers.{judgedNumbers};
 ghost use Rattle.numbers.specs.Packed.{Says};
 ghost use Rattle.capi.specs.Replies.{PackedEvaluation, PackedRun};
-ghost use Rattle.capi.specs.Productions.{PackedCompilation};
+ghost use Rattle.capi.specs.Productions.{PackedCompilation, PackedTabulation};
 
 // Judges a book: refusal * 2^56 + number of scopes.
 #[no_mangle]
@@ -50,4 +51,20 @@ pub extern "C" fn engine_run(code: &[u8], scope: usize, inputs: &[u8], results: 
     ensures { λ r. ⌜ PackedRun (now (code .entry)) scope (now (inputs .entry)) (now (results .entry)) r (now (results .exit)) ⌝ }
 {
     pack_answer(run(code, scope, inputs, results))
+}
+
+// Tabulates a scope for the chosen variables with a fixed input list: refusal * 2^56 + length of the table; a refusal leaves every byte of the
+// memory as it was.
+#[no_mangle]
+pub extern "C" fn engine_tabulate(
+    book: &[u8],
+    scope: usize,
+    chosen: &[u8],
+    inputs: &[u8],
+    table: &mut [u8],
+) -> u64
+    ensures { λ r.
+        ⌜ PackedTabulation (now (book .entry)) scope (now (chosen .entry)) (now (inputs .entry)) (now (table .entry)) r (now (table .exit)) ⌝ }
+{
+    pack_produced(tabulate(book, scope, chosen, inputs, table))
 }

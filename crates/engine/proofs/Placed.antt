@@ -1,6 +1,6 @@
 -- The numbers of every answer have room in one number of 64 bits, whatever the bytes.
 --     judge-placed       a book has 32 scopes at most
---     compile-placed     its code 185,051 bytes
+--     compile-placed, tabulate-placed     its code 185,051 bytes, a table 790,528
 --     evaluate-placed, run-placed    a count is 4,096 at most, and the results are 192 bytes long at most
 -- Assumes nothing.
 use Prim.Native.Nat.{ℕ, _<_, _≤_}
@@ -24,6 +24,8 @@ use Rattle.acceptance.proofs.Numbers.{number-bound}
 use Rattle.acceptance.proofs.Orders.{accepted-book}
 use Rattle.evaluation.specs.Evaluate.{countIn, lengthIn, evaluate}
 use Rattle.evaluation.proofs.Answers.{evaluated-count, evaluated-short}
+use Rattle.tabulation.specs.Tabulate.{tabulate}
+use Rattle.tabulation.proofs.Answers.{tabulated-most}
 use Rattle.compiler.specs.Compile.{compile}
 use Rattle.compiler.proofs.Readings.{compiled-most}
 use Rattle.machine.specs.Service.{run}
@@ -52,9 +54,9 @@ answer-placed (answer.Values n l) h k = record { refusal = omega arith; outcome 
 answer-placed (answer.Ended c n) h k = record { refusal = omega arith; outcome = cause-small c; count = omega arith; length = omega arith }
 answer-placed (answer.Refused r) h k = refused-placed r
 
-compiled-placed : (c : Produced) → producedNumbers c .length ≤ 185051 → Placed (producedNumbers c)
-compiled-placed (produced.Written n) h = record { refusal = omega arith; outcome = omega arith; count = omega arith; length = omega arith }
-compiled-placed (produced.Refused r) h = refused-placed r
+produced-placed : (p : Produced) → producedNumbers p .length ≤ 790528 → Placed (producedNumbers p)
+produced-placed (produced.Written n) h = record { refusal = omega arith; outcome = omega arith; count = omega arith; length = omega arith }
+produced-placed (produced.Refused r) h = refused-placed r
 
 judged-placed : (bytes : List ℕ) (j : Judged) → judge bytes ≡ j → Placed (judgedNumbers j)
 judged-placed bytes (judged.Accepted n) e =
@@ -66,7 +68,12 @@ pub judge-placed : (bytes : List ℕ) → Placed (judgedNumbers (judge bytes))
 judge-placed bytes = judged-placed bytes (judge bytes) refl
 
 pub compile-placed : (bytes memory : List ℕ) → Placed (producedNumbers (compile bytes (length memory) .answer))
-compile-placed bytes memory = compiled-placed (compile bytes (length memory) .answer) (compiled-most bytes memory)
+compile-placed bytes memory = produced-placed (compile bytes (length memory) .answer) (omega (arith, compiled-most bytes memory))
+
+pub tabulate-placed : (bytes : List ℕ) (i : ℕ) (chosen fixed memory : List ℕ)
+    → Placed (producedNumbers (tabulate bytes i chosen fixed (length memory) .answer))
+tabulate-placed bytes i chosen fixed memory =
+    produced-placed (tabulate bytes i chosen fixed (length memory) .answer) (tabulated-most bytes i chosen fixed memory)
 
 pub evaluate-placed : (bytes : List ℕ) (i : ℕ) (list memory : List ℕ) → Placed (answerNumbers (evaluate bytes i list (length memory) .answer))
 evaluate-placed bytes i list memory =

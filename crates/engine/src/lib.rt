@@ -1,5 +1,5 @@
-// The engine: its four services, what they answer, the answers' numbers, and the four services together with the claim about them. It is
-// the one crate that a user names.
+// The engine: its four services and tabulating, what they answer, the answers' numbers, and the four services together with the claim about
+// them. It is the one crate that a user names.
 pub use answers::Answer;
 pub use answers::Cause;
 pub use answers::Fault;
@@ -13,6 +13,7 @@ pub use numbers::cause_number;
 pub use numbers::fault_number;
 pub use numbers::refusal_number;
 pub use runner::run;
+pub use tabulator::tabulate;
 use slices::part_of;
 ghost use mathlib.Core.Path.{_≡_};
 ghost use Rattle.answers.specs.Numbers.{producedNumbers};
