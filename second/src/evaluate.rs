@@ -48,16 +48,17 @@ struct Frame {
     subscopes: usize,
 }
 
-struct Evaluation<'a> {
+/// A book with what its runs need, and the slots of a run.
+pub(crate) struct Evaluation<'a> {
     book: &'a Book,
     trees: Vec<Trees>,
     layouts: Vec<Layout>,
-    slots: Vec<Option<Value>>,
+    pub(crate) slots: Vec<Option<Value>>,
     count: usize,
 }
 
 impl<'a> Evaluation<'a> {
-    fn new(book: &'a Book, slots: Vec<Option<Value>>) -> Self {
+    pub(crate) fn new(book: &'a Book, slots: Vec<Option<Value>>) -> Self {
         let layout = |scope: &Scope| {
             let called = scope.subscopes.iter().map(|&s| usize::from(s));
             Layout::of(called.map(|s| book.scopes[s].variables.len()))
@@ -72,7 +73,7 @@ impl<'a> Evaluation<'a> {
     }
 
     /// Runs a scope whose variables stand from `own` on, given ones filled in.
-    fn enter(&mut self, scope: usize, own: usize) -> Result<(), Failure> {
+    pub(crate) fn enter(&mut self, scope: usize, own: usize) -> Result<(), Failure> {
         self.count += 1;
         let book = self.book;
         let frame = Frame {

@@ -3,8 +3,9 @@
 //! bytes are hexadecimal, `-` stands for none.
 
 use crate::answer::{Answer, Outcome};
+use crate::cases::lend;
 use crate::rulerun::rulerun;
-use crate::{code_of, compile, evaluate, judge, run};
+use crate::{code_of, compile, evaluate, judge, run, tabulate};
 
 /// The example lines of the readings, in their order.
 pub const READINGS: &[&str] = &[
@@ -83,6 +84,21 @@ pub const READINGS: &[&str] = &[
     "evaluate 01020205800000000b00090213ff00ffff0113ff00ffff02 0 - = range 1 0",
 ];
 
+/// The example lines of the readings of request 1 of the second paper, in their order.
+/// A number behind the fixed list is the length of the memory lent.
+pub const TABLES: &[&str] = &[
+    "sheet 010201020102020600050000000713ff02ff0001 0 0100 - = ok 52 01000000000000000000000000010000000000000000000000000001000101010002020000000700010001010101020200000007",
+    "sheet 010201020102020600050000000713ff02ff0001 0 - - = ok 13 01000000000000000000000000",
+    "sheet 010201020102020600050000000713ff02ff0001 0 00 010001 = refused 18",
+    "sheet 010201020102020600050000000713ff02ff0001 0 00 010003 = refused 14",
+    "sheet 010201020102020600050000000713ff02ff0001 0 ffff 07 = refused 14",
+    "sheet 010201020102020600050000000713ff02ff0001 1 ffff 07 = refused 13",
+    "sheet 010201020102020600050000000713ff02ff0001 0 0000 - 0 = refused 18",
+    "sheet 010201020102020600050000000713ff02ff0001 0 00 - 0 = refused 15",
+    "sheet 010201020102020600050000000713ff02ff0001 0 02 - = refused 18",
+    "sheet 010201020102020600050000000713ff02ff0001 0 03 - = refused 18",
+];
+
 /// The paper's trial terms a to m, each the one definition of a number variable.
 pub const TRIALS: &[(&str, &str)] = &[
     ("a", "evaluate 0102020401050000000512ffffff000113ff00ffff02 0 - = value 1 6 020000000005"),
@@ -129,6 +145,9 @@ pub const RULERUN: &[(&str, &str)] = &[
     ("000b010201040013ff00ffff0000", "value 1\n0 no\n"),
 ];
 
+/// Memory that every table of the examples fits into.
+const AMPLE: usize = 256;
+
 /// Bytes from hexadecimal digits; spaces part them, `-` stands for none.
 pub fn hex(text: &str) -> Vec<u8> {
     let digits: Vec<u32> = text.chars().filter_map(|c| c.to_digit(16)).collect();
@@ -173,6 +192,19 @@ fn entered(service: Entered, bytes: &[u8], words: &[&str]) -> String {
     shown(answer, &results)
 }
 
+/// A table of the words book, scope, chosen, fixed list and, if not ample, memory.
+fn tabulated(book: &[u8], words: &[&str]) -> String {
+    let scope = words[2].parse().expect("a scope number");
+    let room = words
+        .get(5)
+        .map_or(AMPLE, |room| room.parse().expect("a length"));
+    let mut table = lend(room);
+    match tabulate(book, scope, &hex(words[3]), &hex(words[4]), &mut table) {
+        Ok(length) => format!("ok {length} {}", digits(&table[..length])),
+        Err(refusal) => format!("refused {refusal}"),
+    }
+}
+
 fn compiled(book: &[u8]) -> String {
     let mut code = [0xa5; 512];
     match compile(book, &mut code) {
@@ -193,6 +225,7 @@ fn answers(line: &str) -> Vec<String> {
         }],
         "compile" => vec![compiled(&bytes)],
         "run" => vec![entered(run, &bytes, &words)],
+        "sheet" => vec![tabulated(&bytes, &words)],
         _ => {
             let evaluated = entered(evaluate, &bytes, &words);
             let code = code_of(&bytes).unwrap_or_default();
@@ -212,7 +245,7 @@ fn wrong(line: &str) -> Option<String> {
 /// Everything that is wrong with the tables, and how many lines they have.
 pub fn check() -> (usize, Vec<String>) {
     let trials = TRIALS.iter().map(|&(_, line)| line);
-    let lines = READINGS.iter().copied().chain(trials);
+    let lines = READINGS.iter().chain(TABLES).copied().chain(trials);
     let mut faults: Vec<String> = lines.filter_map(wrong).collect();
     for (input, expected) in RULERUN {
         let printed = rulerun(&hex(input));
@@ -220,7 +253,8 @@ pub fn check() -> (usize, Vec<String>) {
             faults.push(format!("rulerun {input}: got {printed:?}"));
         }
     }
-    (READINGS.len() + TRIALS.len() + RULERUN.len(), faults)
+    let lines = READINGS.len() + TABLES.len() + TRIALS.len() + RULERUN.len();
+    (lines, faults)
 }
 
 /// Prints what is wrong; hands back how many passed and failed.

@@ -1,4 +1,4 @@
-//! The refusal numbers 1 to 17.
+//! The refusal numbers 1 to 18.
 
 /// Why a service refuses. The discriminant is the paper's number.
 #[derive(Clone, Copy, Debug, PartialEq, Eq)]
@@ -21,6 +21,7 @@ pub enum Refusal {
     BufferTooSmall,
     BadCode,
     Stuck,
+    BadChoice,
 }
 
 impl From<Refusal> for u8 {
