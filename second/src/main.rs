@@ -1,5 +1,6 @@
-//! Subcommands: rulerun, examples, selfcheck, case.
+//! Subcommands: rulerun, examples, selfcheck, case, table.
 
+use second::cases::Case;
 use second::examples::digits;
 use std::io::{Read, Write};
 use std::process::ExitCode;
@@ -9,9 +10,12 @@ fn main() -> ExitCode {
         Some("rulerun") => rulerun(),
         Some("examples") => finish(second::examples::report()),
         Some("selfcheck") => selfcheck(),
-        Some("case") => show(),
+        Some("case") => show(second::cases::case),
+        Some("table") => show(second::cases::tabulation),
         _ => {
-            eprintln!("usage: second rulerun | examples | selfcheck [cases] | case seed");
+            eprintln!(
+                "usage: second rulerun | examples | selfcheck [cases] | case seed | table seed"
+            );
             ExitCode::from(2)
         }
     }
@@ -31,16 +35,17 @@ fn rulerun() -> ExitCode {
 }
 
 /// Prints the case of a seed and this program's reply to it.
-fn show() -> ExitCode {
+fn show(of: fn(u64) -> Case) -> ExitCode {
     let seed = std::env::args().nth(2).and_then(|n| n.parse().ok());
     let Some(seed) = seed else {
         return ExitCode::from(2);
     };
-    let case = second::cases::case(seed);
+    let case = of(seed);
     let reply = case.reply();
     println!("{:?} {}", case.service, case.label);
     println!("bytes {}", digits(&case.bytes));
     println!("scope {}", case.scope);
+    println!("chosen {}", digits(&case.chosen));
     println!("inputs {}", digits(&case.inputs));
     println!("room {}", case.room);
     println!("{:?}", reply.result);

@@ -3,7 +3,8 @@
 use super::draft::YES_NO;
 use super::random::Random;
 
-fn record(rng: &mut Random, variable: usize, of: u8) -> Vec<u8> {
+/// A record for a variable of a type, with any value.
+pub fn record(rng: &mut Random, variable: usize, of: u8) -> Vec<u8> {
     let mut bytes = vec![of, variable as u8];
     match of {
         YES_NO => bytes.push(rng.below(2) as u8),
@@ -14,10 +15,15 @@ fn record(rng: &mut Random, variable: usize, of: u8) -> Vec<u8> {
 
 /// A good list: some of the variables, in any order.
 pub fn good(rng: &mut Random, types: &[u8]) -> Vec<u8> {
+    good_without(rng, types, &[])
+}
+
+/// A good list that has none of some variables.
+pub fn good_without(rng: &mut Random, types: &[u8], without: &[u8]) -> Vec<u8> {
     let chance = rng.pick(&[0, 0, 20, 50, 100]);
     let mut records = Vec::new();
     for (variable, &of) in types.iter().enumerate() {
-        if rng.percent(chance) {
+        if rng.percent(chance) && !without.contains(&(variable as u8)) {
             records.push(record(rng, variable, of));
         }
     }

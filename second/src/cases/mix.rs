@@ -113,7 +113,7 @@ pub fn run_directed(directed: &Directed) -> Case {
 }
 
 /// A scope of a draft and its types, scope 0 without types when there is none.
-fn asked(rng: &mut Random, draft: &Draft) -> (usize, Vec<u8>) {
+pub fn asked(rng: &mut Random, draft: &Draft) -> (usize, Vec<u8>) {
     let heavy = (0..draft.scopes.len()).max_by_key(|&s| draft.scopes[s].subscopes.len());
     let scope = match heavy {
         Some(heavy) if rng.percent(40) => heavy,

@@ -4,6 +4,7 @@
 pub mod assembler;
 pub mod badcode;
 pub mod books;
+pub mod branching;
 pub mod cycles;
 pub mod damage;
 pub mod deepest;
@@ -23,17 +24,21 @@ pub mod shapes;
 pub mod spoiled;
 pub mod stdin;
 pub mod stuck;
+pub mod tables;
+pub mod tabulations;
 pub mod terms;
 pub mod workbench;
 
 use crate::answer::Outcome;
-use crate::{compile, evaluate, judge, run};
+use crate::{compile, evaluate, judge, run, tabulate};
 use std::sync::OnceLock;
 
 pub use fixed::fixed;
 pub use long::long;
 pub use named::named;
 pub use stdin::standard_input;
+pub use tables::tables;
+pub use tabulations::tabulation;
 
 use mix::Mix;
 
@@ -43,6 +48,7 @@ pub enum Service {
     Evaluate,
     Compile,
     Run,
+    Tabulate,
 }
 
 /// What is known of the answer before any service is asked.
@@ -55,24 +61,26 @@ pub enum Expected {
     Ends(Outcome),
 }
 
-/// One call of a service. `bytes` is a book or code; `room` is the length of the
-/// memory lent for code or results.
+/// One call of a service. `bytes` is a book or code; `chosen` is for a table alone; `room`
+/// is the length of the memory lent for code, results or a table.
 #[derive(Clone, Debug)]
 pub struct Case {
     pub label: &'static str,
     pub service: Service,
     pub bytes: Vec<u8>,
     pub scope: usize,
+    pub chosen: Vec<u8>,
     pub inputs: Vec<u8>,
     pub room: usize,
     pub expected: Expected,
 }
 
-/// What a call hands back: number of scopes, length of code, or an answer.
+/// What a call hands back: number of scopes, length of code or of a table, or an answer.
 #[derive(Clone, Copy, Debug, PartialEq, Eq)]
 pub enum Success {
     Scopes(usize),
     Code(usize),
+    Table(usize),
     Answer(crate::answer::Answer),
 }
 
@@ -95,6 +103,7 @@ impl Case {
             service,
             bytes,
             scope: 0,
+            chosen: Vec::new(),
             inputs: Vec::new(),
             room: 0,
             expected: Expected::Anything,
@@ -111,6 +120,11 @@ impl Case {
         self
     }
 
+    fn choosing(mut self, chosen: Vec<u8>) -> Case {
+        self.chosen = chosen;
+        self
+    }
+
     /// What this program answers.
     pub fn reply(&self) -> Reply {
         let mut memory = lend(self.room);
@@ -120,6 +134,9 @@ impl Case {
             Service::Compile => compile(bytes, &mut memory).map(Success::Code),
             Service::Evaluate => evaluate(bytes, scope, inputs, &mut memory).map(Success::Answer),
             Service::Run => run(bytes, scope, inputs, &mut memory).map(Success::Answer),
+            Service::Tabulate => {
+                tabulate(bytes, scope, &self.chosen, inputs, &mut memory).map(Success::Table)
+            }
         };
         Reply { result, memory }
     }

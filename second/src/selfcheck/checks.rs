@@ -6,7 +6,7 @@ use crate::cases::{lend, Case, Reply, Service, Success};
 use crate::code::accept;
 use crate::naive::evaluation::Rules;
 use crate::naive::execution::{Blocks, End};
-use crate::naive::{self, relations};
+use crate::naive::{self, relations, tabulation};
 use crate::rulerun::rulerun;
 use crate::run::observed_run;
 use crate::{code_of, compile, evaluate, judge, steps_of, weights_of};
@@ -34,6 +34,7 @@ pub fn check(case: &Case, coverage: &mut Coverage) -> Check {
         (Service::Run, _) => return check_run(case, &reply, coverage),
         (Service::Compile, Ok(Success::Code(length))) => check_code(case, &reply.memory[..length])?,
         (Service::Evaluate, _) => check_evaluation(case, &reply, coverage)?,
+        (Service::Tabulate, result) => check_table(case, result, &reply.memory)?,
         _ => {}
     }
     check_judgement(case, reply.result, coverage)
@@ -51,7 +52,7 @@ fn check_memory(case: &Case, reply: &Reply) -> Check {
             0
         }
         Ok(Success::Scopes(_)) => 0,
-        Ok(Success::Code(length)) => length,
+        Ok(Success::Code(length) | Success::Table(length)) => length,
         Ok(Success::Answer(answer)) => {
             let values = answer.outcome == Outcome::Values;
             ensure(values || answer.length == 0, "length without values")?;
@@ -168,6 +169,19 @@ fn check_evaluation(case: &Case, reply: &Reply, coverage: &mut Coverage) -> Chec
     let weights = weights_of(&case.bytes).map_err(|_| "no weights")?;
     check_count(answer, weights[case.scope])?;
     check_answer(case, answer, &reply.memory[..answer.length])
+}
+
+/// The table, byte for byte, or the refusal, as the definition has it.
+fn check_table(case: &Case, result: Result<Success, u8>, memory: &[u8]) -> Check {
+    let choice = (&case.chosen[..], &case.inputs[..]);
+    match tabulation::table(&case.bytes, case.scope, choice, case.room) {
+        Ok(table) => {
+            let length = table.len();
+            ensure(result == Ok(Success::Table(length)), "length of the table")?;
+            ensure(memory[..length] == table, "table by definition")
+        }
+        Err(refusal) => ensure(result == Err(refusal), "refusal by definition"),
+    }
 }
 
 /// The count is at most the weight, and equal to it where the run ends in values.

@@ -6,6 +6,7 @@ use crate::code::CodeFault;
 use crate::machine::{Observer, Stuck, StuckCause};
 use crate::naive;
 use crate::run::Denial;
+use crate::tabulate::MAX_CHOSEN;
 use std::collections::BTreeMap;
 
 /// Counts of what was met.
@@ -14,6 +15,8 @@ pub struct Coverage {
     labels: BTreeMap<&'static str, usize>,
     refusals: BTreeMap<(Service, u8), usize>,
     outcomes: BTreeMap<(Service, u8), usize>,
+    /// Tables, by how many variables were chosen.
+    chosen: BTreeMap<usize, usize>,
     stuck: BTreeMap<Stuck, usize>,
     code_faults: BTreeMap<CodeFault, usize>,
     book_kinds: BTreeMap<u8, usize>,
@@ -57,6 +60,13 @@ const LABELS: &[&str] = &[
     "spoiled code",
     "directed code",
     "code of the acceptance table",
+    "tabulated",
+    "table longer than memory",
+    "bad choice",
+    "bad list and any choice",
+    "absent scope and any choice",
+    "faulty book and any choice",
+    "damaged book, tabulated",
 ];
 
 impl Coverage {
@@ -73,12 +83,26 @@ impl Coverage {
                 let outcome = answer.outcome as u8;
                 *self.outcomes.entry((service, outcome)).or_default() += 1;
             }
+            Ok(Success::Table(length)) => self.table(case, &reply.memory[..length]),
             Ok(_) => {}
         }
         self.mix(&case.bytes);
+        self.mix(&case.chosen);
         self.mix(&case.inputs);
         self.mix(format!("{} {:?}", case.scope, reply.result).as_bytes());
         self.mix(&reply.memory);
+    }
+
+    /// The outcomes of the rows, and how many variables were chosen for them.
+    fn table(&mut self, case: &Case, table: &[u8]) {
+        let rows = table.chunks_exact(table.len() >> case.chosen.len());
+        for row in rows {
+            *self
+                .outcomes
+                .entry((Service::Tabulate, row[0]))
+                .or_default() += 1;
+        }
+        *self.chosen.entry(case.chosen.len()).or_default() += 1;
     }
 
     /// A digest of all cases and replies (FNV-1a), to compare builds by.
@@ -118,6 +142,9 @@ impl Coverage {
         }
         for key in expected_outcomes() {
             all.push((format!("outcome {key:?}"), hits(&self.outcomes, &key)));
+        }
+        for key in 0..=MAX_CHOSEN {
+            all.push((format!("{key} chosen"), hits(&self.chosen, &key)));
         }
         for key in expected_stuck() {
             all.push((format!("{key:?}"), hits(&self.stuck, &key)));
@@ -175,11 +202,12 @@ impl Coverage {
     }
 }
 
-const SERVICES: [Service; 4] = [
+const SERVICES: [Service; 5] = [
     Service::Judge,
     Service::Evaluate,
     Service::Compile,
     Service::Run,
+    Service::Tabulate,
 ];
 
 fn hits<K: Ord>(counts: &BTreeMap<K, usize>, key: &K) -> usize {
@@ -190,20 +218,22 @@ fn least<K: Ord>(counts: &BTreeMap<K, usize>) -> usize {
     counts.values().copied().min().unwrap_or(0)
 }
 
-/// "Compiling knows only 1 to 12 and 15"; "for code: 16, 13, 14, 15, 17".
+/// "Compiling knows only 1 to 12 and 15"; "for code: 16, 13, 14, 15, 17"; for a table 18,
+/// "after 14, before 15".
 pub fn may_refuse(service: Service, number: u8) -> bool {
     match service {
         Service::Judge => (1..=12).contains(&number),
         Service::Evaluate => (1..=15).contains(&number),
         Service::Compile => (1..=12).contains(&number) || number == 15,
         Service::Run => (13..=17).contains(&number),
+        Service::Tabulate => (1..=15).contains(&number) || number == 18,
     }
 }
 
 fn expected_refusals() -> Vec<(Service, u8)> {
     let pairs = SERVICES
         .iter()
-        .flat_map(|&s| (1..=17).map(move |number| (s, number)));
+        .flat_map(|&s| (1..=18).map(move |number| (s, number)));
     pairs.filter(|&(s, number)| may_refuse(s, number)).collect()
 }
 
@@ -214,7 +244,7 @@ fn expected_outcomes() -> Vec<(Service, u8)> {
         Outcome::Conflict,
         Outcome::OutOfRange,
     ];
-    let services = [Service::Evaluate, Service::Run];
+    let services = [Service::Evaluate, Service::Run, Service::Tabulate];
     let pairs = services
         .iter()
         .flat_map(|&s| outcomes.map(|o| (s, o as u8)));

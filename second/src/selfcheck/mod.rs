@@ -4,7 +4,7 @@
 mod checks;
 mod coverage;
 
-use crate::cases::{case, fixed, foreign_code, standard_input, Case};
+use crate::cases::{case, fixed, foreign_code, standard_input, tables, tabulation, Case};
 use coverage::Coverage;
 use std::panic::{catch_unwind, AssertUnwindSafe};
 
@@ -40,10 +40,11 @@ fn checked(check: impl FnOnce() -> Result<(), String>) -> Result<(), String> {
 fn described(case: &Case) -> String {
     let bytes = &case.bytes[..case.bytes.len().min(120)];
     format!(
-        "{} ({:?}, scope {}, inputs {}, room {}, {} bytes {})",
+        "{} ({:?}, scope {}, chosen {}, inputs {}, room {}, {} bytes {})",
         case.label,
         case.service,
         case.scope,
+        crate::examples::digits(&case.chosen),
         crate::examples::digits(&case.inputs),
         case.room,
         case.bytes.len(),
@@ -56,7 +57,7 @@ fn described(case: &Case) -> String {
 pub fn selfcheck(random: u64) -> (usize, usize) {
     let mut tally = Tally::default();
     let mut coverage = Coverage::default();
-    let fixed = fixed();
+    let fixed = [fixed(), tables()].concat();
     for case in &fixed {
         let result = checked(|| checks::check(case, &mut coverage));
         tally.count(|| described(case), result);
@@ -71,13 +72,18 @@ pub fn selfcheck(random: u64) -> (usize, usize) {
         let result = checked(|| checks::check(&case, &mut coverage));
         tally.count(|| format!("code {seed}, {}", described(&case)), result);
     }
+    for seed in 0..random / 8 {
+        let case = tabulation(seed);
+        let result = checked(|| checks::check(&case, &mut coverage));
+        tally.count(|| format!("table {seed}, {}", described(&case)), result);
+    }
     for seed in 0..random / 20 {
         let bytes = standard_input(seed);
         let result = checked(|| checks::check_rulerun(&bytes, &mut coverage));
         tally.count(|| format!("standard input {seed}"), result);
     }
-    let (fixed, codes) = (fixed.len(), random / 4);
-    println!("{fixed} fixed cases, {random} random cases, {codes} codes that no compiler wrote");
+    let (fixed, codes, tables) = (fixed.len(), random / 4, random / 8);
+    println!("{fixed} fixed cases, {random} random cases, {codes} codes that no compiler wrote, {tables} tabulations");
     coverage.print();
     for (class, hits) in coverage.classes() {
         let met = if hits > 0 {
