@@ -29,6 +29,17 @@ extern "C" {
         results: *mut u8,
         results_length: usize,
     ) -> u64;
+    fn engine_tabulate(
+        book: *const u8,
+        book_length: usize,
+        scope: usize,
+        chosen: *const u8,
+        chosen_length: usize,
+        inputs: *const u8,
+        inputs_length: usize,
+        table: *mut u8,
+        table_length: usize,
+    ) -> u64;
 }
 
 const REFUSAL: u32 = 56;
@@ -106,5 +117,29 @@ pub fn run(code: &[u8], scope: usize, inputs: &[u8], results: &mut [u8]) -> Resu
 pub fn compile(book: &[u8], code: &mut [u8]) -> Result<usize, u8> {
     let packed =
         unsafe { engine_compile(book.as_ptr(), book.len(), code.as_mut_ptr(), code.len()) };
+    unpack(packed).map(|length| length as usize)
+}
+
+/// Length of the table written to the memory lent, or the refusal.
+pub fn tabulate(
+    book: &[u8],
+    scope: usize,
+    chosen: &[u8],
+    inputs: &[u8],
+    table: &mut [u8],
+) -> Result<usize, u8> {
+    let packed = unsafe {
+        engine_tabulate(
+            book.as_ptr(),
+            book.len(),
+            scope,
+            chosen.as_ptr(),
+            chosen.len(),
+            inputs.as_ptr(),
+            inputs.len(),
+            table.as_mut_ptr(),
+            table.len(),
+        )
+    };
     unpack(packed).map(|length| length as usize)
 }

@@ -11,11 +11,12 @@ mod ocaml;
 mod running;
 mod runs;
 mod stack;
+mod tabulating;
 mod tally;
 
 use std::process::ExitCode;
 
-const USAGE: &str = "compare judge CASES | compare evaluate CASES | compare compile CASES | compare run CASES | compare runs PROGRAM STACK_KIB FILE | compare stack | compare ocaml CASES | compare bench [PART_OF_A_BOOKS_NAME]";
+const USAGE: &str = "compare judge CASES | compare evaluate CASES | compare compile CASES | compare run CASES | compare tabulate CASES | compare runs PROGRAM STACK_KIB FILE | compare stack | compare ocaml CASES | compare bench [PART_OF_A_BOOKS_NAME]";
 
 fn main() -> ExitCode {
     let words: Vec<String> = std::env::args().skip(1).collect();
@@ -25,6 +26,7 @@ fn main() -> ExitCode {
         ["evaluate", cases] => evaluating::run(cases.parse().expect(USAGE)),
         ["compile", cases] => compiling::run(cases.parse().expect(USAGE)),
         ["run", cases] => running::run(cases.parse().expect(USAGE)),
+        ["tabulate", cases] => tabulating::run(cases.parse().expect(USAGE)),
         ["runs", program, stack, file] => runs::run(program, stack.parse().expect(USAGE), file),
         ["stack"] => stack::run(),
         ["ocaml", cases] => ocaml::run(cases.parse().expect(USAGE)),

@@ -58,6 +58,7 @@ fn run_of(bytes: Vec<u8>) -> Case {
         service: Service::Run,
         bytes,
         scope: 0,
+        chosen: Vec::new(),
         inputs: Vec::new(),
         room: 0,
         expected: Expected::Anything,

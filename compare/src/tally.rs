@@ -53,9 +53,14 @@ impl Tally {
         self.count(shown, (ours == theirs).then_some(()).ok_or_else(difference));
     }
 
+    /// Something that was met on the way; it is no comparison of its own.
+    pub fn meet(&mut self, answer: &str) {
+        *self.answers.entry(answer.to_string()).or_default() += 1;
+    }
+
     /// One comparison: what both answered, or how they differ.
     pub fn count(&mut self, answer: &str, agreed: Result<(), String>) {
-        *self.answers.entry(answer.to_string()).or_default() += 1;
+        self.meet(answer);
         match agreed {
             Ok(()) => self.passed += 1,
             Err(difference) => {
