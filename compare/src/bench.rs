@@ -1,5 +1,6 @@
 //! Time a call, the engine's and the second program's, on named books, in one run.
 
+use crate::bench_tables;
 use crate::clock;
 use crate::engine;
 use crate::evaluating::outcome;
@@ -27,7 +28,7 @@ const SECONDS: u64 = 3;
 
 /// Microseconds of one call of each: the best of many rounds, in turns, so that what
 /// else the machine does slows both alike.
-fn times(mut one: impl FnMut(), mut other: impl FnMut()) -> (f64, f64) {
+pub fn times(mut one: impl FnMut(), mut other: impl FnMut()) -> (f64, f64) {
     let start = Instant::now();
     let in_time = |_: &usize| start.elapsed().as_secs() < SECONDS;
     let best = |(a, b): (f64, f64), _| (a.min(round(&mut one)), b.min(round(&mut other)));
@@ -228,33 +229,40 @@ fn side_by_side(books: &[Book]) {
 
 /// The stack that a call of each exported function takes.
 fn stacks(books: &[Book]) {
-    println!("\n| book | engine_judge | engine_evaluate | engine_compile | engine_run |");
-    println!("|---|---|---|---|---|");
-    for book in books {
-        let [judge, evaluate, compile, run] = stack::of_services(&book.bytes, book.scope);
-        println!(
-            "| {} | {judge} | {evaluate} | {compile} | {run} |",
-            book.name
-        );
+    println!("\n| book | engine_judge | engine_evaluate | engine_compile | engine_run | engine_tabulate |");
+    println!("|---|---|---|---|---|---|");
+    for Book { name, bytes, scope } in books {
+        let taken = stack::of_services(bytes, *scope, &[]);
+        let [judge, evaluate, compile, run, tabulate] = taken;
+        println!("| {name} | {judge} | {evaluate} | {compile} | {run} | {tabulate} |");
     }
 }
 
-/// All three tables, of the books whose name has this part.
+/// Each service on each book, and on heavy code if it is asked for.
+fn times_of_services(books: &[Book], of_heavy: bool) {
+    println!("| service | book | engine us | second us | ratio |");
+    println!("|---|---|---|---|---|");
+    for Book { name, bytes, scope } in books {
+        services(name, bytes, *scope);
+    }
+    if of_heavy {
+        heavy();
+    }
+}
+
+/// All four tables, of the books whose name has this part.
 pub fn run(part: &str) -> bool {
     let mut books = books();
     books.retain(|book| book.name.contains(part));
-    if books.is_empty() && !HEAVY.contains(part) {
+    let (tables, of_heavy) = (bench_tables::tables(part), HEAVY.contains(part));
+    if books.is_empty() && tables.is_empty() && !of_heavy {
         eprintln!("no book has {part:?} in its name");
         return false;
     }
-    println!("| service | book | engine us | second us | ratio |");
-    println!("|---|---|---|---|---|");
-    for Book { name, bytes, scope } in &books {
-        services(name, bytes, *scope);
+    if !books.is_empty() || of_heavy {
+        times_of_services(&books, of_heavy);
     }
-    if HEAVY.contains(part) {
-        heavy();
-    }
+    bench_tables::print(&tables);
     if !books.is_empty() {
         side_by_side(&books);
         stacks(&books);

@@ -7,6 +7,9 @@ use second::Outcome;
 
 pub const NAME: &str = "family benefits: 6 scopes, 63 variables, 83 clauses";
 
+/// The book with a scope more, for tables.
+pub const REVIEWED: &str = "family benefits, a household under review";
+
 /// The scopes by their numbers: the last asks for all others.
 const CHILD: u8 = 0;
 const AMOUNTS: u8 = 1;
@@ -14,6 +17,7 @@ const INCOME: u8 = 2;
 const ALLOWANCE: u8 = 3;
 const GRANTS: u8 = 4;
 pub const HOUSEHOLD: usize = 5;
+pub const REVIEW: usize = 6;
 
 const OWN: u8 = 255;
 const NONE: u8 = 255;
@@ -114,6 +118,12 @@ impl Text {
     fn amount_if_any(&mut self, variable: u8, amount: i32) -> u8 {
         let (any, yes, no) = (self.above(0, variable), self.number(amount), self.number(0));
         self.choose(any, yes, no)
+    }
+
+    /// An amount where a yes/no variable is yes, and another where it is no.
+    fn amount_by(&mut self, variable: u8, yes: i32, no: i32) -> u8 {
+        let (condition, yes, no) = (self.own(variable), self.number(yes), self.number(no));
+        self.choose(condition, yes, no)
     }
 
     /// A variable is a number.
@@ -325,26 +335,87 @@ fn household() -> DraftScope {
     t.0
 }
 
-/// The book. Asked for the household it ends in values, ten scopes entered.
-pub fn book() -> Vec<u8> {
-    let scopes = vec![
+/// A household under review: 0 to 5 whether each of three children is at school and in
+/// care, 6 first and 7 second parent without pay, 8 alimony paid, 9 overseas, 10 a birth,
+/// 11 debts; 12 children, 13 allowance, 14 grants, 15 withheld, 16 net, 17 any. Sub-scopes:
+/// three children, the income, the allowance, the grants.
+fn review() -> DraftScope {
+    let called = [CHILD, CHILD, CHILD, INCOME, ALLOWANCE, GRANTS];
+    let mut t = Text::new("yyyyyyyyyyyynnnnny", &called);
+    for (child, age) in [(0, 17), (1, 14), (2, 6)] {
+        let (age, school, care) = (t.number(age), t.own(2 * child), t.own(2 * child + 1));
+        t.hand(child, 0, age);
+        t.hand(child, 2, school);
+        t.hand(child, 3, care);
+    }
+    for (variable, of, yes, no) in [(0, 6, 0, 1800), (1, 7, 0, 1400), (2, 8, 150, 0)] {
+        let amount = t.amount_by(of, yes, no);
+        t.hand(3, variable, amount);
+    }
+    let children = sum_over_children(&mut t, 10);
+    t.define(12, children);
+    let (children, share) = (t.own(12), t.of(3, 8));
+    t.hand(4, 0, children);
+    t.hand(4, 7, share);
+    let (births, low) = (t.amount_by(10, 1, 0), t.of(3, 6));
+    t.hand(5, 0, births);
+    t.hand(5, 4, low);
+    let (overseas, lump, amount) = (t.own(9), t.of(4, 13), t.of(4, 10));
+    let allowance = t.choose(overseas, lump, amount);
+    t.define(13, allowance);
+    let grants = t.of(5, 8);
+    t.define(14, grants);
+    let withheld = t.amount_by(11, 50, 0);
+    t.define(15, withheld);
+    let (allowance, grants, withheld) = (t.own(13), t.own(14), t.own(15));
+    let sum = t.add(allowance, grants);
+    let net = t.subtract(sum, withheld);
+    t.define(16, net);
+    let any = t.above(0, 16);
+    t.rule(17, any);
+    t.0
+}
+
+fn scopes() -> Vec<DraftScope> {
+    vec![
         child(),
         amounts(),
         income(),
         allowance(),
         grants(),
         household(),
-    ];
+    ]
+}
+
+/// The book of some scopes, which must have so many scopes, variables and clauses.
+fn counted(scopes: Vec<DraftScope>, expected: [usize; 3]) -> Vec<u8> {
     let count = |of: fn(&DraftScope) -> usize| scopes.iter().map(of).sum::<usize>();
     let counts = [
         scopes.len(),
         count(|s| s.variables.len()),
         count(|s| s.clauses.len()),
     ];
-    assert_eq!(counts, [6, 63, 83], "scopes, variables and clauses");
-    let book = Draft { scopes }.bytes();
+    assert_eq!(counts, expected, "scopes, variables and clauses");
+    Draft { scopes }.bytes()
+}
+
+/// The book. Asked for the household it ends in values, ten scopes entered.
+pub fn book() -> Vec<u8> {
+    let book = counted(scopes(), [6, 63, 83]);
     let answer = second::evaluate(&book, HOUSEHOLD, &[], &mut [0; 192]);
     let entered = answer.map(|answer| (answer.outcome, answer.count));
     assert_eq!(entered, Ok((Outcome::Values, 10)), "values, scopes entered");
+    book
+}
+
+/// The book and the review. No scope of the book has twelve yes/no variables; the review
+/// has, and hands what they say over to the others, so that 14 scopes are entered for
+/// each row of their table.
+pub fn reviewed() -> Vec<u8> {
+    let mut scopes = scopes();
+    scopes.push(review());
+    let book = counted(scopes, [7, 81, 105]);
+    let weight = second::weights_of(&book).map(|weights| weights[REVIEW]);
+    assert_eq!(weight, Ok(14), "the review's weight");
     book
 }

@@ -1,6 +1,7 @@
 //! Compares the proved engine with the second program.
 
 mod bench;
+mod bench_tables;
 mod clock;
 mod compiling;
 mod engine;

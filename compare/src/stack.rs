@@ -3,7 +3,7 @@
 
 use crate::bench::compiled;
 use crate::engine;
-use second::cases::deepest;
+use second::cases::{deepest, tabulations::HUGE};
 use std::thread;
 
 /// Bytes of the stack of a thread that measures.
@@ -49,16 +49,19 @@ fn taken(mut call: impl FnMut() + Send) -> usize {
     })
 }
 
-/// Bytes of stack that judging, evaluating, compiling and running take.
-pub fn of_services(book: &[u8], scope: usize) -> [usize; 4] {
+/// Bytes of stack that judging, evaluating, compiling, running and tabulating take, the
+/// last with some variables chosen.
+pub fn of_services(book: &[u8], scope: usize, chosen: &[u8]) -> [usize; 5] {
     let code = compiled(book);
     let (mut room, mut results) = (code.clone(), [0; 192]);
+    let mut table = vec![0; HUGE];
     let accepted = "an accepted book";
     [
         taken(|| _ = engine::judge(book).expect(accepted)),
         taken(|| _ = engine::evaluate(book, scope, &[], &mut results).expect(accepted)),
         taken(|| _ = engine::compile(book, &mut room).expect(accepted)),
         taken(|| _ = engine::run(&code, scope, &[], &mut results).expect(accepted)),
+        taken(|| _ = engine::tabulate(book, scope, chosen, &[], &mut table).expect(accepted)),
     ]
 }
 
@@ -73,14 +76,18 @@ fn defined(name: &str) -> usize {
     number.unwrap_or_else(|| panic!("no number {name} in the header"))
 }
 
-const SERVICES: [&str; 4] = ["JUDGE", "EVALUATE", "COMPILE", "RUN"];
+const SERVICES: [&str; 5] = ["JUDGE", "EVALUATE", "COMPILE", "RUN", "TABULATE"];
 
-/// Bytes of stack that each service takes at most, on what goes deepest.
-fn deepest_of_services() -> [usize; 4] {
+/// Bytes of stack that each service takes at most, on what goes deepest: a table with
+/// nothing chosen, and one whose rows differ.
+fn deepest_of_services() -> [usize; 5] {
     let books = deepest::CHAINS.map(|of| deepest::book(of).bytes());
-    let mut most = [0; 4];
-    for book in books {
-        let taken = of_services(&book, 31);
+    let mut most = [0; 5];
+    for (book, chosen) in books
+        .iter()
+        .flat_map(|book| [(book, &[][..]), (book, &[0])])
+    {
+        let taken = of_services(book, 31, chosen);
         most = std::array::from_fn(|service| most[service].max(taken[service]));
     }
     let (code, mut results) = (deepest::code(1_024), [0; 192]);
