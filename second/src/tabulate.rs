@@ -8,7 +8,7 @@ use crate::records::{read_inputs, results_length, write_results};
 use crate::refusal::Refusal;
 use crate::value::{Failure, Type, Value};
 
-/// "For at most 12 chosen yes/no variables of a scope".
+/// "List every choice of no and yes for at most 12 chosen yes/no variables of a scope".
 pub const MAX_CHOSEN: usize = 12;
 
 /// Tabulates a scope: refusals 1 to 14, 18, 15, or the length of the table written.

@@ -1,10 +1,10 @@
 //! Books whose outcome hangs on yes/no variables: a scope with many of them, and numbers
 //! that are a value, empty, conflict or out of range as these are no or yes.
 
-use super::draft::{Draft, DraftScope, NUMBER, YES_NO};
+use super::draft::{variables_of, Draft, DraftScope, NUMBER, YES_NO};
 use super::random::Random;
 
-/// The scope to ask for is the last.
+/// A book, and the scope to ask for: the last.
 pub struct Branching {
     pub draft: Draft,
     pub scope: usize,
@@ -28,7 +28,7 @@ pub fn branching(rng: &mut Random, yes_no: usize) -> Branching {
         scope.subscopes = vec![0; rng.range(1, 2)];
     }
     let chance = rng.pick(&[0, 50, 90, 100]);
-    let switches = variables_of(&scope, YES_NO);
+    let switches = variables_of(&scope.variables, YES_NO);
     for &v in &switches {
         if rng.percent(chance) {
             let yes = rng.below(2) as u8;
@@ -56,14 +56,6 @@ fn called(rng: &mut Random) -> DraftScope {
     scope
 }
 
-fn variables_of(scope: &DraftScope, of: u8) -> Vec<u8> {
-    let numbered = (0..).zip(&scope.variables);
-    numbered
-        .filter(|&(_, &t)| t == of)
-        .map(|(v, _)| v)
-        .collect()
-}
-
 /// Defines the numbers: at most two hang on the switches, the others are constants. The
 /// last call hands a switch over.
 fn depend(rng: &mut Random, scope: &mut DraftScope, switches: &[u8]) {
@@ -72,7 +64,7 @@ fn depend(rng: &mut Random, scope: &mut DraftScope, switches: &[u8]) {
         let handed = scope.own(rng.pick(switches));
         scope.define(last, 0, 255, handed);
     }
-    let numbers = variables_of(scope, NUMBER);
+    let numbers = variables_of(&scope.variables, NUMBER);
     for (i, &v) in numbers.iter().enumerate() {
         let root = match (i, rng.below(4)) {
             (0 | 1, 0) if !switches.is_empty() => {
@@ -161,7 +153,7 @@ mod tests {
             let yes_no = rng.range(0, 32);
             let Branching { draft, scope } = branching(rng, yes_no);
             assert_eq!(judge(&draft.bytes()), Ok(scope + 1), "seed {seed}");
-            let switches = variables_of(&draft.scopes[scope], YES_NO);
+            let switches = variables_of(&draft.scopes[scope].variables, YES_NO);
             assert_eq!(switches.len(), yes_no, "seed {seed}");
         }
     }

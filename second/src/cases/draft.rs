@@ -121,3 +121,10 @@ pub fn results_length(types: &[u8]) -> usize {
         .map(|&of| if of == YES_NO { 3 } else { 6 })
         .sum()
 }
+
+/// The numbers of the variables of a type.
+pub fn variables_of(types: &[u8], of: u8) -> Vec<u8> {
+    let numbered = (0..).zip(types);
+    let fitting = numbered.filter(|&(_, &other)| other == of);
+    fitting.map(|(variable, _)| variable).collect()
+}

@@ -61,7 +61,7 @@ fn refused(cases: &mut Vec<Case>, label: &'static str, bytes: &[u8], number: u8)
     }
 }
 
-fn lone(scope: DraftScope) -> Draft {
+pub(super) fn lone(scope: DraftScope) -> Draft {
     Draft {
         scopes: vec![scope],
     }

@@ -55,7 +55,7 @@ pub enum Service {
 #[derive(Clone, Copy, Debug, PartialEq, Eq)]
 pub enum Expected {
     Anything,
-    /// A book without refusals 1 to 12, code without 16.
+    /// A book without refusals 1 to 12, code without 16, a table that is written.
     Accepted,
     Refused(u8),
     Ends(Outcome),
@@ -147,6 +147,7 @@ impl Case {
             (Expected::Anything, _) | (Expected::Accepted, Ok(_)) => true,
             (Expected::Accepted, Err(refusal)) => match self.service {
                 Service::Run => refusal != 16,
+                Service::Tabulate => false,
                 _ => refusal > 12,
             },
             (Expected::Refused(wanted), Err(refusal)) => wanted == refusal,

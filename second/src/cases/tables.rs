@@ -4,6 +4,7 @@
 use super::branching::{branching, Branching};
 use super::draft::{Draft, DraftScope, NUMBER, YES_NO};
 use super::faults::{fault, WAYS};
+use super::fixed::lone;
 use super::random::Random;
 use super::tabulations::{spoil_choice, Asked, CHOICES, HUGE};
 use super::{deepest, inputs, shapes, terms};
@@ -55,7 +56,7 @@ fn every_number(cases: &mut Vec<Case>) {
     }
 }
 
-/// "18 comes before 15 also where 13 variables would give a longer table than any memory".
+/// 18 comes before 15, also where the table would be longer than any memory.
 fn thirteen(cases: &mut Vec<Case>, of: &Asked) {
     for room in [0, of.row(), HUGE, of.length()] {
         let case = of.case("13 chosen", room);
@@ -63,8 +64,7 @@ fn thirteen(cases: &mut Vec<Case>, of: &Asked) {
     }
 }
 
-/// 32 variables, as many of them yes/no as said, the rest numbers, each a constant; the
-/// chosen as said.
+/// 32 variables, each a constant: these yes/no, the others numbers. Some of them chosen.
 fn constants(yes_no: &[u8], chosen: &[u8]) -> Asked {
     let mut scope = DraftScope::default();
     for v in 0..32 {
@@ -85,12 +85,6 @@ fn constants(yes_no: &[u8], chosen: &[u8]) -> Asked {
         scope: 0,
         chosen: chosen.to_vec(),
         fixed: Vec::new(),
-    }
-}
-
-fn lone(scope: DraftScope) -> Draft {
-    Draft {
-        scopes: vec![scope],
     }
 }
 

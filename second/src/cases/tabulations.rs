@@ -2,7 +2,7 @@
 
 use super::branching::{branching, Branching};
 use super::damage::{damage, noise};
-use super::draft::{results_length, Draft, YES_NO};
+use super::draft::{results_length, variables_of, Draft, YES_NO};
 use super::faults::{fault, WAYS};
 use super::inputs::{bad, good_without, record};
 use super::mix::{asked, some_book};
@@ -28,7 +28,7 @@ impl Asked {
     pub fn of(rng: &mut Random, draft: &Draft, scope: usize, chosen: usize) -> Asked {
         let types = draft.scopes.get(scope).map(|s| s.variables.clone());
         let types = types.unwrap_or_default();
-        let mut switches = yes_no(&types);
+        let mut switches = variables_of(&types, YES_NO);
         rng.shuffle(&mut switches);
         switches.truncate(chosen);
         Asked {
@@ -70,12 +70,6 @@ impl Asked {
             _ => self.length() + rng.pick(&more),
         }
     }
-}
-
-fn yes_no(types: &[u8]) -> Vec<u8> {
-    let numbered = (0..).zip(types);
-    let switches = numbered.filter(|&(_, &of)| of == YES_NO);
-    switches.map(|(v, _)| v).collect()
 }
 
 /// Few mostly: the rows double with each.

@@ -29,7 +29,7 @@ fn given(mut list: &[u8]) -> Vec<u8> {
     variables
 }
 
-/// "More than 12 chosen, one chosen twice, absent, not yes/no, or in the fixed list".
+/// "18, more than 12 chosen, one chosen twice, absent, not yes/no, or in the fixed list".
 fn is_bad(chosen: &[u8], types: &[u8], fixed: &[u8]) -> bool {
     let times = |v: u8| chosen.iter().filter(|&&other| other == v).count();
     let bad = |&v: &u8| {
