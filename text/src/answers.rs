@@ -9,8 +9,9 @@ use crate::programs::{find, output_of};
 use crate::reason::why_failed;
 use crate::rulebook::Rulebook;
 use crate::syntax::Word;
-use crate::words::{self, fault_name, refusal};
+use crate::words::{self, cause, fault_name};
 use second::value::{Failure, Value};
+use std::path::Path;
 
 /// Judges the book of a text, or a book, by the proved judge.
 pub fn judge(source: &Source) -> Result<Answer, String> {
@@ -35,26 +36,29 @@ pub fn judged(book: &[u8], names: &[String]) -> Result<Answer, String> {
             let line = format!("accepted, {count} {scopes}{names}\n");
             Ok(Answer::good(line))
         }
-        ("refused", Ok(number)) => Ok(Answer::bad(refused(book, number))),
+        ("refused", Ok(number)) => Ok(Answer::bad(refused(book, number) + "\n")),
         _ => Err(format!("judgebook printed '{}'", printed.trim_end())),
     }
 }
 
 /// `refused 6, dangling reference: where`.
 pub fn refused(book: &[u8], number: u8) -> String {
-    let place = located(book, number).unwrap_or_else(|| refusal(number));
-    format!("refused {number}, {}: {place}\n", fault_name(number))
+    let place = located(book, number).unwrap_or_else(|| cause(number).to_string());
+    format!("refused {number}, {}: {place}", fault_name(number))
 }
 
-/// Evaluates a scope by the proved evaluator: the values of its variables, or how the run
-/// ended without them.
-pub fn outcome(
+/// The values of a scope's variables, or how the run ended without them.
+pub type Outcome = Result<Vec<Value>, Failure>;
+
+/// Evaluates a scope by a program such as rulerun.
+pub fn outcome_by(
+    program: &Path,
     book: &Rulebook,
     scope: usize,
     given: &Given,
-) -> Result<Result<Vec<Value>, Failure>, String> {
+) -> Result<Outcome, String> {
     let input = standard_input(book, scope, given);
-    let printed = output_of(&find("rulerun")?, &input)?;
+    let printed = output_of(program, &input)?;
     let mut lines = printed.lines();
     let first = lines.next().unwrap_or_default();
     let strange = || format!("rulerun printed '{}'", printed.trim_end());
@@ -82,7 +86,7 @@ fn read_value(line: &str) -> Option<Value> {
 
 /// `name = value` of every variable, or why there are no values.
 pub fn evaluate(book: &Rulebook, file: &str, scope: usize, given: Given) -> Result<Answer, String> {
-    let failure = match outcome(book, scope, &given)? {
+    let failure = match outcome_by(&find("rulerun")?, book, scope, &given)? {
         Ok(values) => return Ok(Answer::good(lines(book, scope, &values))),
         Err(failure) => failure,
     };

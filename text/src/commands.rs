@@ -2,8 +2,10 @@
 
 use crate::answers;
 use crate::brief::explain_briefly;
+use crate::cases::Cases;
 use crate::compare::compare;
 use crate::draw::Drawing;
+use crate::evaluator::Evaluator;
 use crate::examples::{run_examples, Program};
 use crate::explain::explain;
 use crate::files::{read_text, Source};
@@ -165,7 +167,8 @@ fn unfit(usage: &Usage, words: &[&str]) -> Stop {
 
 fn table(file: &str, scope: &str, choice: &[&str], typed: &Typed) -> Answered {
     let (_, book, scope, _) = asked(file, scope, &[])?;
-    let table = Table::of(&book, scope, choice)?;
+    let cases = Cases::named(&book, scope, choice)?;
+    let table = Table::of(&Evaluator::found()?, &book, scope, cases)?;
     Ok(Answer::good(
         match (typed.has("--csv"), typed.has("--html")) {
             (true, _) => table.csv(),

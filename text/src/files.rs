@@ -74,10 +74,7 @@ impl Source {
         let text = match self.is_book() {
             false => self.text()?,
             true => {
-                let wrong = |number| {
-                    let refused = refused(&self.bytes, number);
-                    format!("{}: {}", self.name, refused.trim_end())
-                };
+                let wrong = |number| format!("{}: {}", self.name, refused(&self.bytes, number));
                 second::judge(&self.bytes).map_err(wrong)?;
                 to_text(&self.bytes).map_err(|fault| fault.in_file(&self.name))?
             }

@@ -7,7 +7,8 @@
 //!   `names`, `typing`, `numbering` and `cycles` make it a `rulebook`; `writer` gives
 //!   the bytes
 //! - book to text: `printer`, and `records` for books that the judge refuses
-//! - `explain`, `brief` and `reason` with `evaluation`; `table`; `draw` and `map` with `shape`; `report`, `html`
+//! - `explain`, `brief` and `reason` with `evaluation`; `draw` and `map` with `shape`; `report`, `html`
+//! - `table` of `cases`, which the `evaluator` gives to the proved `library` or program
 //! - `warnings` from a `search` over `choices` of inputs, with `thresholds`, `ending`
 //!   and `conditions`
 //! - `answers`: what the proved `programs` say, in names and words; `locate` for refusals
@@ -16,6 +17,7 @@
 
 pub mod answers;
 pub mod brief;
+pub mod cases;
 pub mod choices;
 pub mod commands;
 pub mod compare;
@@ -25,6 +27,7 @@ pub mod damage;
 pub mod draw;
 pub mod ending;
 pub mod evaluation;
+pub mod evaluator;
 pub mod examples;
 pub mod explain;
 pub mod expression;
@@ -32,6 +35,7 @@ pub mod files;
 pub mod html;
 pub mod inputs;
 pub mod lexer;
+pub mod library;
 pub mod locate;
 pub mod map;
 pub mod names;

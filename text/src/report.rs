@@ -2,8 +2,10 @@
 //! tables and example runs.
 
 use crate::answers::judged;
+use crate::cases::Cases;
 use crate::choices::Choices;
 use crate::draw::Drawing;
+use crate::evaluator::Evaluator;
 use crate::html::{escaped, page};
 use crate::inputs::standard_input;
 use crate::map::map;
@@ -158,7 +160,8 @@ impl Report<'_> {
             true => ", each number on both sides of what it is compared with",
             false => "",
         };
-        let table = Table::of_choices(self.book, scope, &choices)?;
+        let cases = Cases::of_choices(self.book, scope, &choices);
+        let table = Table::of(&Evaluator::found()?, self.book, scope, cases)?;
         Ok(format!("<h3>All cases{note}</h3>\n{}", table.html_table()))
     }
 

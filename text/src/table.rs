@@ -1,16 +1,14 @@
-//! Every choice of some yes/no variables of a scope, with what the proved evaluator makes of
-//! each: as text, as CSV, as HTML.
+//! Choices of some variables of a scope, with what the proved evaluator makes of each: as
+//! text, as CSV, as HTML.
 
-use crate::answers::outcome;
-use crate::choices::{inputs_of, Choices};
+use crate::answers::Outcome;
+use crate::cases::Cases;
+use crate::choices::inputs_of;
+use crate::evaluator::Evaluator;
 use crate::html::{escaped, page};
-use crate::inputs::{given_words, variable_named, Given};
+use crate::inputs::{given_words, Given};
 use crate::rulebook::Rulebook;
 use crate::words;
-use second::value::{Failure, Type, Value};
-
-/// No more variables than this take both values.
-pub const MOST: usize = 12;
 
 /// A table: the variables that vary, those that are shown, and the rows.
 pub struct Table<'a> {
@@ -25,72 +23,27 @@ pub struct Table<'a> {
 /// The values that were chosen, and those of every variable or why there are none.
 struct Row {
     given: Given,
-    values: Result<Vec<Value>, Failure>,
+    values: Outcome,
 }
 
 impl<'a> Table<'a> {
-    /// Names vary, `name=value` is given in every row. Without names every yes/no input
-    /// that is not given varies.
-    pub fn of(book: &'a Rulebook, scope: usize, words: &[&str]) -> Result<Table<'a>, String> {
-        let (inputs, names): (Vec<&str>, Vec<&str>) = words.iter().partition(|w| w.contains('='));
-        let fixed = crate::inputs::read_inputs(book, scope, &inputs)?;
-        let varied = match names.is_empty() {
-            true => open_inputs(book, scope, &fixed),
-            false => named(book, scope, &fixed, &names)?,
-        };
-        if varied.len() > MOST {
-            let count = varied.len();
-            return Err(format!(
-                "{count} variables vary, and {MOST} are the most: give the others, or name those to vary"
-            ));
-        }
-        let mut table = Table {
-            book,
-            scope,
-            shown: shown(book, scope, &fixed, &varied),
-            fixed,
-            varied,
-            rows: Vec::new(),
-        };
-        for choice in 0..1usize << table.varied.len() {
-            let row = table.row(choice)?;
-            table.rows.push(row);
-        }
-        Ok(table)
-    }
-
-    /// All choices of a scope's inputs.
-    pub fn of_choices(
+    /// What is made of the cases.
+    pub fn of(
+        by: &Evaluator,
         book: &'a Rulebook,
         scope: usize,
-        choices: &Choices,
+        cases: Cases,
     ) -> Result<Table<'a>, String> {
-        let fixed = vec![None; book.scopes[scope].variables.len()];
-        let mut table = Table {
+        let outcomes = by.outcomes(book, scope, &cases)?;
+        let rows = cases.rows.into_iter().zip(outcomes);
+        Ok(Table {
             book,
             scope,
-            shown: shown(book, scope, &fixed, &choices.inputs),
-            fixed,
-            varied: choices.inputs.clone(),
-            rows: Vec::new(),
-        };
-        for choice in 0..choices.count {
-            table.rows.push(table.run(choices.given(choice))?);
-        }
-        Ok(table)
-    }
-
-    fn row(&self, choice: usize) -> Result<Row, String> {
-        let mut given = self.fixed.clone();
-        for (bit, &variable) in self.varied.iter().rev().enumerate() {
-            given[variable] = Some(Value::YesNo(choice >> bit & 1 == 1));
-        }
-        self.run(given)
-    }
-
-    fn run(&self, given: Given) -> Result<Row, String> {
-        let values = outcome(self.book, self.scope, &given)?;
-        Ok(Row { given, values })
+            shown: shown(book, scope, &cases.fixed, &cases.varied),
+            fixed: cases.fixed,
+            varied: cases.varied,
+            rows: rows.map(|(given, values)| Row { given, values }).collect(),
+        })
     }
 
     fn name(&self, variable: usize) -> String {
@@ -251,38 +204,6 @@ impl<'a> Table<'a> {
         };
         format!("<tr>{chosen}{values}</tr>\n")
     }
-}
-
-/// The yes/no inputs of a scope that are not given.
-fn open_inputs(book: &Rulebook, scope: usize, fixed: &Given) -> Vec<usize> {
-    let yes_no = |&v: &usize| book.scopes[scope].variables[v] == Type::YesNo;
-    let open = |v: &usize| yes_no(v) && fixed[*v].is_none();
-    inputs_of(&book.scopes[scope])
-        .into_iter()
-        .filter(open)
-        .collect()
-}
-
-fn named(
-    book: &Rulebook,
-    scope: usize,
-    fixed: &Given,
-    names: &[&str],
-) -> Result<Vec<usize>, String> {
-    let mut varied = Vec::new();
-    for name in names {
-        let variable = variable_named(book, scope, name)?;
-        if book.scopes[scope].variables[variable] == Type::Number {
-            return Err(format!(
-                "'{name}' is a number: give it a value, as in {name}=1"
-            ));
-        }
-        if varied.contains(&variable) || fixed[variable].is_some() {
-            return Err(format!("'{name}' is named twice"));
-        }
-        varied.push(variable);
-    }
-    Ok(varied)
 }
 
 /// What is computed: neither given nor chosen, and no input.

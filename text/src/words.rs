@@ -2,9 +2,14 @@
 
 use second::value::{Failure, Value};
 
-/// A refusal of the judge or of an evaluation.
+/// A refusal of the judge.
 pub fn refusal(number: u8) -> String {
-    let words = match number {
+    format!("{} (number {number})", cause(number))
+}
+
+/// Why a service refuses.
+pub fn cause(number: u8) -> &'static str {
+    match number {
         1 => "a record's body passes the end",
         2 => "a record of unknown kind",
         3 => "a record out of order, or before the first scope",
@@ -19,9 +24,10 @@ pub fn refusal(number: u8) -> String {
         12 => "a step depends on itself",
         13 => "there is no such scope",
         14 => "the inputs do not fit the scope",
+        15 => "the memory for the answer is too short",
+        18 => "more than 12 variables vary, or one is repeated, given, not yes/no or absent",
         _ => "refused",
-    };
-    format!("{words} (number {number})")
+    }
 }
 
 /// The short name of a refusal.
@@ -41,6 +47,8 @@ pub fn fault_name(number: u8) -> &'static str {
         12 => "dependency cycle",
         13 => "no such scope",
         14 => "bad input",
+        15 => "buffer too small",
+        18 => "bad choice",
         _ => "refused",
     }
 }

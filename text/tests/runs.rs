@@ -2,7 +2,7 @@
 
 mod common;
 
-use common::{folder, text, SPEED};
+use common::{folder, stand_ins, text, SPEED};
 
 /// A folder with one book and its runs, run by the stand-in.
 fn ran(name: &str, runs: Option<&str>) -> common::Ran {
@@ -12,8 +12,7 @@ fn ran(name: &str, runs: Option<&str>) -> common::Ran {
     if let Some(runs) = runs {
         std::fs::write(inside.join("speed.runs"), runs).expect("a file");
     }
-    let program = std::path::Path::new(env!("CARGO_BIN_EXE_text"));
-    let program = program.with_file_name("examples").join("rulerun");
+    let program = stand_ins().join("rulerun");
     text(&format!("examples {} {name}", program.display()))
 }
 

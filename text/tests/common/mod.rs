@@ -16,7 +16,7 @@ pub struct Ran {
 }
 
 /// The folder of the stand-ins, which `cargo test` builds.
-fn stand_ins() -> PathBuf {
+pub fn stand_ins() -> PathBuf {
     let program = PathBuf::from(env!("CARGO_BIN_EXE_text"));
     program.with_file_name("examples")
 }
