@@ -49,7 +49,7 @@ pub const COMMANDS: [Usage; 14] = [
         ..usage(
             "table",
             "FILE SCOPE [NAME[=VALUE] ..]",
-            "every choice of yes/no variables and what comes of it",
+            "every choice of at most 12 yes/no variables and its outcome",
         )
     },
     usage(
@@ -83,11 +83,14 @@ pub const COMMANDS: [Usage; 14] = [
     usage(
         "compare",
         "COUNT",
-        "judge and evaluate of generated books, with the second program",
+        "judge, evaluate, table of generated books, with the second program",
     ),
 ];
 
 const AFTERWARDS: &str = "\
+A table varies the yes/no variables that are named, or all yes/no inputs; NAME=VALUE is given
+in every row. The engine's library makes it in one call where target/staticlib/libcapi.a was
+there when this program was built; else rulerun is started for each row.
 FILE is a text or a book; - is standard input. With -o OUT what a command writes goes to the
 file OUT, and only where the command succeeds; it stands there as a whole or not at all.
 The exit status is 0 for accepted, values or all well, 1 where the answer is no or something
