@@ -111,16 +111,11 @@ impl Service<'_> {
             let refused = refused(&self.book, number);
             format!("{refused}; please report it")
         })?;
-        let rows = table.chunks(1 + results_length(self.types));
-        let rows: Option<Vec<Outcome>> = rows.map(|row| read_row(self.types, row)).collect();
-        let whole = rows.filter(|rows| rows.len() == 1 << chosen.len());
-        let wrong = || {
-            format!(
-                "wrote {} bytes that are no table; please report it",
-                table.len()
-            )
-        };
-        whole.ok_or_else(wrong)
+        let (length, width) = (table.len(), 1 + results_length(self.types));
+        let rows = table.chunks(width).map(|row| read_row(self.types, row));
+        let rows: Option<Vec<Outcome>> = rows.collect();
+        let whole = rows.filter(|_| length == width << chosen.len());
+        whole.ok_or_else(|| format!("wrote {length} bytes that are no table; please report it"))
     }
 }
 

@@ -138,10 +138,11 @@ fn what_the_library_refuses_is_told() {
     let expected = "scope loan: the engine's library refused 14, bad input: the inputs do not fit \
                     the scope; please report it";
     assert_eq!(told(Evaluator::Library(|_, _, _, _| Err(14))), expected);
-    let expected =
-        "scope loan: the engine's library wrote 9 bytes that are no table; please report it";
-    assert_eq!(
-        told(Evaluator::Library(|_, _, _, _| Ok(vec![1; 9]))),
-        expected
-    );
+    let told_of = |length: usize| {
+        format!("scope loan: the engine's library wrote {length} bytes that are no table; please report it")
+    };
+    let cut = Evaluator::Library(|_, _, _, _| Ok(vec![1; 43]));
+    assert_eq!(told(cut), told_of(43));
+    let strange = Evaluator::Library(|_, _, _, _| Ok(vec![9; 44]));
+    assert_eq!(told(strange), told_of(44));
 }
