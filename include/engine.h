@@ -1,7 +1,7 @@
 /*
  * The proved rule engine, for programs in C. The functions are those of the static library target/staticlib/libcapi.a, which
- * `rt staticlib capi` proves and writes; their contracts stand in crates/capi/src/lib.rt, the bytes of books, inputs, results and code in
- * docs/FORMAT.md. docs/SEALING.md is a page for those who build the library into a device: stack, times, and how each figure was found.
+ * `rt staticlib capi` proves and writes; their contracts stand in crates/capi/src/lib.rt, the bytes of books, inputs, results, code and
+ * tables in docs/FORMAT.md. docs/SEALING.md is a page for those who build the library into a device: stack, times, and how each figure was found.
  *
  * Bytes are lent as a pointer and a length. No caller has to check them: whatever they hold, each call ends and answers. With length 0 a
  * pointer may be null. A caller must not lend memory that is shorter than the length says, nor let memory that a call writes to overlap
@@ -23,7 +23,7 @@
 extern "C" {
 #endif
 
-#define ENGINE_VERSION "1.0.0"
+#define ENGINE_VERSION "1.1.0"
 
 /*
  * The most bytes of a book that is not refused, of its code and of the results of a scope: memory of such a length is never too short. The code of a
@@ -33,11 +33,20 @@ extern "C" {
 #define ENGINE_CODE_MAX 185051
 #define ENGINE_RESULTS_MAX 192
 
+/*
+ * The most variables that may be chosen for a table, and the most bytes of a row and of a table. Where k variables are chosen, a table has
+ * 2^k rows of one length, so ENGINE_ROW_MAX << k bytes of memory are enough for every scope.
+ */
+#define ENGINE_CHOSEN_MAX 12
+#define ENGINE_ROW_MAX 193
+#define ENGINE_TABLE_MAX 790528
+
 /* Bytes of stack that a call takes at most, rounded up from the deepest books and code that were found (docs/SEALING.md). */
 #define ENGINE_STACK_JUDGE 32768
 #define ENGINE_STACK_EVALUATE 327680
 #define ENGINE_STACK_COMPILE 262144
 #define ENGINE_STACK_RUN 786432
+#define ENGINE_STACK_TABULATE 400000
 
 /* Judges a book. Refusal 1 to 12, or 0 and, as the length, the number of scopes. */
 uint64_t engine_judge(const uint8_t *book, size_t book_len);
@@ -63,6 +72,17 @@ uint64_t engine_evaluate(const uint8_t *book, size_t book_len, size_t scope, con
 uint64_t engine_run(const uint8_t *code, size_t code_len, size_t scope, const uint8_t *inputs, size_t inputs_len, uint8_t *results,
                     size_t results_len);
 
+/*
+ * Tabulates a scope of a book: evaluates it for every choice of no and yes for the chosen variables, with a fixed list of inputs for the rest,
+ * and writes a row for each, from the first byte on: one byte of outcome, then the results as evaluating writes them, or as many zero bytes
+ * where there are no values. `chosen` holds the numbers of yes/no variables, one byte each, at most 12, in any order. The lowest-numbered one
+ * changes slowest, no comes before yes: the first row is all no, the last all yes; with none chosen there is one row. Refusal 1 to 12 (the
+ * book), 13 (no such scope), 14 (bad input), 18 (bad choice), 15 (the table is longer than the memory); or 0 and the length of the table. The
+ * bytes after it stay as they were. The functions for rows at the end find a row and take it apart.
+ */
+uint64_t engine_tabulate(const uint8_t *book, size_t book_len, size_t scope, const uint8_t *chosen, size_t chosen_len,
+                         const uint8_t *inputs, size_t inputs_len, uint8_t *table, size_t table_len);
+
 /* The refusals. */
 enum {
     ENGINE_NOT_REFUSED = 0,
@@ -80,15 +100,16 @@ enum {
     ENGINE_DEPENDENCY_CYCLE = 12,  /* a step that depends on itself */
     ENGINE_NO_SUCH_SCOPE = 13,     /* the scope asked for is absent */
     ENGINE_BAD_INPUT = 14,         /* the list of inputs */
-    ENGINE_BUFFER_TOO_SMALL = 15,  /* the memory lent for code or results */
+    ENGINE_BUFFER_TOO_SMALL = 15,  /* the memory lent for code, results or table */
     ENGINE_BAD_CODE = 16,          /* code that is not accepted */
-    ENGINE_STUCK = 17              /* code that is accepted and cannot go on: never code that engine_compile wrote */
+    ENGINE_STUCK = 17,             /* code that is accepted and cannot go on: never code that engine_compile wrote */
+    ENGINE_BAD_CHOICE = 18         /* more than 12 chosen; or one chosen twice, absent, not yes/no, or in the list of inputs */
 };
 
-/* The outcomes of an evaluation or a run that is not refused. */
+/* The outcomes of an evaluation or a run that is not refused, and of a row. */
 enum { ENGINE_VALUES = 0, ENGINE_EMPTY = 1, ENGINE_CONFLICT = 2, ENGINE_OUT_OF_RANGE = 3 };
 
-/* The number of the refusal, 1 to 17; 0 if nothing is refused. */
+/* The number of the refusal; 0 if nothing is refused. */
 static inline unsigned engine_refusal(uint64_t answer)
 {
     return (unsigned)(answer >> 56);
@@ -112,7 +133,7 @@ static inline unsigned engine_count(uint64_t answer)
     return (unsigned)(answer >> 32 & 0xffff);
 }
 
-/* The length of the results, at most 192; of the code; or the number of scopes, at most 32. */
+/* The length of the results, at most 192; of the code; of the table; or the number of scopes, at most 32. */
 static inline size_t engine_length(uint64_t answer)
 {
     return (size_t)(answer & 0xffffffff);
@@ -166,6 +187,31 @@ static inline size_t engine_read_value(const uint8_t *from, size_t len, struct e
     return 0;
 }
 
+/* The length of each row of a table, by tabulating's answer and the number of chosen variables; 0 if it was refused. */
+static inline size_t engine_row_length(uint64_t answer, size_t chosen_len)
+{
+    return chosen_len <= ENGINE_CHOSEN_MAX ? engine_length(answer) >> chosen_len : 0;
+}
+
+/*
+ * The number of the row, from 0, in which the chosen variables, the lowest-numbered first, are no (0) or yes (anything else). Row n begins at
+ * byte n times the length of a row: its outcome, and after that byte the results, which engine_read_value reads.
+ */
+static inline size_t engine_row_number(const uint8_t *yes, size_t chosen_len)
+{
+    size_t row = 0;
+    for (size_t i = 0; i < chosen_len; i++) {
+        row = row << 1 | (yes[i] != 0);
+    }
+    return row;
+}
+
+/* Whether a chosen variable is yes in a row: the variable by its place among the chosen, from 0, the lowest-numbered first. */
+static inline int engine_row_yes(size_t row, size_t chosen_len, size_t place)
+{
+    return place < chosen_len && chosen_len <= ENGINE_CHOSEN_MAX && (row >> (chosen_len - 1 - place) & 1) != 0;
+}
+
 /* The library wants pointers that are not null, even to no bytes: a call with a null pointer lends this byte, of which length 0 reads nothing. */
 static inline const uint8_t *engine_lent(const uint8_t *bytes)
 {
@@ -184,6 +230,9 @@ static inline uint8_t *engine_lent_to_write(uint8_t *bytes)
     engine_evaluate(engine_lent(book), book_len, scope, engine_lent(inputs), inputs_len, engine_lent_to_write(results), results_len)
 #define engine_run(code, code_len, scope, inputs, inputs_len, results, results_len) \
     engine_run(engine_lent(code), code_len, scope, engine_lent(inputs), inputs_len, engine_lent_to_write(results), results_len)
+#define engine_tabulate(book, book_len, scope, chosen, chosen_len, inputs, inputs_len, table, table_len) \
+    engine_tabulate(engine_lent(book), book_len, scope, engine_lent(chosen), chosen_len, engine_lent(inputs), inputs_len, \
+                    engine_lent_to_write(table), table_len)
 
 #ifdef __cplusplus
 }
