@@ -73,7 +73,7 @@ compile-placed bytes memory = produced-placed (compile bytes (length memory) .an
 pub tabulate-placed : (bytes : List ℕ) (i : ℕ) (chosen fixed memory : List ℕ)
     → Placed (producedNumbers (tabulate bytes i chosen fixed (length memory) .answer))
 tabulate-placed bytes i chosen fixed memory =
-    produced-placed (tabulate bytes i chosen fixed (length memory) .answer) (tabulated-most bytes i chosen fixed memory)
+    produced-placed (tabulate bytes i chosen fixed (length memory) .answer) (tabulated-most bytes i chosen fixed (length memory))
 
 pub evaluate-placed : (bytes : List ℕ) (i : ℕ) (list memory : List ℕ) → Placed (answerNumbers (evaluate bytes i list (length memory) .answer))
 evaluate-placed bytes i list memory =

@@ -1,21 +1,23 @@
 -- What the service answers, by the tests that it makes.
---     refused-book, refused-scope, refused-input, refused-choice, refused-room      1 to 12, 13, 14, 18, 15
---     fills                               what filling the rows asks for
---     tabulated                           good chosen variables and enough room: the table
+--     refused-book, refused-scope, refused-input, refused-choice      1 to 12, 13, 14, 18
+--     ordered-so, tabulated              good chosen variables: what writing the table asks for, and that it is the answer
+--     few-chosen, results-few, fills     what measuring and filling the rows ask for
+--     short-so, written-so               the table, or 15
 -- Assumes nothing.
 use Prim.Native.Nat.{ℕ, suc, _*_, _<_, _≤_}
 use mathlib.Core.Path.{_≡_, refl, sym, ap, subst, _∙_}
 use mathlib.Core.Bool.{Bool, true, false}
 use mathlib.Core.List.{List, [], _∷_, _++_, map}
 use native.Mathlib.Omega.{arith}
-use lib.ListN.{length, getD, drop, set, length-set}
+use lib.ListN.{length, getD, take, drop, set, length-set}
 use borrow.Author.Tests.{lt-ltb, le-ltb}
 use Rattle.answers.specs.Production.{refuse, fitting, onJudged}
-use Rattle.answers.proofs.Production.{produces-refusal, produces-all, produces-none}
+use Rattle.answers.proofs.Production.{same-production, produces-refusal, produces-all, produces-none}
 use Rattle.answers.specs.declared.Fault.{Fault}
 use Rattle.answers.specs.declared.Judged.{Judged}
 use Rattle.answers.specs.declared.Judged.the-variants as judged
 use Rattle.answers.specs.declared.Refusal.the-variants.{Book, NoSuchScope, BadInput, BufferTooSmall, BadChoice}
+use Rattle.answers.specs.declared.Produced.{Produced}
 use Rattle.answers.specs.declared.Produced.the-variants.{Written, Refused}
 use Rattle.laws.proofs.Booleans.{neither}
 use Rattle.calculus.specs.declared.Value.the-variants.{Truth}
@@ -45,11 +47,12 @@ use Rattle.tabulation.specs.Assignments.{power}
 use Rattle.tabulation.specs.Giving.{giving}
 use Rattle.tabulation.specs.Tabulate.{rowOf, row, table, asked, tabulate, Tabulates}
 use Rattle.tabulation.specs.Answers.{Tabulable}
-use Rattle.tabulation.proofs.Chosen.{fit, order-repeated, order-fit, chosen-count}
+use Rattle.tabulation.proofs.Chosen.{fit, order-repeated, order-fit, chosen-count, chosen-few}
 use Rattle.tabulation.proofs.Halves.{rows-same}
 use Rattle.tabulation.proofs.Rows.{row-run, table-length}
 use Rattle.rows.specs.Filling.{assign, cellRow, cellRows, FillsRows}
 use Rattle.rows.proofs.Cells.{givens-set}
+use Rattle.tabulator.specs.Service.{Ordered, WritesTable}
 
 -- chosen variables are judged by what is given alone
 unfit-same : (variables : List Variable) (gs hs : List Given) → ((v : ℕ) → getD gs v Absent ≡ getD hs v Absent) → (chosen : List ℕ)
@@ -135,47 +138,18 @@ module _ (bytes : List ℕ) (i : ℕ) (chosen fixed : List ℕ) where
           unfolding asked
           fitting-asked room = rw (lt-ltb i (length (scopesOf bytes)) (omega (arith, count)), taken .list, fits)
 
-          is-fitting : (room : ℕ) → tabulate bytes i chosen fixed room ≡ fitting (table bytes i chosen fixed) room
-          is-fitting room = is-asked room ∙ fitting-asked room
-
-          long : length (table bytes i chosen fixed) ≡ power (length chosen) * suc (resultLengthAt (scopesOf bytes) i)
-          unfolding resultLengthAt
-          long = table-length bytes i chosen fixed tabulable
-
-          pub refused-room : {memory : List ℕ} → length memory < power (length chosen) * suc (resultLengthAt (scopesOf bytes) i)
-              → Tabulates bytes i chosen fixed memory (Refused BufferTooSmall) memory
-          refused-room {memory} l = produces-none (table bytes i chosen fixed) (is-fitting (length memory)) (omega (arith, l, long))
-
-          order-open : any (unfit variables (givensFrom given 0 (length variables))) (inOrder chosen variables) ≡ false
-          order-open =
-              ap (λ (gs : List Given). any (unfit variables gs) (inOrder chosen variables)) (taken-givens taken)
-              ∙ order-fit variables (taken .givens) chosen fits
+          fits-cells : badChoice variables (givensFrom given 0 (length variables)) chosen ≡ false
+          fits-cells = ap (λ (gs : List Given). badChoice variables gs chosen) (taken-givens taken) ∙ fits
 
           module _ (room : length given ≡ 32) (few : length variables ≤ 32) where
-            pub fills : {index links orders memo part ordered : List ℕ} → World bytes index links orders → Known bytes memo
-                → ordered ≡ inOrder chosen variables → length part ≡ power (length chosen) * suc (resultLengthAt (scopesOf bytes) i)
-                → FillsRows bytes index links orders i ordered given memo part
-            fills {index} {links} {orders} {memo} {part} world known order size =
-                subst (λ (vs : List ℕ). FillsRows bytes index links orders i vs given memo part) (sym order)
-                (record {
-                  world = world;
-                  scope = omega (arith, here, count);
-                  givenRoom = room;
-                  givenKept = taken .kept;
-                  fitting = taken-fitting taken;
-                  known = known;
-                  distinct = order-repeated chosen variables;
-                  fit = order-open;
-                  size = size ∙ ap (λ (k : ℕ). power k * suc (resultLengthAt (scopesOf bytes) i)) (sym (chosen-count variables (taken .givens) chosen fits));
-                })
-
             -- a row by its cells
             same-row : (a : List Bool) → length a ≡ length (inOrder chosen variables)
                 → cellRow bytes i (assign given (inOrder chosen variables) a) ≡ row bytes i chosen fixed a
             unfolding cellRow enteredAt resultLengthAt
             same-row a e =
                 ap (λ (gs : List Given). rowOf (resultLengthAt (scopesOf bytes) i) (replyOf (runScope (scopesOf bytes) i gs)))
-                (assign-giving variables (givensFrom given 0 (length variables)) (length variables) (inOrder chosen variables) a given order-open (omega (arith, room, few))
+                (assign-giving variables (givensFrom given 0 (length variables)) (length variables) (inOrder chosen variables) a given
+                (order-fit variables (givensFrom given 0 (length variables)) chosen fits-cells) (omega (arith, room, few))
                 ∙ ap (λ (gs : List Given). giving gs (inOrder chosen variables) a) (taken-givens taken))
                 ∙ sym (row-run bytes n i ok here chosen fixed (taken .givens) (taken .list) fits a e)
 
@@ -184,10 +158,63 @@ module _ (bytes : List ℕ) (i : ℕ) (chosen fixed : List ℕ) where
             same-table =
                 rows-same (λ a. cellRow bytes i (assign given (inOrder chosen variables) a)) (row bytes i chosen fixed) (length (inOrder chosen variables)) same-row
 
-            pub tabulated : {memory part ordered : List ℕ} {size : ℕ} → ordered ≡ inOrder chosen variables → part ≡ cellRows bytes i ordered given
-                → size ≡ power (length chosen) * suc (resultLengthAt (scopesOf bytes) i) → size ≤ length memory
-                → Tabulates bytes i chosen fixed memory (Written size) (part ++ drop size memory)
-            tabulated {memory} {part} {ordered} {size} order same whole enough =
-                let is : part ≡ table bytes i chosen fixed = same ∙ ap (λ (vs : List ℕ). cellRows bytes i vs given) order ∙ same-table in
-                let size-is : size ≡ length (table bytes i chosen fixed) = whole ∙ sym long in
-                rw (is, size-is) (produces-all (table bytes i chosen fixed) (is-fitting (length memory)) (omega (arith, enough, size-is)))
+            cells-long : length (cellRows bytes i (inOrder chosen variables) given) ≡ power (length chosen) * suc (resultLengthAt (scopesOf bytes) i)
+            unfolding resultLengthAt
+            cells-long = ap length same-table ∙ table-length bytes i chosen fixed tabulable
+
+            pub ordered-so : {index links orders ordered : List ℕ} → World bytes index links orders → take (length chosen) ordered ≡ inOrder chosen variables
+                → Ordered bytes index links orders i chosen ordered given
+            ordered-so world order =
+                record {
+                  world = world;
+                  scope = omega (arith, here, count);
+                  givenRoom = room;
+                  givenKept = taken .kept;
+                  fitting = taken-fitting taken;
+                  good = fits-cells;
+                  order = order;
+                  long = cells-long;
+                }
+
+            pub tabulated : {memory after : List ℕ} {r : Produced} → WritesTable bytes i chosen given memory r after
+                → Tabulates bytes i chosen fixed memory r after
+            tabulated {memory} =
+                same-production
+                (is-asked (length memory) ∙ fitting-asked (length memory) ∙ ap (λ (t : List ℕ). fitting t (length memory)) (sym same-table))
+
+-- Writing the table
+
+module _ {bytes index links orders : List ℕ} {i : ℕ} {chosen ordered given : List ℕ} (o : Ordered bytes index links orders i chosen ordered given) where
+  abbrev own : List Variable
+  own = scopeAt (scopesOf bytes) i .variables
+
+  pub few-chosen : length chosen ≤ 12
+  few-chosen = chosen-few own (givensFrom given 0 (length own)) chosen (o .good)
+
+  pub fills : {order memo part : List ℕ} → Known bytes memo → order ≡ take (length chosen) (drop 0 ordered)
+      → length part ≡ power (length chosen) * suc (resultLengthAt (scopesOf bytes) i) → FillsRows bytes index links orders i order given memo part
+  fills {order} {memo} {part} known same size =
+      subst (λ (vs : List ℕ). FillsRows bytes index links orders i vs given memo part) (sym (same ∙ o .order))
+      (record {
+        world = o .world;
+        scope = o .scope;
+        givenRoom = o .givenRoom;
+        givenKept = o .givenKept;
+        fitting = o .fitting;
+        known = known;
+        distinct = order-repeated chosen own;
+        fit = order-fit own (givensFrom given 0 (length own)) chosen (o .good);
+        size = size ∙ ap (λ (k : ℕ). power k * suc (resultLengthAt (scopesOf bytes) i)) (sym (chosen-count own (givensFrom given 0 (length own)) chosen (o .good)));
+      })
+
+  pub short-so : {memory : List ℕ} → length memory < power (length chosen) * suc (resultLengthAt (scopesOf bytes) i)
+      → WritesTable bytes i chosen given memory (Refused BufferTooSmall) memory
+  short-so {memory} l = produces-none (cellRows bytes i (inOrder chosen own) given) refl (omega (arith, l, o .long))
+
+  pub written-so : {memory part order : List ℕ} {size : ℕ} → order ≡ take (length chosen) (drop 0 ordered) → part ≡ cellRows bytes i order given
+      → size ≡ power (length chosen) * suc (resultLengthAt (scopesOf bytes) i) → size ≤ length memory
+      → WritesTable bytes i chosen given memory (Written size) (part ++ drop size memory)
+  written-so {memory} {part} {order} {size} same filled whole enough =
+      let is : part ≡ cellRows bytes i (inOrder chosen own) given = filled ∙ ap (λ (vs : List ℕ). cellRows bytes i vs given) (same ∙ o .order) in
+      let size-is : size ≡ length (cellRows bytes i (inOrder chosen own) given) = whole ∙ sym (o .long) in
+      rw (is, size-is) (produces-all (cellRows bytes i (inOrder chosen own) given) refl (omega (arith, enough, size-is)))

@@ -8,10 +8,49 @@ use loaded::prepare;
 use results::result_length;
 use rows::fill_rows;
 use rows::table_length;
+use slices::part_of;
 ghost use Rattle.tabulation.specs.Tabulate.{Tabulates};
-ghost use Rattle.tabulator.specs.Service.{Loaded};
+ghost use Rattle.tabulator.specs.Service.{Loaded, Ordered, WritesTable};
 
-// Tabulates scope i of a loaded book of n scopes. The whole table has room before a byte of it is written.
+// Writes the table of scope i of a loaded book for the chosen variables, which stand in number order in the first of 32 places. The whole table
+// has room before a byte of it is written.
+fn write_table(
+    book: &[u8],
+    index: &[u16],
+    links: &[u8],
+    orders: &[u8],
+    i: usize,
+    chosen: &[u8],
+    ordered: &[u8],
+    given: &mut [u64],
+    table: &mut [u8],
+) -> Produced
+    requires { ⌜ Ordered (now book) (now index) (now links) (now orders) i (now chosen) (now ordered) (now given) ⌝ }
+    ensures { λ r.
+        ⌜ WritesTable (now (book .entry)) i (now (chosen .entry)) (now (given .entry)) (now (table .entry)) r (now (table .exit)) ⌝ }
+{
+    let k = chosen.len();
+    let length = table_length(k, result_length(book, index, i));
+    if table.len() < length {
+        return Produced::Refused(Refusal::BufferTooSmall);
+    }
+    let order = part_of(ordered, 0, k);
+    let mut memo = [0u64; 1056];
+    fill_rows(
+        book,
+        index,
+        links,
+        orders,
+        i,
+        order,
+        given,
+        &mut memo,
+        &mut table[..length],
+    );
+    Produced::Written(length)
+}
+
+// Tabulates scope i of a loaded book of n scopes.
 fn tabulate_loaded(
     book: &[u8],
     index: &[u16],
@@ -38,24 +77,17 @@ fn tabulate_loaded(
     if !choose(book, index, i, &given, chosen, &mut ordered) {
         return Produced::Refused(Refusal::BadChoice);
     }
-    let k = chosen.len();
-    let length = table_length(k, result_length(book, index, i));
-    if table.len() < length {
-        return Produced::Refused(Refusal::BufferTooSmall);
-    }
-    let mut memo = [0u64; 1056];
-    fill_rows(
+    write_table(
         book,
         index,
         links,
         orders,
         i,
-        &ordered[..k],
+        chosen,
+        &ordered,
         &mut given,
-        &mut memo,
-        &mut table[..length],
-    );
-    Produced::Written(length)
+        table,
+    )
 }
 
 // Tabulates a scope of a book: a row for each choice of no and yes for the chosen variables, with a fixed input list for the rest. The length
