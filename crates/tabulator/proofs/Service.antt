@@ -207,9 +207,9 @@ module _ {bytes index links orders : List ℕ} {i : ℕ} {chosen ordered given :
         size = size ∙ ap (λ (k : ℕ). power k * suc (resultLengthAt (scopesOf bytes) i)) (sym (chosen-count own (givensFrom given 0 (length own)) chosen (o .good)));
       })
 
-  pub short-so : {memory : List ℕ} → length memory < power (length chosen) * suc (resultLengthAt (scopesOf bytes) i)
+  pub short-so : {memory : List ℕ} {size : ℕ} → size ≡ power (length chosen) * suc (resultLengthAt (scopesOf bytes) i) → length memory < size
       → WritesTable bytes i chosen given memory (Refused BufferTooSmall) memory
-  short-so {memory} l = produces-none (cellRows bytes i (inOrder chosen own) given) refl (omega (arith, l, o .long))
+  short-so {memory} whole l = produces-none (cellRows bytes i (inOrder chosen own) given) refl (omega (arith, whole, l, o .long))
 
   pub written-so : {memory part order : List ℕ} {size : ℕ} → order ≡ take (length chosen) (drop 0 ordered) → part ≡ cellRows bytes i order given
       → size ≡ power (length chosen) * suc (resultLengthAt (scopesOf bytes) i) → size ≤ length memory

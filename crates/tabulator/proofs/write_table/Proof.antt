@@ -16,7 +16,7 @@ table-length-requires : tie.Need-table-length-requires
 table-length-requires c κs = (omega (arith, few-chosen (c .before .before .before .before .before .before .before .before .before .pre)), rw (c .result-length .ensures) (results-few _ _ (c .before .before .before .before .before .before .before .before .before .pre .world .sound .variables (c .before .before .before .before .before .before .before .before .before .args .i))))
 
 returns : tie.Need-returns
-returns c = short-so (c .before .before .before .before .before .before .before .before .before .before .before .pre) (rw (← c .before .before .result-length .ensures, ← c .before .table-length .ensures) (c .if1 .taken))
+returns c = short-so (c .before .before .before .before .before .before .before .before .before .before .before .pre) (sized _ (c .before .table-length .ensures) (c .before .before .result-length .ensures)) (c .if1 .taken)
 
 part-of-requires : tie.Need-part-of-requires
 part-of-requires c κs = search needs
