@@ -1,6 +1,6 @@
 -- The numbers of every answer have room in one number of 64 bits, whatever the bytes.
 --     judge-placed       a book has 32 scopes at most
---     compile-placed, tabulate-placed     its code 185,051 bytes, a table 790,528
+--     compile-placed, tabulate-placed     its code 185,051 bytes, a table 643,072
 --     evaluate-placed, run-placed    a count is 4,096 at most, and the results are 192 bytes long at most
 -- Assumes nothing.
 use Prim.Native.Nat.{ℕ, _<_, _≤_}
@@ -54,7 +54,7 @@ answer-placed (answer.Values n l) h k = record { refusal = omega arith; outcome 
 answer-placed (answer.Ended c n) h k = record { refusal = omega arith; outcome = cause-small c; count = omega arith; length = omega arith }
 answer-placed (answer.Refused r) h k = refused-placed r
 
-produced-placed : (p : Produced) → producedNumbers p .length ≤ 790528 → Placed (producedNumbers p)
+produced-placed : (p : Produced) → producedNumbers p .length ≤ 643072 → Placed (producedNumbers p)
 produced-placed (produced.Written n) h = record { refusal = omega arith; outcome = omega arith; count = omega arith; length = omega arith }
 produced-placed (produced.Refused r) h = refused-placed r
 

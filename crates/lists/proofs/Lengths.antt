@@ -1,5 +1,5 @@
 -- Laws of the results' length.
---     length-most              at most 6 bytes a variable
+--     size-most, length-most   at most 6 bytes a variable
 --     start, turn, stop        counting: at first, one variable more, behind the last
 --     few                      what is counted stays small
 --     results-length           values of the variables' types have it
@@ -24,7 +24,7 @@ use Rattle.book.specs.declared.Variable.{Variable}
 use Rattle.lists.specs.Results.{resultSize, resultLength, resultRecord, resultsFrom, results}
 use Rattle.lists.specs.Writing.{valueType}
 
-size-most : (t : ValueType) → resultSize t ≤ 6
+pub size-most : (t : ValueType) → resultSize t ≤ 6
 size-most YesNo = omega arith
 size-most Numeric = omega arith
 

@@ -7,7 +7,7 @@
 --     tabulated-unchanged    of anything but a length: not one byte is written
 --     tabulated-size         the memory keeps its length
 --     tabulated-length       the length in the answer is that of the bytes written
---     tabulated-most         and is 790,528 at most
+--     tabulated-most         and is 643,072 at most
 -- Assumes nothing.
 use Prim.Native.Nat.{ℕ, suc, _*_, _≤_}
 use mathlib.Core.Path.{_≡_, refl, sym, ap, _∙_}
@@ -96,7 +96,7 @@ module _ (bytes : List ℕ) (i : ℕ) (chosen fixed : List ℕ) (room : ℕ) whe
   pub tabulated-length : producedNumbers (tabulate bytes i chosen fixed room .answer) .length ≡ length (tabulate bytes i chosen fixed room .written)
   tabulated-length = within-length tabulated-within
 
-  most : (p : Production) → Replied bytes i chosen fixed room p → producedNumbers (p .answer) .length ≤ 790528
+  most : (p : Production) → Replied bytes i chosen fixed room p → producedNumbers (p .answer) .length ≤ 643072
   most p (Replied.faulty f h) = omega arith
   most p (Replied.absent n h l) = omega arith
   most p (Replied.malformed a h) = omega arith
@@ -104,7 +104,7 @@ module _ (bytes : List ℕ) (i : ℕ) (chosen fixed : List ℕ) (room : ℕ) whe
   most p (Replied.short c l) = omega arith
   most p (Replied.whole c l) = table-most bytes i chosen fixed c
 
-  pub tabulated-most : producedNumbers (tabulate bytes i chosen fixed room .answer) .length ≤ 790528
+  pub tabulated-most : producedNumbers (tabulate bytes i chosen fixed room .answer) .length ≤ 643072
   tabulated-most = most (tabulate bytes i chosen fixed room) (tabulated-replied bytes i chosen fixed room)
 
 module _ (bytes : List ℕ) (i : ℕ) (chosen fixed memory : List ℕ) where

@@ -8,14 +8,14 @@
 --     row-at           the n-th row is that of the n-th assignment
 --     choice-row, choice-in    the row of an assignment stands at its binary number, also with bytes behind the table
 --     choice-answers   it holds evaluation's answer
---     table-most       a table has 790,528 bytes at most
+--     table-most       a table has 643,072 bytes at most
 -- Assumes nothing.
 use Prim.Native.Nat.{ℕ, zero, suc, _+_, _-_, _*_, _≤_, _<_}
 use mathlib.Core.Path.{_≡_, refl, sym, ap, subst, _∙_}
 use mathlib.Core.Bool.{Bool, false}
 use mathlib.Core.List.{List, [], _∷_, _++_, append-nil}
 use native.Mathlib.Omega.{arith}
-use native.Mathlib.Nat.{suc-mul, mul-le-mul, mul-le-mul-right}
+use native.Mathlib.Nat.{suc-mul, mul-le-mul-right}
 use lib.ListN.{length, getD, take, drop, replicate, length-append, length-drop, length-replicate}
 use lib.Seq.{take-at, take-append-le, drop-append-le, drop-append-add}
 use borrow.Author.Tests.{lt-ltb, le-leb}
@@ -34,7 +34,6 @@ use Rattle.acceptance.proofs.Acceptance.{accepted-count}
 use Rattle.acceptance.proofs.Limits.{accepted-within}
 use Rattle.lists.specs.Inputs.{good, inputs}
 use Rattle.lists.specs.Results.{resultLength, results}
-use Rattle.lists.proofs.Lengths.{length-most}
 use Rattle.evaluation.specs.Run.{Entered, values, ended, runScope}
 use Rattle.evaluation.specs.Evaluate.{Reply, replyOf, asked, onJudged, evaluate}
 use Rattle.evaluation.proofs.Types.{inputs-fitting, values-length}
@@ -46,6 +45,7 @@ use Rattle.tabulation.specs.Answers.{Tabulable, Rowed}
 use Rattle.tabulation.proofs.Chosen.{order-repeated, order-fit, chosen-count, chosen-few}
 use Rattle.tabulation.proofs.Assignments.{assignments-count, assignment-at, assignment-length, binary-below}
 use Rattle.tabulation.proofs.Giving.{assigned-inputs}
+use Rattle.tabulation.proofs.Widths.{results-narrow, rows-most}
 
 -- The row of a reply
 
@@ -137,13 +137,6 @@ module _ (f : List Bool → List ℕ) (size : ℕ) where
 
 -- The table
 
-power-grows : (k m : ℕ) → k ≤ m → power k ≤ power m
-unfolding power
-power-grows zero zero l = omega arith
-power-grows zero (suc m) l = let r = power-grows zero m (omega arith) in omega arith
-power-grows (suc k) zero l = absurd (omega arith)
-power-grows (suc k) (suc m) l = let r = power-grows k m (omega arith) in omega arith
-
 module _ (bytes : List ℕ) (i : ℕ) (chosen fixed : List ℕ) (c : Tabulable bytes i chosen fixed) where
   abbrev scopeVariables : List Variable
   scopeVariables = scopeAt (scopesOf bytes) i .variables
@@ -206,11 +199,10 @@ module _ (bytes : List ℕ) (i : ℕ) (chosen fixed : List ℕ) (c : Tabulable b
   choice-answers a e =
       row-answers bytes (c .asked .scopes) i (c .asked .accepted) (c .asked .present) chosen fixed (c .given) (c .read) (c .fit) a (e ∙ sym as-many)
 
-  pub table-most : length (table bytes i chosen fixed) ≤ 790528
-  unfolding power
+  pub table-most : length (table bytes i chosen fixed) ≤ 643072
   table-most =
       let few = accepted-within bytes (c .asked .scopes) (c .asked .accepted) i .variables in
-      let narrow : suc (resultLength scopeVariables) ≤ 193 = omega (arith, few, length-most scopeVariables) in
-      let low : power (length chosen) ≤ power 12 = power-grows (length chosen) 12 (chosen-few scopeVariables (c .given) chosen (c .fit)) in
-      let most : power (length chosen) * suc (resultLength scopeVariables) ≤ power 12 * 193 = mul-le-mul low narrow in
+      let dozen = chosen-few scopeVariables (c .given) chosen (c .fit) in
+      let narrow = results-narrow scopeVariables (c .given) chosen (c .fit) in
+      let most = rows-most (12 - length chosen) (length chosen) (suc (resultLength scopeVariables)) (omega arith) (omega arith) in
       omega (arith, table-length, most)
