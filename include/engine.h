@@ -34,19 +34,20 @@ extern "C" {
 #define ENGINE_RESULTS_MAX 192
 
 /*
- * The most variables that may be chosen for a table, and the most bytes of a row and of a table. Where k variables are chosen, a table has
- * 2^k rows of one length, so ENGINE_ROW_MAX << k bytes of memory are enough for every scope.
+ * The most variables that may be chosen for a table, and the most bytes of a row and of a table (table-most in
+ * crates/tabulation/proofs/Rows.antt). Where k variables are chosen, a table has 2^k rows of one length, so ENGINE_ROW_MAX << k bytes of memory
+ * are enough for every scope; ENGINE_TABLE_MAX is less than that for 12, since chosen variables are yes/no, which are short.
  */
 #define ENGINE_CHOSEN_MAX 12
 #define ENGINE_ROW_MAX 193
-#define ENGINE_TABLE_MAX 790528
+#define ENGINE_TABLE_MAX 643072
 
 /* Bytes of stack that a call takes at most, rounded up from the deepest books and code that were found (docs/SEALING.md). */
 #define ENGINE_STACK_JUDGE 32768
 #define ENGINE_STACK_EVALUATE 327680
 #define ENGINE_STACK_COMPILE 262144
 #define ENGINE_STACK_RUN 786432
-#define ENGINE_STACK_TABULATE 400000
+#define ENGINE_STACK_TABULATE 327680
 
 /* Judges a book. Refusal 1 to 12, or 0 and, as the length, the number of scopes. */
 uint64_t engine_judge(const uint8_t *book, size_t book_len);
