@@ -12,7 +12,7 @@ import sys
 import textwrap
 
 SVG = "docs/layers.svg"
-SERVICES = ["judge", "evaluator", "compiler", "runner", "engine"]
+SERVICES = ["judge", "evaluator", "compiler", "runner", "tabulator", "engine"]
 TINTS = ["#e8f0f8", "#eef4e4", "#fbf1df", "#f6e9ec", "#ece9f6", "#e4f2f1", "#f4f0e6", "#eceff1", "#f3ecf4"]
 TITLES, LEFT, RIGHT, ROW, BOX, GAP, BAND = 26, 226, 26, 66, 32, 22, 12
 
