@@ -9,4 +9,5 @@ pub mod Readiness
 pub mod Types
 pub mod Meaning
 pub mod Replies
+pub mod Cases
 pub mod Answers

@@ -5,30 +5,27 @@
 -- Assumes nothing.
 use Prim.Native.Nat.{ℕ, _*_, _<_, _≤_}
 use mathlib.Core.Path.{_≡_, sym, ap, _∙_}
-use mathlib.Core.List.{List, reverse}
+use mathlib.Core.List.{List}
 use native.Mathlib.Omega.{arith}
 use lib.ListN.{length, replicate}
-use borrow.Author.Tests.{lt-ltb, le-ltb, le-leb, lt-leb}
 use Rattle.calculus.specs.declared.Given.{Given}
 use Rattle.book.specs.Decode.{scopesOf}
 use Rattle.book.specs.References.{scopeAt}
-use Rattle.book.specs.Scopes.{blocks}
 use Rattle.book.specs.Judge.{judge}
 use Rattle.answers.specs.declared.Fault.{Fault}
-use Rattle.answers.specs.declared.Judged.{Judged}
 use Rattle.answers.specs.declared.Judged.the-variants as judged
 use Rattle.acceptance.proofs.Acceptance.{accepted-count}
 use Rattle.lists.specs.Inputs.{bad, inputs}
 use Rattle.lists.specs.Reading.{Taken}
-use Rattle.lists.specs.Results.{resultLength}
 use Rattle.lists.specs.Writing.{resultLengthAt}
 use Rattle.links.specs.Links.{Blanks, AllLinked}
-use Rattle.evaluation.specs.Run.{enter}
-use Rattle.evaluation.specs.Evaluate.{replyOf, evaluate, asked, refuse, onJudged}
+use Rattle.evaluation.specs.Run.{runScope}
+use Rattle.evaluation.specs.Evaluate.{replyOf, evaluate}
 use Rattle.answers.specs.declared.Refusal.the-variants.{Book, NoSuchScope, BadInput, BufferTooSmall}
 use Rattle.answers.specs.declared.Answer.{Answer}
 use Rattle.answers.specs.declared.Answer.the-variants.{Refused}
 use Rattle.evaluation.proofs.Replies.{same-reply, refuses}
+use Rattle.evaluation.proofs.Cases.{evaluate-faulty, evaluate-absent, evaluate-malformed, evaluate-short, evaluate-run}
 use Rattle.scopes.specs.Steps.{givensFrom, enteredAt}
 use Rattle.scopes.specs.Known.{Known}
 use Rattle.loaded.specs.Loaded.{RunsLoaded, Replied}
@@ -38,50 +35,31 @@ use Rattle.evaluator.specs.Service.{Asked, Evaluated}
 
 pub refused-book : (bytes : List ℕ) (i : ℕ) (list : List ℕ) {memory : List ℕ} {f : Fault} → judge bytes ≡ judged.Refused f
     → Evaluated bytes i list memory (Refused (Book f)) memory
-unfolding evaluate
-refused-book bytes i list {memory} {f} e = refuses (Book f) (ap (λ (j : Judged). onJudged j (asked (scopesOf bytes) i list (length memory))) e)
+refused-book bytes i list {memory} {f} e = refuses (Book f) (evaluate-faulty bytes i list (length memory) f e)
 
 module _ (bytes : List ℕ) (n i : ℕ) (ok : judge bytes ≡ judged.Accepted n) where
-  is-asked : (list : List ℕ) (room : ℕ) → evaluate bytes i list room ≡ asked (scopesOf bytes) i list room
-  unfolding evaluate
-  is-asked list room = ap (λ (j : Judged). onJudged j (asked (scopesOf bytes) i list room)) ok
-
-  count : n ≡ length (scopesOf bytes)
-  count = accepted-count bytes n ok
-
   pub refused-scope : (list : List ℕ) {memory : List ℕ} → n ≤ i → Evaluated bytes i list memory (Refused NoSuchScope) memory
-  unfolding asked
-  refused-scope list {memory} l = refuses NoSuchScope (is-asked list (length memory) ∙ none)
-    where
-      none : asked (scopesOf bytes) i list (length memory) ≡ refuse NoSuchScope
-      none = rw (le-ltb i (length (scopesOf bytes)) (omega (arith, count)))
+  refused-scope list {memory} l = refuses NoSuchScope (evaluate-absent bytes i list (length memory) n ok l)
 
   module _ (here : i < n) where
     pub refused-input : (list : List ℕ) {memory : List ℕ} → inputs (scopeAt (scopesOf bytes) i .variables) list ≡ bad → Evaluated bytes i list memory (Refused BadInput) memory
-    unfolding asked
-    refused-input list {memory} e = refuses BadInput (is-asked list (length memory) ∙ none)
-      where
-        none : asked (scopesOf bytes) i list (length memory) ≡ refuse BadInput
-        none = rw (lt-ltb i (length (scopesOf bytes)) (omega (arith, count)), e)
+    refused-input list {memory} e = refuses BadInput (evaluate-malformed bytes i list (length memory) n ok here e)
 
     module _ {list given : List ℕ} (taken : Taken (scopeAt (scopesOf bytes) i .variables) list given) where
       pub refused-room : {memory : List ℕ} → length memory < resultLengthAt (scopesOf bytes) i → Evaluated bytes i list memory (Refused BufferTooSmall) memory
-      unfolding resultLengthAt asked
-      refused-room {memory} l = refuses BufferTooSmall (is-asked list (length memory) ∙ none)
-        where
-          none : asked (scopesOf bytes) i list (length memory) ≡ refuse BufferTooSmall
-          none = rw (lt-ltb i (length (scopesOf bytes)) (omega (arith, count)), taken .list, lt-leb (resultLength (scopeAt (scopesOf bytes) i .variables)) (length memory) l)
+      unfolding resultLengthAt
+      refused-room {memory} l =
+          refuses BufferTooSmall (evaluate-short bytes i list (length memory) n ok here (taken .givens) (taken .list) l)
 
       pub evaluated : {memory after : List ℕ} {r : Answer} → resultLengthAt (scopesOf bytes) i ≤ length memory → Replied bytes i given memory r after
           → Evaluated bytes i list memory r after
-      unfolding resultLengthAt enteredAt asked
+      unfolding resultLengthAt enteredAt
       evaluated {memory} {after} {r} l q =
-          let e : evaluate bytes i list (length memory) ≡ replyOf (enter (scopesOf bytes) (reverse (blocks (scopesOf bytes))) i (givensFrom given 0 (length (scopeAt (scopesOf bytes) i .variables)))) =
-          is-asked list (length memory) ∙ there ∙ ap (λ (gs : List Given). replyOf (enter (scopesOf bytes) (reverse (blocks (scopesOf bytes))) i gs)) (sym (taken-givens taken)) in
+          let gs = givensFrom given 0 (length (scopeAt (scopesOf bytes) i .variables)) in
+          let e : evaluate bytes i list (length memory) ≡ replyOf (runScope (scopesOf bytes) i gs) =
+          evaluate-run bytes i list (length memory) n ok here (taken .givens) (taken .list) l
+          ∙ ap (λ (xs : List Given). replyOf (runScope (scopesOf bytes) i xs)) (sym (taken-givens taken)) in
           same-reply e q
-        where
-          there : asked (scopesOf bytes) i list (length memory) ≡ replyOf (enter (scopesOf bytes) (reverse (blocks (scopesOf bytes))) i (taken .givens))
-          there = rw (lt-ltb i (length (scopesOf bytes)) (omega (arith, count)), taken .list, le-leb (resultLength (scopeAt (scopesOf bytes) i .variables)) (length memory) l)
 
 module _ {bytes index orders : List ℕ} {n i : ℕ} {given memory : List ℕ} (a : Asked bytes index orders n i given memory) where
   pub blank-links : (size : ℕ) → n * 834 ≤ size → Blanks bytes index n (replicate size 255)

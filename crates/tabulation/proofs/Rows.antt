@@ -18,7 +18,6 @@ use native.Mathlib.Omega.{arith}
 use native.Mathlib.Nat.{suc-mul, mul-le-mul-right}
 use lib.ListN.{length, getD, take, drop, replicate, length-append, length-drop, length-replicate}
 use lib.Seq.{take-at, take-append-le, drop-append-le, drop-append-add}
-use borrow.Author.Tests.{lt-ltb, le-leb}
 use Rattle.calculus.specs.declared.Given.{Given}
 use Rattle.book.specs.Sharing.{gathered}
 use Rattle.book.specs.Decode.{scopesOf}
@@ -27,16 +26,15 @@ use Rattle.book.specs.Judge.{judge}
 use Rattle.book.specs.declared.Variable.{Variable}
 use Rattle.answers.specs.Numbers.{causeNumber}
 use Rattle.answers.specs.declared.Cause.{Cause}
-use Rattle.answers.specs.declared.Judged.{Judged}
 use Rattle.answers.specs.declared.Judged.the-variants as judged
 use Rattle.answers.specs.declared.Answer.the-variants.{Values}
-use Rattle.acceptance.proofs.Acceptance.{accepted-count}
 use Rattle.acceptance.proofs.Limits.{accepted-within}
 use Rattle.lists.specs.Inputs.{good, inputs}
 use Rattle.lists.specs.Results.{resultLength, results}
 use Rattle.evaluation.specs.Run.{Entered, values, ended, runScope}
-use Rattle.evaluation.specs.Evaluate.{Reply, replyOf, asked, onJudged, evaluate}
+use Rattle.evaluation.specs.Evaluate.{Reply, replyOf, evaluate}
 use Rattle.evaluation.proofs.Types.{inputs-fitting, values-length}
+use Rattle.evaluation.proofs.Cases.{evaluate-run}
 use Rattle.tabulation.specs.Chosen.{badChoice, inOrder}
 use Rattle.tabulation.specs.Assignments.{assignments, power, binary, assigned}
 use Rattle.tabulation.specs.Giving.{giving}
@@ -72,14 +70,6 @@ module _ (bytes : List ℕ) (n i : ℕ) (ok : judge bytes ≡ judged.Accepted n)
   abbrev variables : List Variable
   variables = scopeAt (scopesOf bytes) i .variables
 
-  -- evaluating with a good list and room for the results
-  evaluate-run : (list : List ℕ) (room : ℕ) (gs : List Given) → inputs variables list ≡ good gs → resultLength variables ≤ room
-      → evaluate bytes i list room ≡ replyOf (runScope (scopesOf bytes) i gs)
-  unfolding evaluate asked
-  evaluate-run list room gs read enough =
-      ap (λ (j : Judged). onJudged j (asked (scopesOf bytes) i list room)) ok
-      ∙ rw (lt-ltb i (length (scopesOf bytes)) (omega (arith, here, accepted-count bytes n ok)), read, le-leb (resultLength variables) room enough)
-
   module _ (chosen fixed : List ℕ) (gs : List Given) (read : inputs variables fixed ≡ good gs) (fit : badChoice variables gs chosen ≡ false) where
     module _ (a : List Bool) (long : length a ≡ length (inOrder chosen variables)) where
       row-inputs : inputs variables (fixed ++ assigned (inOrder chosen variables) a) ≡ good (giving gs (inOrder chosen variables) a)
@@ -88,7 +78,7 @@ module _ (bytes : List ℕ) (n i : ℕ) (ok : judge bytes ≡ judged.Accepted n)
       pub row-evaluated : evaluate bytes i (fixed ++ assigned (inOrder chosen variables) a) (resultLength variables)
           ≡ replyOf (runScope (scopesOf bytes) i (giving gs (inOrder chosen variables) a))
       row-evaluated =
-          evaluate-run (fixed ++ assigned (inOrder chosen variables) a) (resultLength variables) (giving gs (inOrder chosen variables) a)
+          evaluate-run bytes i (fixed ++ assigned (inOrder chosen variables) a) (resultLength variables) n ok here (giving gs (inOrder chosen variables) a)
           row-inputs
           (omega arith)
 
