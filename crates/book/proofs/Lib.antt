@@ -1,6 +1,7 @@
 pub mod Searches
 pub mod Naming
 pub mod Namings
+pub mod Gathered
 pub mod Terms
 pub mod Same
 pub mod Sums

@@ -9,7 +9,7 @@
 use Prim.Native.Nat.{ℕ, _<_, _≤_, _+_}
 use mathlib.Core.Path.{_≡_, refl, sym, _∙_}
 use mathlib.Core.Bool.{Bool, true, false, _||_, or-true, or-false}
-use mathlib.Core.List.{List, [], _∷_, _++_, append-assoc, append-nil}
+use mathlib.Core.List.{List, [], _∷_, _++_, append-nil}
 use mathlib.Core.Logic.{⊎-elim}
 use native.Mathlib.Omega.{arith}
 use native.Mathlib.Numerals.{add-one}
@@ -23,6 +23,7 @@ use Rattle.order.proofs.Matrix.{marked-true, marked-false, marked-set, zero-mar
 use Rattle.book.specs.Lists.{any}
 use Rattle.book.specs.Sharing.{unless255, gathered, repeats}
 use Rattle.book.proofs.Searches.{any-none}
+use Rattle.book.proofs.Gathered.{gathered-append}
 use Rattle.sharing.specs.Marks.{markAll, meets, Bytes, none, also, Marking}
 
 bytes-then : {xs ys : List ℕ} → Bytes xs → Bytes ys → Bytes (xs ++ ys)
@@ -85,11 +86,6 @@ marked-unless x {xs} a b = rw (← unless-then x xs) (marked-then a b)
 unfoldable pub passed : {A : Type 0} → (A → List ℕ) → ℕ → List A → List ℕ
 passed f n xs = gathered f (take n xs)
 
-gathered-snoc : {A : Type 0} (f : A → List ℕ) (xs : List A) (x : A) → gathered f (xs ++ (x ∷ [])) ≡ gathered f xs ++ f x
-unfolding gathered
-gathered-snoc f [] x = append-nil (f x)
-gathered-snoc f (y ∷ ys) x = rw (gathered-snoc f ys x) (sym (append-assoc (f y) (gathered f ys) (f x)))
-
 module _ {A : Type 0} (f : A → List ℕ) (xs : List A) {marks : List ℕ} {twice : Bool} where
   pub passed-start : Marking (passed f 0 xs) marks twice twice marks
   unfolding passed gathered
@@ -99,8 +95,9 @@ module _ {A : Type 0} (f : A → List ℕ) (xs : List A) {marks : List ℕ} {twi
     pub passed-more :
         {after : List ℕ} {r : Bool} (d : A) → n < length xs → Marking (f (getD xs n d)) between found r after
         → Marking (passed f (n + 1) xs) marks twice r after
-    unfolding passed
-    passed-more d h m = rw (add-one n, take-suc xs n d h, gathered-snoc f (take n xs) (getD xs n d)) (marked-then so-far m)
+    unfolding passed gathered
+    passed-more d h m =
+        rw (add-one n, take-suc xs n d h, gathered-append f (take n xs) (getD xs n d ∷ []), append-nil (f (getD xs n d))) (marked-then so-far m)
 
     pub passed-end : length xs ≤ n → Marking (gathered f xs) marks twice found between
     unfolding passed

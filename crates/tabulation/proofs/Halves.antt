@@ -5,15 +5,11 @@
 use Prim.Native.Nat.{ℕ, zero, suc}
 use mathlib.Core.Path.{_≡_, refl, sym, ap, _∙_}
 use mathlib.Core.Bool.{Bool, true, false}
-use mathlib.Core.List.{List, [], _∷_, _++_, map, append-assoc}
+use mathlib.Core.List.{List, [], _∷_, _++_, map}
 use lib.ListN.{length}
 use Rattle.tabulation.specs.Assignments.{assignments}
 use Rattle.book.specs.Sharing.{gathered}
-
-rows-append : (f : List Bool → List ℕ) (xs ys : List (List Bool)) → gathered f (xs ++ ys) ≡ gathered f xs ++ gathered f ys
-unfolding gathered
-rows-append f [] ys = refl
-rows-append f (a ∷ xs) ys = ap (λ (l : List ℕ). f a ++ l) (rows-append f xs ys) ∙ sym (append-assoc (f a) (gathered f xs) (gathered f ys))
+use Rattle.book.proofs.Gathered.{gathered-append}
 
 rows-map : (f : List Bool → List ℕ) (g : List Bool → List Bool) (xs : List (List Bool)) → gathered f (map g xs) ≡ gathered (λ a. f (g a)) xs
 unfolding gathered
@@ -24,7 +20,7 @@ pub rows-halves : (f : List Bool → List ℕ) (k : ℕ)
     → gathered f (assignments (suc k)) ≡ gathered (λ a. f (false ∷ a)) (assignments k) ++ gathered (λ a. f (true ∷ a)) (assignments k)
 unfolding assignments
 rows-halves f k =
-    rows-append f (map (λ a. false ∷ a) (assignments k)) (map (λ a. true ∷ a) (assignments k))
+    gathered-append f (map (λ a. false ∷ a) (assignments k)) (map (λ a. true ∷ a) (assignments k))
     ∙ rw (rows-map f (λ a. false ∷ a) (assignments k), rows-map f (λ a. true ∷ a) (assignments k))
 
 pub rows-same : (f g : List Bool → List ℕ) (k : ℕ) → ((a : List Bool) → length a ≡ k → f a ≡ g a) → gathered f (assignments k) ≡ gathered g (assignments k)
