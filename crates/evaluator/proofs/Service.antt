@@ -63,7 +63,7 @@ module _ (bytes : List ℕ) (n i : ℕ) (ok : judge bytes ≡ judged.Accepted n)
 
 module _ {bytes index orders : List ℕ} {n i : ℕ} {given memory : List ℕ} (a : Asked bytes index orders n i given memory) where
   pub blank-links : (size : ℕ) → n * 834 ≤ size → Blanks bytes index n (replicate size 255)
-  blank-links = preparing.blank-links (a .tabled .accepted) (a .tabled .laid)
+  blank-links = preparing.blank-links (a .tabled .accepted) (a .tabled .laid) n
 
   pub blank-memo : (size : ℕ) → n * 33 ≤ size → Known bytes (replicate size 0)
   blank-memo = preparing.blank-memo (a .tabled .accepted) (a .tabled .laid)
@@ -75,11 +75,13 @@ module _ {bytes index orders : List ℕ} {n i : ℕ} {given memory : List ℕ} (
   pub runs-loaded : {links memo : List ℕ} → AllLinked bytes n links → Known bytes memo → RunsLoaded bytes index links orders i given memo memory
   runs-loaded linked known =
       record {
-        world = preparing.world (a .tabled .accepted) (a .tabled .laid) linked (a .tabled .stepOrders);
-        scope = omega (arith, a .scope, accepted-count bytes n (a .tabled .accepted));
-        givenRoom = a .givenRoom;
-        givenKept = a .givenKept;
-        fitting = a .fitting;
+        enterable = record {
+          world = preparing.world (a .tabled .accepted) (a .tabled .laid) linked (a .tabled .stepOrders);
+          scope = omega (arith, a .scope, accepted-count bytes n (a .tabled .accepted));
+          givenRoom = a .givenRoom;
+          givenKept = a .givenKept;
+          fitting = a .fitting;
+        };
         known = known;
         room = a .room;
       }

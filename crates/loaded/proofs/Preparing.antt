@@ -43,9 +43,9 @@ module _ {bytes index : List ℕ} {n : ℕ} (accepted : judge bytes ≡ Accepted
   pub few-scopes : n ≤ 32
   few-scopes = accepted-scopes bytes n accepted
 
-  -- links for n scopes at least, none of which is set
-  pub blank-links : (size : ℕ) → n * 834 ≤ size → Blanks bytes index n (replicate size 255)
-  blank-links size few =
+  -- links for m scopes at least, none of which is set
+  pub blank-links : (m size : ℕ) → m * 834 ≤ size → Blanks bytes index m (replicate size 255)
+  blank-links m size few =
       let long : length {A = ℕ} (replicate size 255) ≡ size = length-replicate {A = ℕ} size 255 in
       record {
         sound = sound;
@@ -84,11 +84,11 @@ module _ {bytes index blocks weights orders : List ℕ} {r : Judged} (loads : Lo
     is-accepted : judge bytes ≡ Accepted n
     is-accepted = sym (loads .answer) ∙ e
 
-    -- no link of 32 scopes is set
-    pub unlinked : {links : List ℕ} → links ≡ replicate 26688 255 → Blanks bytes index n links
-    unlinked same =
-        subst (Blanks bytes index n) (sym same)
-        (blank-links is-accepted (loads .tables n e .laid) 26688 (omega (arith, few-scopes is-accepted (loads .tables n e .laid))))
+    -- no link of so many scopes is set
+    pub unlinked : (m : ℕ) {links : List ℕ} → m ≤ n → links ≡ replicate 26688 255 → Blanks bytes index m links
+    unlinked m few same =
+        subst (Blanks bytes index m) (sym same)
+        (blank-links is-accepted (loads .tables n e .laid) m 26688 (omega (arith, few, few-scopes is-accepted (loads .tables n e .laid))))
 
     pub accepted-so : {links : List ℕ} → AllLinked bytes n links → Prepared bytes index links orders (Accepted n)
     accepted-so linked =

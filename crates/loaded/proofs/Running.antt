@@ -54,10 +54,10 @@ module _ {bytes index links orders : List ℕ} {i : ℕ} {given memo memory : Li
   pub entry : {own : List ℕ} → length own ≡ 32 → AllKept own → Entry bytes index links orders i given own memo
   entry size kept =
       record {
-        world = a .world;
-        scope = a .scope;
-        givenRoom = a .givenRoom;
-        givenKept = a .givenKept;
+        world = a .enterable .world;
+        scope = a .enterable .scope;
+        givenRoom = a .enterable .givenRoom;
+        givenKept = a .enterable .givenKept;
         room = size;
         kept = kept;
         known = a .known;
@@ -76,11 +76,11 @@ module _ {bytes index links orders : List ℕ} {i : ℕ} {given memo memory : Li
 
       fit : ValuesFit (scopeAt (scopesOf bytes) i .variables) (valuesOf own (length (scopeAt (scopesOf bytes) i .variables)))
       unfolding enteredAt
-      fit = values-typed bytes (length (scopesOf bytes)) (a .world .accepted) i (a .scope) _ (a .fitting) _ m same
+      fit = values-typed bytes (length (scopesOf bytes)) (a .enterable .world .accepted) i (a .enterable .scope) _ (a .enterable .fitting) _ m same
 
       size-known : resultLength (scopeAt (scopesOf bytes) i .variables) ≡ length (results (valuesOf own (length (scopeAt (scopesOf bytes) i .variables))))
       unfolding enteredAt
-      size-known = values-length bytes (length (scopesOf bytes)) (a .world .accepted) i (a .scope) _ (a .fitting) _ m same
+      size-known = values-length bytes (length (scopesOf bytes)) (a .enterable .world .accepted) i (a .enterable .scope) _ (a .enterable .fitting) _ m same
 
       pub typed : writing.Typed (scopeAt (scopesOf bytes) i .variables) own
       unfolding valuesOf

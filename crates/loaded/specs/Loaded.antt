@@ -28,13 +28,17 @@ pub record Prepared (bytes index links orders : List ℕ) (r : Judged) : Type 0 
   pub answer : r ≡ judge bytes
   pub world : (n : ℕ) → r ≡ Accepted n → World bytes index links orders
 
--- the book is loaded and has scope i; what is given, in a cell for each variable, fits its variables; its results have room
-pub record RunsLoaded (bytes index links orders : List ℕ) (i : ℕ) (given memo memory : List ℕ) : Type 0 where
+-- the book is loaded and has scope i; what is given, in a cell for each variable, fits its variables
+pub record Enterable (bytes index links orders : List ℕ) (i : ℕ) (given : List ℕ) : Type 0 where
   pub world : World bytes index links orders
   pub scope : i < length (scopesOf bytes)
   pub givenRoom : length given ≡ 32
   pub givenKept : AllKept given
   pub fitting : Fitting (scopeAt (scopesOf bytes) i .variables) (givensFrom given 0 (length (scopeAt (scopesOf bytes) i .variables)))
+
+-- and its results have room
+pub record RunsLoaded (bytes index links orders : List ℕ) (i : ℕ) (given memo memory : List ℕ) : Type 0 where
+  pub enterable : Enterable bytes index links orders i given
   pub known : Known bytes memo
   pub room : resultLengthAt (scopesOf bytes) i ≤ length memory
 

@@ -103,15 +103,7 @@ module _ {bytes index links orders : List ℕ} {i : ℕ} {chosen given memo tabl
       let d = length-drop 1 table in
       record {
         runs =
-            record {
-              world = f .world;
-              scope = f .scope;
-              givenRoom = f .givenRoom;
-              givenKept = f .givenKept;
-              fitting = f .fitting;
-              known = f .known;
-              room = omega arith;
-            };
+            record { enterable = f .enterable; known = f .known; room = omega arith };
         size = size;
       }
 
@@ -132,7 +124,7 @@ module _ {bytes index links orders : List ℕ} {i : ℕ} {chosen given memo tabl
     fits = first-fit variables (gives given) v vs allFit
 
     room : v < length given
-    room = let k = fits .known in let g = f .givenRoom in let w = f .world .sound .variables i in omega arith
+    room = let k = fits .known in let g = f .enterable .givenRoom in let w = f .enterable .world .sound .variables i in omega arith
 
     twice : length table ≡ 2 * (power (length vs) * suc (resultLengthAt (scopesOf bytes) i))
     twice = f .size ∙ ap (λ (l : List ℕ). power (length l) * suc (resultLengthAt (scopesOf bytes) i)) is ∙ doubled (length vs) _
@@ -147,11 +139,13 @@ module _ {bytes index links orders : List ℕ} {i : ℕ} {chosen given memo tabl
     fills b {cells} {known} {part} e k l =
         let g : gives cells ≡ set (gives given) v (Present (Truth b)) = ap gives e ∙ givens-set given (length variables) v b room in
         record {
-          world = f .world;
-          scope = f .scope;
-          givenRoom = ap length e ∙ length-set given v (valueCell (Truth b)) ∙ f .givenRoom;
-          givenKept = rw e (kept-stored given v (Truth b) zero-fits (f .givenKept));
-          fitting = rw g (fitting-set variables (gives given) v b (f .fitting) (sym (same-type YesNo _ (fits .typed))));
+          enterable = record {
+            world = f .enterable .world;
+            scope = f .enterable .scope;
+            givenRoom = ap length e ∙ length-set given v (valueCell (Truth b)) ∙ f .enterable .givenRoom;
+            givenKept = rw e (kept-stored given v (Truth b) zero-fits (f .enterable .givenKept));
+            fitting = rw g (fitting-set variables (gives given) v b (f .enterable .fitting) (sym (same-type YesNo _ (fits .typed))));
+          };
           known = k;
           distinct = others-distinct variables (gives given) v vs distinct;
           fit = rw g (others-fit variables (gives given) v vs distinct allFit (Present (Truth b)));

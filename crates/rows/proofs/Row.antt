@@ -50,7 +50,7 @@ module _ {bytes index links orders : List ℕ} {i : ℕ} {given memo row : List 
   fits : (e : Entered) → enteredAt bytes i given ≡ e → length (replyOf e .written) ≤ resultLengthAt (scopesOf bytes) i
   unfolding enteredAt resultLengthAt
   fits (values vs n) e =
-      let l = values-length bytes (length (scopesOf bytes)) (f .runs .world .accepted) i (f .runs .scope) _ (f .runs .fitting) vs n e in
+      let l = values-length bytes (length (scopesOf bytes)) (f .runs .enterable .world .accepted) i (f .runs .enterable .scope) _ (f .runs .enterable .fitting) vs n e in
       omega arith
   fits (ended c n) e = omega arith
 

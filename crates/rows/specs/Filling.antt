@@ -1,27 +1,26 @@
 -- The rows of a scope of a loaded book, by cells: what the fixed input list gives is in cells, and an assignment is put into the chosen variables' cells.
-use Prim.Native.Nat.{ℕ, suc, _*_, _-_, _<_}
+use Prim.Native.Nat.{ℕ, suc, _*_, _-_}
 use mathlib.Core.Path.{_≡_}
 use mathlib.Core.Bool.{Bool, false}
 use mathlib.Core.List.{List, [], _∷_, _++_}
 use lib.ListN.{length, set, take, drop, replicate}
 use Rattle.calculus.specs.declared.Value.the-variants.{Truth}
-use Rattle.cells.specs.Codec.{valueCell, AllKept}
+use Rattle.cells.specs.Codec.{valueCell}
 use Rattle.book.specs.Lists.{any}
 use Rattle.book.specs.Sharing.{gathered}
 use Rattle.book.specs.Decode.{scopesOf}
 use Rattle.book.specs.References.{scopeAt}
 use Rattle.lists.specs.Writing.{resultLengthAt}
-use Rattle.evaluation.specs.Types.{Fitting}
 use Rattle.evaluation.specs.Evaluate.{replyOf}
-use Rattle.scopes.specs.Steps.{World, givensFrom, enteredAt}
+use Rattle.scopes.specs.Steps.{givensFrom, enteredAt}
 use Rattle.scopes.specs.Known.{Known}
-use Rattle.loaded.specs.Loaded.{RunsLoaded}
+use Rattle.loaded.specs.Loaded.{Enterable, RunsLoaded}
 use Rattle.tabulation.specs.Assignments.{assignments, power}
 use Rattle.book.specs.Sharing.{repeats}
 use Rattle.tabulation.specs.Chosen.{unfit}
 use Rattle.tabulation.specs.Tabulate.{rowOf}
 
--- "or as many zero bytes where there are no values": zeros from a position on
+-- zeros from a position on
 unfoldable pub cleared : List ℕ → ℕ → List ℕ
 cleared bytes from = take from bytes ++ replicate (length bytes - from) 0
 
@@ -31,12 +30,11 @@ assign cells [] bs = cells
 assign cells (v ∷ vs) [] = cells
 assign cells (v ∷ vs) (b ∷ bs) = assign (set cells v (valueCell (Truth b))) vs bs
 
--- "Each line holds one byte of outcome (0 values, 1 empty, 2 conflict, 3 out of range) and the results, or as many zero bytes where there are no
--- values": the row of scope i, run with what the cells give
+-- the row of scope i, run with what the cells give
 unfoldable pub cellRow : List ℕ → ℕ → List ℕ → List ℕ
 cellRow bytes i cells = rowOf (resultLengthAt (scopesOf bytes) i) (replyOf (enteredAt bytes i cells))
 
--- "every choice of no and yes": the rows of all assignments
+-- the rows of all assignments
 unfoldable pub cellRows : List ℕ → ℕ → List ℕ → List ℕ → List ℕ
 cellRows bytes i vs cells = gathered (λ a. cellRow bytes i (assign cells vs a)) (assignments (length vs))
 
@@ -47,11 +45,7 @@ pub record FillsRow (bytes index links orders : List ℕ) (i : ℕ) (given memo 
 
 -- scope i can be run with any assignment of the chosen variables, which are given by nothing else, and the table has its length
 pub record FillsRows (bytes index links orders : List ℕ) (i : ℕ) (chosen given memo table : List ℕ) : Type 0 where
-  pub world : World bytes index links orders
-  pub scope : i < length (scopesOf bytes)
-  pub givenRoom : length given ≡ 32
-  pub givenKept : AllKept given
-  pub fitting : Fitting (scopeAt (scopesOf bytes) i .variables) (givensFrom given 0 (length (scopeAt (scopesOf bytes) i .variables)))
+  pub enterable : Enterable bytes index links orders i given
   pub known : Known bytes memo
   pub distinct : repeats chosen ≡ false
   pub fit : any (unfit (scopeAt (scopesOf bytes) i .variables) (givensFrom given 0 (length (scopeAt (scopesOf bytes) i .variables)))) chosen ≡ false

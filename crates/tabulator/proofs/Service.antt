@@ -52,7 +52,7 @@ use Rattle.tabulation.proofs.Halves.{rows-same}
 use Rattle.tabulation.proofs.Rows.{row-run, table-length}
 use Rattle.rows.specs.Filling.{assign, cellRow, cellRows, FillsRows}
 use Rattle.rows.proofs.Cells.{givens-set}
-use Rattle.tabulator.specs.Service.{Ordered, WritesTable}
+use Rattle.tabulator.specs.Service.{TableAsked, WritesTable}
 
 -- chosen variables are judged by what is given alone
 unfit-same : (variables : List Variable) (gs hs : List Given) → ((v : ℕ) → getD gs v Absent ≡ getD hs v Absent) → (chosen : List ℕ)
@@ -163,14 +163,16 @@ module _ (bytes : List ℕ) (i : ℕ) (chosen fixed : List ℕ) where
             cells-long = ap length same-table ∙ table-length bytes i chosen fixed tabulable
 
             pub ordered-so : {index links orders ordered : List ℕ} → World bytes index links orders → take (length chosen) ordered ≡ inOrder chosen variables
-                → Ordered bytes index links orders i chosen ordered given
+                → TableAsked bytes index links orders i chosen ordered given
             ordered-so world order =
                 record {
-                  world = world;
-                  scope = omega (arith, here, count);
-                  givenRoom = room;
-                  givenKept = taken .kept;
-                  fitting = taken-fitting taken;
+                  enterable = record {
+                    world = world;
+                    scope = omega (arith, here, count);
+                    givenRoom = room;
+                    givenKept = taken .kept;
+                    fitting = taken-fitting taken;
+                  };
                   good = fits-cells;
                   order = order;
                   long = cells-long;
@@ -184,7 +186,7 @@ module _ (bytes : List ℕ) (i : ℕ) (chosen fixed : List ℕ) where
 
 -- Writing the table
 
-module _ {bytes index links orders : List ℕ} {i : ℕ} {chosen ordered given : List ℕ} (o : Ordered bytes index links orders i chosen ordered given) where
+module _ {bytes index links orders : List ℕ} {i : ℕ} {chosen ordered given : List ℕ} (o : TableAsked bytes index links orders i chosen ordered given) where
   abbrev own : List Variable
   own = scopeAt (scopesOf bytes) i .variables
 
@@ -196,11 +198,7 @@ module _ {bytes index links orders : List ℕ} {i : ℕ} {chosen ordered given :
   fills {order} {memo} {part} known same size =
       subst (λ (vs : List ℕ). FillsRows bytes index links orders i vs given memo part) (sym (same ∙ o .order))
       (record {
-        world = o .world;
-        scope = o .scope;
-        givenRoom = o .givenRoom;
-        givenKept = o .givenKept;
-        fitting = o .fitting;
+        enterable = o .enterable;
         known = known;
         distinct = order-repeated chosen own;
         fit = order-fit own (givensFrom given 0 (length own)) chosen (o .good);

@@ -9,8 +9,10 @@ use results::result_length;
 use rows::fill_rows;
 use rows::table_length;
 use slices::part_of;
+ghost use Rattle.answers.specs.declared.Judged.the-variants.{Accepted};
+ghost use Rattle.loaded.specs.Loaded.{Prepared};
 ghost use Rattle.tabulation.specs.Tabulate.{Tabulates};
-ghost use Rattle.tabulator.specs.Service.{Loaded, Ordered, WritesTable};
+ghost use Rattle.tabulator.specs.Service.{TableAsked, WritesTable};
 
 // Writes the table of scope i of a loaded book for the chosen variables, which stand in number order in the first of 32 places. The whole table
 // has room before a byte of it is written.
@@ -25,7 +27,7 @@ fn write_table(
     given: &mut [u64],
     table: &mut [u8],
 ) -> Produced
-    requires { ⌜ Ordered (now book) (now index) (now links) (now orders) i (now chosen) (now ordered) (now given) ⌝ }
+    requires { ⌜ TableAsked (now book) (now index) (now links) (now orders) i (now chosen) (now ordered) (now given) ⌝ }
     ensures { λ r.
         ⌜ WritesTable (now (book .entry)) i (now (chosen .entry)) (now (given .entry)) (now (table .entry)) r (now (table .exit)) ⌝ }
 {
@@ -62,7 +64,7 @@ fn tabulate_loaded(
     inputs: &[u8],
     table: &mut [u8],
 ) -> Produced
-    requires { ⌜ Loaded (now book) (now index) (now links) (now orders) n ⌝ }
+    requires { ⌜ Prepared (now book) (now index) (now links) (now orders) (Accepted n) ⌝ }
     ensures { λ r.
         ⌜ Tabulates (now (book .entry)) i (now (chosen .entry)) (now (inputs .entry)) (now (table .entry)) r (now (table .exit)) ⌝ }
 {

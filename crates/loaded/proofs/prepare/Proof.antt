@@ -1,5 +1,6 @@
 -- `loaded::prepare` meets its contract.
 -- Assumes nothing.
+use native.Mathlib.Omega.{arith}
 use Rattle.loaded.proofs.Preparing.{unlinked, accepted-so, refused-so}
 use borrow.Author.Needs.{needs}
 use Rattle.loaded.proofs.prepare.Statement.{statement}
@@ -18,7 +19,7 @@ enum-known-n : tie.Need-enum-known-n
 enum-known-n c = search needs
 
 fill-all-links-requires : tie.Need-fill-all-links-requires
-fill-all-links-requires c κs = unlinked (c .before .before .before .before .before .before .before .before .before .before .before .load .ensures) (c .before .before .before .n .given .1) (c .before .before .before .before .before .before .before .before .before .before .before .before .before .before .before .before .before .before .before .before .pre .unlinked)
+fill-all-links-requires c κs = unlinked (c .before .before .before .before .before .before .before .before .before .before .before .load .ensures) (c .before .before .before .n .given .1) _ (omega arith) (c .before .before .before .before .before .before .before .before .before .before .before .before .before .before .before .before .before .before .before .before .pre .unlinked)
 
 enum-known-f : tie.Need-enum-known-f
 enum-known-f c = search needs

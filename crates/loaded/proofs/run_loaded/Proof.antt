@@ -17,13 +17,13 @@ enum-known-count : tie.Need-enum-known-count
 enum-known-count c = search needs
 
 result-length-requires : tie.Need-result-length-requires
-result-length-requires c κs = (c .before .before .before .before .before .before .before .before .before .before .before .before .before .before .before .before .pre .world .sound .laid, c .before .before .before .before .before .before .before .before .before .before .before .before .before .before .before .before .pre .world .sound .laid .within .variables (c .before .before .before .before .before .before .before .before .before .before .before .before .before .before .before .before .args .i))
+result-length-requires c κs = (c .before .before .before .before .before .before .before .before .before .before .before .before .before .before .before .before .pre .enterable .world .sound .laid, c .before .before .before .before .before .before .before .before .before .before .before .before .before .before .before .before .pre .enterable .world .sound .laid .within .variables (c .before .before .before .before .before .before .before .before .before .before .before .before .before .before .before .before .args .i))
 
 slice-aggregate-write-results : tie.Need-slice-aggregate-write-results
 slice-aggregate-write-results c = search needs
 
 write-results-requires : tie.Need-write-results-requires
-write-results-requires c κs = (c .before .before .before .before .before .before .before .before .before .before .before .before .before .before .before .before .before .before .before .pre .world .sound .laid, (c .before .before .before .before .before .before .before .before .before .before .before .before .before .before .before .before .before .before .before .pre .world .sound .laid .within .variables (c .before .before .before .before .before .before .before .before .before .before .before .before .before .before .before .before .before .before .before .args .i), (typed (c .before .before .before .before .before .before .before .before .before .before .before .before .before .before .before .before .before .before .before .pre) (c .before .before .before .before .before .before .before .before .before .enter .ensures .0) (c .before .before .before .before .count .given .1), c .before .before .before .before .before .before .before .before .before .before .before .before .before .before .before .before .before .before .before .pre .room)))
+write-results-requires c κs = (c .before .before .before .before .before .before .before .before .before .before .before .before .before .before .before .before .before .before .before .pre .enterable .world .sound .laid, (c .before .before .before .before .before .before .before .before .before .before .before .before .before .before .before .before .before .before .before .pre .enterable .world .sound .laid .within .variables (c .before .before .before .before .before .before .before .before .before .before .before .before .before .before .before .before .before .before .before .args .i), (typed (c .before .before .before .before .before .before .before .before .before .before .before .before .before .before .before .before .before .before .before .pre) (c .before .before .before .before .before .before .before .before .before .enter .ensures .0) (c .before .before .before .before .count .given .1), c .before .before .before .before .before .before .before .before .before .before .before .before .before .before .before .before .before .before .before .pre .room)))
 
 enum-known-c : tie.Need-enum-known-c
 enum-known-c c = search needs

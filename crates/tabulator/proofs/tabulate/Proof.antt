@@ -33,7 +33,7 @@ slice-aggregate-tabulate-loaded-3 : tie.Need-slice-aggregate-tabulate-loaded-3
 slice-aggregate-tabulate-loaded-3 c = search needs
 
 tabulate-loaded-requires : tie.Need-tabulate-loaded-requires
-tabulate-loaded-requires c κs = record { accepted = sym (c .before .before .before .before .before .before .before .before .before .before .prepare .ensures .answer) ∙ c .before .before .before .before .before .n .given .1; world = c .before .before .before .before .before .before .before .before .before .before .prepare .ensures .world _ (c .before .before .before .before .before .n .given .1) }
+tabulate-loaded-requires c κs = record { answer = sym (c .before .before .before .before .before .n .given .1) ∙ c .before .before .before .before .before .before .before .before .before .before .prepare .ensures .answer; world = λ m e. c .before .before .before .before .before .before .before .before .before .before .prepare .ensures .world _ (c .before .before .before .before .before .n .given .1) }
 
 enum-known-f : tie.Need-enum-known-f
 enum-known-f c = search needs

@@ -10,10 +10,10 @@ use Rattle.tabulator.proofs.write_table.Statement.{statement}
 use Rattle.tabulator.proofs.write_table.Tie as tie
 
 result-length-requires : tie.Need-result-length-requires
-result-length-requires c κs = ((c .before .before .before .before .before .before .before .before .pre .world .sound .laid), (c .before .before .before .before .before .before .before .before .pre .world .sound .variables (c .before .before .before .before .before .before .before .before .args .i)))
+result-length-requires c κs = ((c .before .before .before .before .before .before .before .before .pre .enterable .world .sound .laid), (c .before .before .before .before .before .before .before .before .pre .enterable .world .sound .variables (c .before .before .before .before .before .before .before .before .args .i)))
 
 table-length-requires : tie.Need-table-length-requires
-table-length-requires c κs = (omega (arith, few-chosen (c .before .before .before .before .before .before .before .before .before .pre)), rw (c .result-length .ensures) (results-few _ _ (c .before .before .before .before .before .before .before .before .before .pre .world .sound .variables (c .before .before .before .before .before .before .before .before .before .args .i))))
+table-length-requires c κs = (omega (arith, few-chosen (c .before .before .before .before .before .before .before .before .before .pre)), rw (c .result-length .ensures) (results-few _ _ (c .before .before .before .before .before .before .before .before .before .pre .enterable .world .sound .variables (c .before .before .before .before .before .before .before .before .before .args .i))))
 
 returns : tie.Need-returns
 returns c = short-so (c .before .before .before .before .before .before .before .before .before .before .before .pre) (sized _ (c .before .table-length .ensures) (c .before .before .result-length .ensures)) (c .if1 .taken)
@@ -31,7 +31,7 @@ slice-aggregate-fill-rows-2 : tie.Need-slice-aggregate-fill-rows-2
 slice-aggregate-fill-rows-2 c = sym (length-take-le _ _ (c .before .before .before .before .if1 .left))
 
 fill-rows-requires : tie.Need-fill-rows-requires
-fill-rows-requires c κs = fills (c .before .before .before .before .before .before .before .before .before .before .before .before .before .before .before .pre) (blank-memo (c .before .before .before .before .before .before .before .before .before .before .before .before .before .before .before .pre .world .accepted) (c .before .before .before .before .before .before .before .before .before .before .before .before .before .before .before .pre .world .sound .laid) 1056 (omega (arith, few-scopes (c .before .before .before .before .before .before .before .before .before .before .before .before .before .before .before .pre .world .accepted) (c .before .before .before .before .before .before .before .before .before .before .before .before .before .before .before .pre .world .sound .laid)))) (c .before .before .before .part-of .ensures) (length-take-le _ _ (c .before .before .before .before .if1 .left) ∙ sized _ (c .before .before .before .before .before .table-length .ensures) (c .before .before .before .before .before .before .result-length .ensures))
+fill-rows-requires c κs = fills (c .before .before .before .before .before .before .before .before .before .before .before .before .before .before .before .pre) (blank-memo (c .before .before .before .before .before .before .before .before .before .before .before .before .before .before .before .pre .enterable .world .accepted) (c .before .before .before .before .before .before .before .before .before .before .before .before .before .before .before .pre .enterable .world .sound .laid) 1056 (omega (arith, few-scopes (c .before .before .before .before .before .before .before .before .before .before .before .before .before .before .before .pre .enterable .world .accepted) (c .before .before .before .before .before .before .before .before .before .before .before .before .before .before .before .pre .enterable .world .sound .laid)))) (c .before .before .before .part-of .ensures) (length-take-le _ _ (c .before .before .before .before .if1 .left) ∙ sized _ (c .before .before .before .before .before .table-length .ensures) (c .before .before .before .before .before .before .result-length .ensures))
 
 same-length : tie.Need-same-length
 same-length c = search needs
