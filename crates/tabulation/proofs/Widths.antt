@@ -2,7 +2,7 @@
 --     results-narrow    the results and 3 bytes for each chosen variable have room in 6 bytes a variable
 --     rows-most         so the rows of 12 chosen variables are the longest, 4,096 rows of 157 bytes
 -- Assumes nothing.
-use Prim.Native.Nat.{ℕ, zero, suc, _+_, _-_, _*_, _≤_, _<_}
+use Prim.Native.Nat.{ℕ, zero, suc, _+_, _-_, _*_, _≤_}
 use mathlib.Core.Path.{_≡_, sym, ap, _∙_}
 use mathlib.Core.Bool.{true, false, false≢true}
 use mathlib.Core.List.{List, [], _∷_}
