@@ -20,11 +20,12 @@ use Rattle.book.specs.Decode.{scopesOf}
 use Rattle.book.specs.References.{scopeAt}
 use Rattle.book.specs.Scopes.{weight}
 use Rattle.book.specs.Judge.{judge}
+use Rattle.answers.specs.Response.{memoryAfter}
 use Rattle.answers.specs.declared.Judged.the-variants.{Accepted}
 use Rattle.lists.specs.Inputs.{Inputs, bad, good, inputs}
 use Rattle.acceptance.proofs.Acceptance.{accepted-count}
 use Rattle.evaluation.specs.Evaluate as evaluation
-use Rattle.evaluation.specs.Evaluate.{countIn, Reply, evaluate, memoryAfter}
+use Rattle.evaluation.specs.Evaluate.{countIn, Reply, evaluate}
 use Rattle.evaluation.specs.Answers.{Replied}
 use Rattle.answers.specs.declared.Refusal.{Refusal}
 use Rattle.answers.specs.declared.Refusal.the-variants.{Book, NoSuchScope, BadInput, BufferTooSmall, BadCode, Stuck, BadChoice}

@@ -6,7 +6,8 @@ use mathlib.Core.List.{List}
 use lib.ListN.{length}
 use Rattle.book.specs.Decode.{scopesOf}
 use Rattle.book.specs.Scopes.{weight}
-use Rattle.evaluation.specs.Evaluate.{countIn, evaluate, memoryAfter}
+use Rattle.evaluation.specs.Evaluate.{countIn, evaluate}
+use Rattle.answers.specs.Response.{memoryAfter}
 use Rattle.answers.specs.declared.Refusal.the-variants.{BadCode, Stuck}
 use Rattle.answers.specs.declared.Answer.the-variants.{Refused}
 use Rattle.translation.specs.Blocks.{codeOf}

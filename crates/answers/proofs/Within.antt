@@ -14,7 +14,8 @@ use lib.ListN.{length, drop, length-append, length-drop}
 use lib.Dec.{leb}
 use borrow.Author.Tests.{leb-true, leb-false}
 use Rattle.answers.specs.Numbers.{producedNumbers}
-use Rattle.answers.specs.Production.{Production, refuse, fitting, producedMemory}
+use Rattle.answers.specs.Production.{Production, refuse, fitting}
+use Rattle.answers.specs.Response.{memoryAfter}
 use Rattle.answers.specs.declared.Refusal.{Refusal}
 use Rattle.answers.specs.declared.Refusal.the-variants.{BufferTooSmall}
 use Rattle.answers.specs.declared.Produced.{Produced}
@@ -39,11 +40,13 @@ abbrev pub isWritten : Produced → Bool
 isWritten (Written n) = true
 isWritten (Refused r) = false
 
-pub within-refused : {room : ℕ} {p : Production} → Within room p → (r : Refusal) → p .answer ≡ Refused r → (memory : List ℕ) → producedMemory p memory ≡ memory
+pub within-refused : {room : ℕ} {p : Production} → Within room p → (r : Refusal) → p .answer ≡ Refused r → (memory : List ℕ) → memoryAfter p memory ≡ memory
+unfolding memoryAfter
 within-refused (Within.refused s) r e memory = refl
 within-refused (Within.whole bytes l) r e memory = absurd (false≢true (sym (ap isWritten e)))
 
-pub within-unchanged : {room : ℕ} {p : Production} → Within room p → ((size : ℕ) → p .answer ≡ Written size → ⊥) → (memory : List ℕ) → producedMemory p memory ≡ memory
+pub within-unchanged : {room : ℕ} {p : Production} → Within room p → ((size : ℕ) → p .answer ≡ Written size → ⊥) → (memory : List ℕ) → memoryAfter p memory ≡ memory
+unfolding memoryAfter
 within-unchanged (Within.refused s) other memory = refl
 within-unchanged (Within.whole bytes l) other memory = absurd (other (length bytes) refl)
 
@@ -51,7 +54,8 @@ pub within-length : {room : ℕ} {p : Production} → Within room p → produced
 within-length (Within.refused s) = refl
 within-length (Within.whole bytes l) = refl
 
-pub within-size : {p : Production} (memory : List ℕ) → Within (length memory) p → length (producedMemory p memory) ≡ length memory
+pub within-size : {p : Production} (memory : List ℕ) → Within (length memory) p → length (memoryAfter p memory) ≡ length memory
+unfolding memoryAfter
 within-size memory (Within.refused s) = refl
 within-size memory (Within.whole bytes l) =
     omega (arith, l, length-append bytes (drop (length bytes) memory), length-drop (length bytes) memory)

@@ -6,11 +6,12 @@ use Prim.Native.Nat.{ℕ}
 use mathlib.Core.Path.{_≡_, _∙_, ap}
 use mathlib.Core.List.{List}
 use lib.ListN.{length}
+use Rattle.answers.specs.Response.{Responds}
 use Rattle.answers.specs.Numbers.{Numbers, producedNumbers, answerNumbers}
 use Rattle.answers.specs.declared.Answer.{Answer}
-use Rattle.answers.specs.Production.{Production, Produces}
+use Rattle.answers.specs.Production.{Production}
 use Rattle.answers.specs.declared.Produced.{Produced}
-use Rattle.evaluation.specs.Evaluate.{Reply, evaluate, Replies}
+use Rattle.evaluation.specs.Evaluate.{Reply, evaluate}
 use Rattle.tabulation.specs.Tabulate.{tabulate}
 use Rattle.compiler.specs.Compile.{compile}
 use Rattle.machine.specs.Service.{run}
@@ -26,26 +27,26 @@ pub said : {A : Type 0} (numbers : A → Numbers) {given expected : A} {r : ℕ}
 said numbers {given} {expected} {r} room same packs = says (numbers expected) r room (packs ∙ ap (λ x. packed (wrapped (numbers x))) same)
 
 produced : {p : Production} {before : List ℕ} {c : Produced} {r : ℕ} {after : List ℕ} → Placed (producedNumbers (p .answer))
-    → Produces p before c after → r ≡ packed (wrapped (producedNumbers c)) → PackedProduction p before r after
+    → Responds p before c after → r ≡ packed (wrapped (producedNumbers c)) → PackedProduction p before r after
 produced room h packs = record { answer = said producedNumbers room (h .answer) packs; memory = h .memory }
 
-pub compiled : (bytes : List ℕ) {before : List ℕ} {c : Produced} {r : ℕ} {after : List ℕ} → Produces (compile bytes (length before)) before c after
+pub compiled : (bytes : List ℕ) {before : List ℕ} {c : Produced} {r : ℕ} {after : List ℕ} → Responds (compile bytes (length before)) before c after
     → r ≡ packed (wrapped (producedNumbers c)) → PackedCompilation bytes before r after
 compiled bytes {before} = produced (compile-placed bytes before)
 
 pub tabulated : (bytes : List ℕ) (i : ℕ) (chosen fixed : List ℕ) {before : List ℕ} {c : Produced} {r : ℕ} {after : List ℕ}
-    → Produces (tabulate bytes i chosen fixed (length before)) before c after → r ≡ packed (wrapped (producedNumbers c))
+    → Responds (tabulate bytes i chosen fixed (length before)) before c after → r ≡ packed (wrapped (producedNumbers c))
     → PackedTabulation bytes i chosen fixed before r after
 tabulated bytes i chosen fixed {before} = produced (tabulate-placed bytes i chosen fixed before)
 
 replied : {reply : Reply} {before : List ℕ} {a : Answer} {r : ℕ} {after : List ℕ} → Placed (answerNumbers (reply .answer))
-    → Replies reply before a after → r ≡ packed (wrapped (answerNumbers a)) → PackedReply reply before r after
+    → Responds reply before a after → r ≡ packed (wrapped (answerNumbers a)) → PackedReply reply before r after
 replied room h packs = record { answer = said answerNumbers room (h .answer) packs; memory = h .memory }
 
 module _ (bytes : List ℕ) (i : ℕ) (list : List ℕ) {before : List ℕ} {a : Answer} {r : ℕ} {after : List ℕ} where
-  pub evaluated : Replies (evaluate bytes i list (length before)) before a after → r ≡ packed (wrapped (answerNumbers a))
+  pub evaluated : Responds (evaluate bytes i list (length before)) before a after → r ≡ packed (wrapped (answerNumbers a))
       → PackedEvaluation bytes i list before r after
   evaluated = replied (evaluate-placed bytes i list before)
 
-  pub ran : Replies (run bytes i list (length before)) before a after → r ≡ packed (wrapped (answerNumbers a)) → PackedRun bytes i list before r after
+  pub ran : Responds (run bytes i list (length before)) before a after → r ≡ packed (wrapped (answerNumbers a)) → PackedRun bytes i list before r after
   ran = replied (run-placed bytes i list before)

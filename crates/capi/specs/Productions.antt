@@ -3,8 +3,9 @@ use Prim.Native.Nat.{ℕ}
 use mathlib.Core.Path.{_≡_}
 use mathlib.Core.List.{List}
 use lib.ListN.{length}
+use Rattle.answers.specs.Response.{memoryAfter}
 use Rattle.answers.specs.Numbers.{producedNumbers}
-use Rattle.answers.specs.Production.{Production, producedMemory}
+use Rattle.answers.specs.Production.{Production}
 use Rattle.compiler.specs.Compile.{compile}
 use Rattle.tabulation.specs.Tabulate.{tabulate}
 use Rattle.numbers.specs.Packed.{Says}
@@ -12,7 +13,7 @@ use Rattle.numbers.specs.Packed.{Says}
 -- those of a production, its answer as one number, from which refusal and length are recovered
 pub record PackedProduction (p : Production) (before : List ℕ) (r : ℕ) (after : List ℕ) : Type 0 where
   pub answer : Says (producedNumbers (p .answer)) r
-  pub memory : after ≡ producedMemory p before
+  pub memory : after ≡ memoryAfter p before
 
 abbrev pub PackedCompilation : List ℕ → List ℕ → ℕ → List ℕ → Type 0
 PackedCompilation bytes before = PackedProduction (compile bytes (length before)) before

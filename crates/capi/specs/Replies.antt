@@ -3,8 +3,9 @@ use Prim.Native.Nat.{ℕ}
 use mathlib.Core.Path.{_≡_}
 use mathlib.Core.List.{List}
 use lib.ListN.{length}
-use Rattle.evaluation.specs.Evaluate.{Reply, evaluate, memoryAfter}
+use Rattle.evaluation.specs.Evaluate.{Reply, evaluate}
 use Rattle.machine.specs.Service.{run}
+use Rattle.answers.specs.Response.{memoryAfter}
 use Rattle.answers.specs.Numbers.{answerNumbers}
 use Rattle.numbers.specs.Packed.{Says}
 

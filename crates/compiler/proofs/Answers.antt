@@ -8,12 +8,14 @@ use lib.ListN.{length, take, drop, drop-of-length-le, length-drop}
 use lib.Seq.{length-take-le, take-all}
 use Rattle.book.specs.Decode.{scopesOf}
 use Rattle.book.specs.Judge.{judge}
+use Rattle.answers.specs.Response.{onJudged}
 use Rattle.answers.specs.declared.Fault.{Fault}
 use Rattle.answers.specs.declared.Judged.{Judged}
 use Rattle.answers.specs.declared.Refusal.the-variants.{Book, BufferTooSmall}
 use Rattle.translation.specs.Blocks.{codeOf}
-use Rattle.answers.specs.Production.{fitting, onJudged}
-use Rattle.answers.proofs.Production.{produces-refusal, produces-all, produces-none}
+use Rattle.answers.specs.Production.{refuse, fitting}
+use Rattle.answers.proofs.Response.{nothing-written}
+use Rattle.answers.proofs.Production.{produces-all, produces-none}
 use Rattle.compiler.specs.Compile.{compile, Compiles}
 use Rattle.answers.specs.declared.Produced.the-variants.{Written, Refused}
 use Rattle.emitter.specs.Emission.{back, Emits}
@@ -24,7 +26,7 @@ use Rattle.emitter.proofs.Book.{book-length, book-code}
 pub refused : (bytes : List ℕ) {memory : List ℕ} {f : Fault} → judge bytes ≡ judged.Refused f → Compiles bytes memory (Refused (Book f)) memory
 unfolding compile
 refused bytes {memory} {f} e =
-    produces-refusal (Book f) (ap (λ (j : Judged). onJudged j (fitting (codeOf (scopesOf bytes)) (length memory))) e)
+    nothing-written (ap (λ (j : Judged). onJudged refuse j (fitting (codeOf (scopesOf bytes)) (length memory))) e)
 
 -- the last bytes, as a part of a slice
 abbrev rest : ℕ → List ℕ → List ℕ
@@ -46,7 +48,7 @@ module _ (bytes : List ℕ) (n : ℕ) (ok : judge bytes ≡ judged.Accepted n) w
 
   compiled : (room : ℕ) → compile bytes room ≡ fitting (codeOf (scopesOf bytes)) room
   unfolding compile
-  compiled room = ap (λ (j : Judged). onJudged j (fitting (codeOf (scopesOf bytes)) room)) ok
+  compiled room = ap (λ (j : Judged). onJudged refuse j (fitting (codeOf (scopesOf bytes)) room)) ok
 
   pub short : {memory s o : List ℕ} {end : ℕ} → Emits s 0 (bookPiece bytes) (bookSize bytes) end o → length memory < end
       → Compiles bytes memory (Refused BufferTooSmall) memory

@@ -16,6 +16,7 @@ use native.Mathlib.Omega.{arith}
 use lib.ListN.{length, drop}
 use Rattle.book.specs.Decode.{scopesOf}
 use Rattle.book.specs.Judge.{judge}
+use Rattle.answers.specs.Response.{onJudged, memoryAfter}
 use Rattle.answers.specs.Numbers.{producedNumbers}
 use Rattle.answers.specs.declared.Judged.{Judged}
 use Rattle.answers.specs.declared.Judged.the-variants as judged
@@ -25,7 +26,7 @@ use Rattle.answers.specs.declared.Produced.{Produced}
 use Rattle.answers.specs.declared.Produced.the-variants.{Written, Refused}
 use Rattle.translation.specs.Blocks.{codeOf}
 use Rattle.translation.proofs.Lengths.{code-bound, code-max}
-use Rattle.answers.specs.Production.{Production, fitting, onJudged, producedMemory}
+use Rattle.answers.specs.Production.{Production, refuse, fitting}
 use Rattle.answers.proofs.Within.{Within, isWritten, fitting-cases, within-refused, within-unchanged, within-size, within-length}
 use Rattle.compiler.specs.Compile.{compile}
 use Rattle.compiler.specs.Answers.{Replied, InCode}
@@ -34,7 +35,7 @@ module _ (bytes : List ℕ) (room : ℕ) where
   on-fitting : (n : ℕ) → judge bytes ≡ judged.Accepted n → Replied bytes room (fitting (codeOf (scopesOf bytes)) room)
   on-fitting n h = fitting-cases (Replied bytes room) (codeOf (scopesOf bytes)) room (Replied.whole n h) (Replied.short n h)
 
-  on-judged : (j : Judged) → judge bytes ≡ j → Replied bytes room (onJudged j (fitting (codeOf (scopesOf bytes)) room))
+  on-judged : (j : Judged) → judge bytes ≡ j → Replied bytes room (onJudged refuse j (fitting (codeOf (scopesOf bytes)) room))
   on-judged (judged.Accepted n) h = on-fitting n h
   on-judged (judged.Refused f) h = Replied.faulty f h
 
@@ -54,13 +55,13 @@ module _ (bytes memory : List ℕ) where
   compiled-within : Within (length memory) reply
   compiled-within = within reply (compiled-replied bytes (length memory))
 
-  pub compiled-refused : (r : Refusal) → reply .answer ≡ Refused r → producedMemory reply memory ≡ memory
+  pub compiled-refused : (r : Refusal) → reply .answer ≡ Refused r → memoryAfter reply memory ≡ memory
   compiled-refused r e = within-refused compiled-within r e memory
 
-  pub compiled-unchanged : ((size : ℕ) → reply .answer ≡ Written size → ⊥) → producedMemory reply memory ≡ memory
+  pub compiled-unchanged : ((size : ℕ) → reply .answer ≡ Written size → ⊥) → memoryAfter reply memory ≡ memory
   compiled-unchanged other = within-unchanged compiled-within other memory
 
-  pub compiled-size : length (producedMemory reply memory) ≡ length memory
+  pub compiled-size : length (memoryAfter reply memory) ≡ length memory
   compiled-size = within-size memory compiled-within
 
   pub compiled-length : producedNumbers (reply .answer) .length ≡ length (reply .written)
@@ -74,7 +75,8 @@ module _ (bytes memory : List ℕ) where
   pub compiled-most : producedNumbers (reply .answer) .length ≤ 185051
   compiled-most = most reply (compiled-replied bytes (length memory))
 
-  in-code : (size : ℕ) (p : Production) → Replied bytes (length memory) p → p .answer ≡ Written size → InCode bytes memory size (producedMemory p memory)
+  in-code : (size : ℕ) (p : Production) → Replied bytes (length memory) p → p .answer ≡ Written size → InCode bytes memory size (memoryAfter p memory)
+  unfolding memoryAfter
   in-code size p (Replied.faulty f h) e = absurd (false≢true (ap isWritten e))
   in-code size p (Replied.short n h l) e = absurd (false≢true (ap isWritten e))
   in-code size p (Replied.whole n h l) e =
@@ -88,5 +90,5 @@ module _ (bytes memory : List ℕ) where
         written = ap (λ (k : ℕ). codeOf (scopesOf bytes) ++ drop k memory) whole;
       }
 
-  pub compiled-code : (size : ℕ) → reply .answer ≡ Written size → InCode bytes memory size (producedMemory reply memory)
+  pub compiled-code : (size : ℕ) → reply .answer ≡ Written size → InCode bytes memory size (memoryAfter reply memory)
   compiled-code size = in-code size reply (compiled-replied bytes (length memory))

@@ -7,9 +7,10 @@ use lib.Seq.{take-append-seam, drop-append-seam}
 use borrow.Author.Tests.{le-leb}
 use Rattle.book.specs.Decode.{scopesOf}
 use Rattle.book.specs.Judge.{judge}
+use Rattle.answers.specs.Response.{memoryAfter}
 use Rattle.answers.specs.Numbers.{producedNumbers}
 use Rattle.answers.specs.declared.Judged.the-variants.{Accepted}
-use Rattle.evaluation.specs.Evaluate.{Reply, evaluate, memoryAfter}
+use Rattle.evaluation.specs.Evaluate.{Reply, evaluate}
 use Rattle.evaluator.specs.Service.{Evaluated}
 use Rattle.translation.specs.Blocks.{codeOf}
 use Rattle.machine.specs.Service.{run}
@@ -38,7 +39,8 @@ module _ (bytes : List ℕ) (n i : ℕ) (list : List ℕ) (m : Memories) (r : An
   answered = compiling .answer ∙ ap (λ (c : Production). c .answer) compiles
 
   memory : m .codeAfter ≡ code ++ drop (length code) (m .codeBefore)
-  memory = compiling .memory ∙ ap (λ (c : Production). c .written ++ drop (length (c .written)) (m .codeBefore)) compiles
+  unfolding memoryAfter
+  memory = compiling .memory ∙ ap (λ (c : Production). memoryAfter c (m .codeBefore)) compiles
 
   wrote : writtenCode m r ≡ code
   wrote = rw (answered, memory) (take-append-seam code (drop (length code) (m .codeBefore)))

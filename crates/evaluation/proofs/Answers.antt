@@ -18,6 +18,7 @@ use native.Mathlib.Omega.{arith}
 use lib.ListN.{length, drop, length-append, length-drop}
 use lib.Dec.{ltb, leb}
 use borrow.Author.Tests.{ltb-true, ltb-false, leb-true, leb-false}
+use Rattle.answers.specs.Response.{onJudged, memoryAfter}
 use Rattle.answers.specs.declared.Cause.{Cause}
 use Rattle.answers.specs.declared.Cause.the-variants.{Empty}
 use Rattle.laws.proofs.Booleans.{decide}
@@ -32,7 +33,7 @@ use Rattle.lists.proofs.Lengths.{length-most}
 use Rattle.acceptance.proofs.Acceptance.{accepted-count}
 use Rattle.acceptance.proofs.Orders.{accepted-book}
 use Rattle.evaluation.specs.Run.{Entered, values, ended, runScope}
-use Rattle.evaluation.specs.Evaluate.{countIn, lengthIn, Reply, replyOf, fitting, onInputs, asked, onJudged, evaluate, memoryAfter}
+use Rattle.evaluation.specs.Evaluate.{countIn, lengthIn, Reply, refuse, replyOf, fitting, onInputs, asked, evaluate}
 use Rattle.evaluation.specs.Answers.{Asked, Entering, Replied, InValues, InEnd}
 use Rattle.answers.specs.declared.Refusal.{Refusal}
 use Rattle.answers.specs.declared.Answer.{Answer}
@@ -78,7 +79,7 @@ module _ (bytes : List ℕ) (i : ℕ) (list : List ℕ) (room : ℕ) where
       (λ (q : ltb i (length book) ≡ false). rw q (Replied.absent n h (omega (arith, ltb-false i (length book) q, count))))
       (decide (ltb i (length book)))
 
-  on-judged : (j : Judged) → judge bytes ≡ j → Replied bytes i list room (onJudged j (asked (scopesOf bytes) i list room))
+  on-judged : (j : Judged) → judge bytes ≡ j → Replied bytes i list room (onJudged refuse j (asked (scopesOf bytes) i list room))
   on-judged (judged.Accepted n) h = on-asked n h
   on-judged (judged.Refused f) h = Replied.faulty f h
 

@@ -13,6 +13,7 @@ use Rattle.book.specs.Decode.{scopesOf}
 use Rattle.book.specs.References.{scopeAt}
 use Rattle.book.specs.Judge.{judge}
 use Rattle.book.specs.declared.Variable.{Variable}
+use Rattle.answers.specs.Response.{onJudged}
 use Rattle.answers.specs.declared.Fault.{Fault}
 use Rattle.answers.specs.declared.Judged.{Judged}
 use Rattle.answers.specs.declared.Judged.the-variants as judged
@@ -21,12 +22,12 @@ use Rattle.acceptance.proofs.Acceptance.{accepted-count}
 use Rattle.lists.specs.Inputs.{bad, good, inputs}
 use Rattle.lists.specs.Results.{resultLength}
 use Rattle.evaluation.specs.Run.{runScope}
-use Rattle.evaluation.specs.Evaluate.{replyOf, refuse, asked, onJudged, evaluate}
+use Rattle.evaluation.specs.Evaluate.{replyOf, refuse, asked, evaluate}
 
 module _ (bytes : List ℕ) (i : ℕ) (list : List ℕ) (room : ℕ) where
-  judged-so : (j : Judged) → judge bytes ≡ j → evaluate bytes i list room ≡ onJudged j (asked (scopesOf bytes) i list room)
+  judged-so : (j : Judged) → judge bytes ≡ j → evaluate bytes i list room ≡ onJudged refuse j (asked (scopesOf bytes) i list room)
   unfolding evaluate
-  judged-so j e = ap (λ (k : Judged). onJudged k (asked (scopesOf bytes) i list room)) e
+  judged-so j e = ap (λ (k : Judged). onJudged refuse k (asked (scopesOf bytes) i list room)) e
 
   pub evaluate-faulty : (f : Fault) → judge bytes ≡ judged.Refused f → evaluate bytes i list room ≡ refuse (Book f)
   evaluate-faulty f e = judged-so (judged.Refused f) e

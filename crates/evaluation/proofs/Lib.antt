@@ -8,6 +8,5 @@ mod Environments
 pub mod Readiness
 pub mod Types
 pub mod Meaning
-pub mod Replies
 pub mod Cases
 pub mod Answers

@@ -1,23 +1,21 @@
--- The service: what evaluating answers, and what every byte of the result memory holds afterwards.
+-- The service: what evaluating answers, and which bytes it writes.
 use Prim.Native.Nat.{ℕ}
-use mathlib.Core.Path.{_≡_}
 use mathlib.Core.Bool.{cond}
-use mathlib.Core.List.{List, [], _++_, reverse}
-use lib.ListN.{length, drop}
+use mathlib.Core.List.{List, [], reverse}
+use lib.ListN.{length}
 use lib.Dec.{ltb, leb}
 use Rattle.book.specs.Syntax.{Scope}
 use Rattle.book.specs.References.{scopeAt}
 use Rattle.book.specs.Decode.{scopesOf}
 use Rattle.book.specs.Scopes.{blocks}
 use Rattle.book.specs.Judge.{judge}
-use Rattle.answers.specs.declared.Judged.{Judged}
-use Rattle.answers.specs.declared.Judged.the-variants as judged
 use Rattle.lists.specs.Inputs.{Inputs, bad, good, inputs}
 use Rattle.lists.specs.Results.{resultLength, results}
 use Rattle.evaluation.specs.Run.{Entered, values, ended, enter}
+use Rattle.answers.specs.Response.{Response, onJudged}
 use Rattle.answers.specs.Numbers.{answerNumbers}
 use Rattle.answers.specs.declared.Refusal.{Refusal}
-use Rattle.answers.specs.declared.Refusal.the-variants.{Book, NoSuchScope, BadInput, BufferTooSmall}
+use Rattle.answers.specs.declared.Refusal.the-variants.{NoSuchScope, BadInput, BufferTooSmall}
 use Rattle.answers.specs.declared.Answer.{Answer}
 use Rattle.answers.specs.declared.Answer.the-variants.{Values, Ended, Refused}
 
@@ -29,10 +27,9 @@ countIn a = answerNumbers a .count
 abbrev pub lengthIn : Answer → ℕ
 lengthIn a = answerNumbers a .length
 
--- an answer, and the bytes that it writes
-pub record Reply : Type 0 where
-  pub answer : Answer
-  pub written : List ℕ
+-- the answer of an evaluation or a run, and the bytes that it writes
+abbrev pub Reply : Type 0
+Reply = Response Answer
 
 abbrev pub refuse : Refusal → Reply
 refuse r = record { answer = Refused r; written = [] }
@@ -56,19 +53,6 @@ unfoldable pub asked : List Scope → ℕ → List ℕ → ℕ → Reply
 asked book i bytes room =
     cond (ltb i (length book)) (onInputs (inputs (scopeAt book i .variables) bytes) room book i) (refuse NoSuchScope)
 
-abbrev pub onJudged : Judged → Reply → Reply
-onJudged (judged.Accepted n) r = r
-onJudged (judged.Refused f) r = refuse (Book f)
-
 -- evaluating scope i of a book with an input list, for a result memory of this length
 unfoldable pub evaluate : List ℕ → ℕ → List ℕ → ℕ → Reply
-evaluate book i bytes room = onJudged (judge book) (asked (scopesOf book) i bytes room)
-
--- "Lent memory changes only where code or values are written, from its first byte, and nothing after them"
-unfoldable pub memoryAfter : Reply → List ℕ → List ℕ
-memoryAfter r memory = r .written ++ drop (length (r .written)) memory
-
--- the answer, and the result memory before and after, are those of a reply
-pub record Replies (reply : Reply) (before : List ℕ) (r : Answer) (after : List ℕ) : Type 0 where
-  pub answer : r ≡ reply .answer
-  pub memory : after ≡ memoryAfter reply before
+evaluate book i bytes room = onJudged refuse (judge book) (asked (scopesOf book) i bytes room)

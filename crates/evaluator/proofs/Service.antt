@@ -24,7 +24,7 @@ use Rattle.evaluation.specs.Evaluate.{replyOf, evaluate}
 use Rattle.answers.specs.declared.Refusal.the-variants.{Book, NoSuchScope, BadInput, BufferTooSmall}
 use Rattle.answers.specs.declared.Answer.{Answer}
 use Rattle.answers.specs.declared.Answer.the-variants.{Refused}
-use Rattle.evaluation.proofs.Replies.{same-reply, refuses}
+use Rattle.answers.proofs.Response.{same-response, nothing-written}
 use Rattle.evaluation.proofs.Cases.{evaluate-faulty, evaluate-absent, evaluate-malformed, evaluate-short, evaluate-run}
 use Rattle.scopes.specs.Steps.{givensFrom, enteredAt}
 use Rattle.scopes.specs.Known.{Known}
@@ -35,21 +35,21 @@ use Rattle.evaluator.specs.Service.{Asked, Evaluated}
 
 pub refused-book : (bytes : List ℕ) (i : ℕ) (list : List ℕ) {memory : List ℕ} {f : Fault} → judge bytes ≡ judged.Refused f
     → Evaluated bytes i list memory (Refused (Book f)) memory
-refused-book bytes i list {memory} {f} e = refuses (Book f) (evaluate-faulty bytes i list (length memory) f e)
+refused-book bytes i list {memory} {f} e = nothing-written (evaluate-faulty bytes i list (length memory) f e)
 
 module _ (bytes : List ℕ) (n i : ℕ) (ok : judge bytes ≡ judged.Accepted n) where
   pub refused-scope : (list : List ℕ) {memory : List ℕ} → n ≤ i → Evaluated bytes i list memory (Refused NoSuchScope) memory
-  refused-scope list {memory} l = refuses NoSuchScope (evaluate-absent bytes i list (length memory) n ok l)
+  refused-scope list {memory} l = nothing-written (evaluate-absent bytes i list (length memory) n ok l)
 
   module _ (here : i < n) where
     pub refused-input : (list : List ℕ) {memory : List ℕ} → inputs (scopeAt (scopesOf bytes) i .variables) list ≡ bad → Evaluated bytes i list memory (Refused BadInput) memory
-    refused-input list {memory} e = refuses BadInput (evaluate-malformed bytes i list (length memory) n ok here e)
+    refused-input list {memory} e = nothing-written (evaluate-malformed bytes i list (length memory) n ok here e)
 
     module _ {list given : List ℕ} (taken : Taken (scopeAt (scopesOf bytes) i .variables) list given) where
       pub refused-room : {memory : List ℕ} → length memory < resultLengthAt (scopesOf bytes) i → Evaluated bytes i list memory (Refused BufferTooSmall) memory
       unfolding resultLengthAt
       refused-room {memory} l =
-          refuses BufferTooSmall (evaluate-short bytes i list (length memory) n ok here (taken .givens) (taken .list) l)
+          nothing-written (evaluate-short bytes i list (length memory) n ok here (taken .givens) (taken .list) l)
 
       pub evaluated : {memory after : List ℕ} {r : Answer} → resultLengthAt (scopesOf bytes) i ≤ length memory → Replied bytes i given memory r after
           → Evaluated bytes i list memory r after
@@ -59,7 +59,7 @@ module _ (bytes : List ℕ) (n i : ℕ) (ok : judge bytes ≡ judged.Accepted n)
           let e : evaluate bytes i list (length memory) ≡ replyOf (runScope (scopesOf bytes) i gs) =
           evaluate-run bytes i list (length memory) n ok here (taken .givens) (taken .list) l
           ∙ ap (λ (xs : List Given). replyOf (runScope (scopesOf bytes) i xs)) (sym (taken-givens taken)) in
-          same-reply e q
+          same-response e q
 
 module _ {bytes index orders : List ℕ} {n i : ℕ} {given memory : List ℕ} (a : Asked bytes index orders n i given memory) where
   pub blank-links : (size : ℕ) → n * 834 ≤ size → Blanks bytes index n (replicate size 255)

@@ -8,11 +8,12 @@ use Rattle.book.specs.References.{scopeAt}
 use Rattle.book.specs.Steps.{stepCount, stepOrder}
 use Rattle.book.specs.Judge.{judge}
 use Rattle.index.specs.Index.{Laid}
+use Rattle.answers.specs.Response.{Responds}
 use Rattle.answers.specs.declared.Judged.the-variants.{Accepted}
 use Rattle.cells.specs.Codec.{AllKept}
 use Rattle.lists.specs.Writing.{resultLengthAt}
 use Rattle.evaluation.specs.Types.{Fitting}
-use Rattle.evaluation.specs.Evaluate.{evaluate, Replies}
+use Rattle.evaluation.specs.Evaluate.{evaluate}
 use Rattle.answers.specs.declared.Answer.{Answer}
 use Rattle.scopes.specs.Steps.{givensFrom}
 
@@ -34,4 +35,4 @@ pub record Asked (bytes index orders : List ℕ) (n i : ℕ) (given memory : Lis
 
 -- the answer and the memory are those of evaluating
 abbrev pub Evaluated : List ℕ → ℕ → List ℕ → List ℕ → Answer → List ℕ → Type 0
-Evaluated bytes i list before = Replies (evaluate bytes i list (length before)) before
+Evaluated bytes i list before = Responds (evaluate bytes i list (length before)) before

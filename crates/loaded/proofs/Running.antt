@@ -3,11 +3,12 @@
 --     values-so, ends-so    the answer of a run
 -- Assumes nothing.
 use Prim.Native.Nat.{ℕ, zero, suc, _+_, _<_}
-use mathlib.Core.Path.{_≡_, refl, sym, ap, _∙_}
+use mathlib.Core.Path.{_≡_, sym, ap, _∙_}
 use mathlib.Core.Bool.{true, false≢true}
 use mathlib.Core.List.{List, [], _∷_}
 use native.Mathlib.Omega.{arith}
 use lib.ListN.{length, getD}
+use Rattle.answers.specs.Response.{memoryAfter}
 use Rattle.answers.specs.declared.Cause.{Cause}
 use Rattle.answers.specs.declared.Answer.the-variants.{Values, Ended}
 use Rattle.calculus.specs.declared.Given.{Given}
@@ -27,8 +28,8 @@ use Rattle.lists.specs.Writing.{valuesFrom, valuesOf, valueType, isOf, resultLe
 use Rattle.lists.specs.Writing as writing
 use Rattle.evaluation.specs.Run.{values, ended}
 use Rattle.evaluation.specs.Types.{ValuesFit}
-use Rattle.evaluation.specs.Evaluate.{replyOf, memoryAfter}
-use Rattle.evaluation.proofs.Replies.{same-reply}
+use Rattle.evaluation.specs.Evaluate.{replyOf}
+use Rattle.answers.proofs.Response.{same-response, nothing-written}
 use Rattle.evaluation.proofs.Types.{values-typed, values-length}
 use Rattle.scopes.specs.Steps.{enteredAt, ranView, Came}
 use Rattle.scopes.specs.Known.{Entry}
@@ -65,10 +66,9 @@ module _ {bytes index links orders : List ℕ} {i : ℕ} {given memo memory : Li
 
   module _ {r : Ran} {own : List ℕ} (came : Came bytes i given r own) where
     pub ends-so : {c : Cause} {m : ℕ} → r ≡ ran.Ended c m → Replied bytes i given memory (Ended c m) memory
-    unfolding memoryAfter
     ends-so {c} {m} e =
         let same : enteredAt bytes i given ≡ ended c m = sym (came .same) ∙ ap (λ (z : Ran). ranView z own (length (scopeAt (scopesOf bytes) i .variables))) e in
-        same-reply (ap replyOf same) (record { answer = refl; memory = refl })
+        nothing-written (ap replyOf same)
 
     module _ {m : ℕ} (e : r ≡ ran.Values m) where
       same : enteredAt bytes i given ≡ values (valuesOf own (length (scopeAt (scopesOf bytes) i .variables))) m
@@ -96,4 +96,4 @@ module _ {bytes index links orders : List ℕ} {i : ℕ} {given memo memory : Li
           → Replied bytes i given memory (Values m size) after
       unfolding resultLengthAt resultMemory memoryAfter
       values-so {size} {after} s q =
-          same-reply (ap replyOf same) (record { answer = ap (Values m) (s ∙ size-known); memory = q })
+          same-response (ap replyOf same) (record { answer = ap (Values m) (s ∙ size-known); memory = q })

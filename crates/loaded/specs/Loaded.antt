@@ -3,6 +3,7 @@ use Prim.Native.Nat.{ℕ, _<_, _≤_}
 use mathlib.Core.Path.{_≡_}
 use mathlib.Core.List.{List}
 use lib.ListN.{length, replicate}
+use Rattle.answers.specs.Response.{Responds}
 use Rattle.answers.specs.declared.Answer.{Answer}
 use Rattle.answers.specs.declared.Judged.{Judged}
 use Rattle.answers.specs.declared.Judged.the-variants.{Accepted}
@@ -13,7 +14,7 @@ use Rattle.book.specs.Decode.{scopesOf}
 use Rattle.book.specs.References.{scopeAt}
 use Rattle.lists.specs.Writing.{resultLengthAt}
 use Rattle.evaluation.specs.Types.{Fitting}
-use Rattle.evaluation.specs.Evaluate.{replyOf, Replies}
+use Rattle.evaluation.specs.Evaluate.{replyOf}
 use Rattle.scopes.specs.Steps.{World, givensFrom, enteredAt}
 use Rattle.scopes.specs.Known.{Known}
 
@@ -44,4 +45,4 @@ pub record RunsLoaded (bytes index links orders : List ℕ) (i : ℕ) (given mem
 
 -- the answer and the memory are those of a run with what the cells give
 abbrev pub Replied : List ℕ → ℕ → List ℕ → List ℕ → Answer → List ℕ → Type 0
-Replied bytes i given = Replies (replyOf (enteredAt bytes i given))
+Replied bytes i given = Responds (replyOf (enteredAt bytes i given))

@@ -9,13 +9,14 @@ use mathlib.Core.List.{List, [], _∷_, _++_, append-nil}
 use native.Mathlib.Omega.{arith}
 use lib.ListN.{length, set, take, drop, replicate, length-append, length-drop, length-set, drop-of-length-le}
 use lib.Seq.{take-append-seam}
+use Rattle.answers.specs.Response.{memoryAfter}
 use Rattle.answers.specs.Numbers.{answerNumbers}
 use Rattle.answers.specs.declared.Answer.{Answer}
 use Rattle.slices.proofs.Parts.{all-left, lent-length}
 use Rattle.book.specs.Decode.{scopesOf}
 use Rattle.lists.specs.Writing.{resultLengthAt}
 use Rattle.evaluation.specs.Run.{Entered, values, ended}
-use Rattle.evaluation.specs.Evaluate.{Reply, replyOf, memoryAfter}
+use Rattle.evaluation.specs.Evaluate.{Reply, replyOf}
 use Rattle.evaluation.proofs.Types.{values-length}
 use Rattle.scopes.specs.Steps.{enteredAt}
 use Rattle.loaded.specs.Loaded.{RunsLoaded, Replied}

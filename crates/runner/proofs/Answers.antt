@@ -12,9 +12,9 @@
 --     ran-length              the length in the answer is that of the bytes written
 --     ran-count, ran-short    the count is 4,096 at most, and the length 192
 -- Assumes nothing.
-use Prim.Native.Nat.{ℕ, zero, suc, _*_, _≤_, _+_, _-_}
+use Prim.Native.Nat.{ℕ, zero, suc, _≤_}
 use mathlib.Core.Path.{_≡_, refl, sym, ap, subst, _∙_}
-use mathlib.Core.Bool.{Bool, true, false, not, cond, false≢true, true≢false}
+use mathlib.Core.Bool.{Bool, true, false, not, false≢true, true≢false}
 use mathlib.Core.List.{List, [], _∷_, _++_, map}
 use mathlib.Core.Logic.{⊎-elim}
 use native.Mathlib.Omega.{arith}
@@ -24,6 +24,7 @@ use borrow.Author.Tests.{eqb-true, leb-true, leb-false}
 use Rattle.laws.proofs.Booleans.{decide, both}
 use Rattle.calculus.specs.declared.Value.{Value}
 use Rattle.calculus.specs.declared.Given.{Given}
+use Rattle.answers.specs.Response.{memoryAfter}
 use Rattle.answers.specs.declared.Cause.{Cause}
 use Rattle.answers.specs.declared.Refusal.{Refusal}
 use Rattle.answers.specs.declared.Answer.{Answer}
@@ -37,7 +38,7 @@ use Rattle.lists.specs.Writing.{valueType}
 use Rattle.lists.proofs.Lengths.{length-most}
 use Rattle.evaluation.specs.Run.{values, ended}
 use Rattle.evaluation.specs.Types.{Fitting, ValuesFit}
-use Rattle.evaluation.specs.Evaluate.{countIn, lengthIn, Reply, memoryAfter}
+use Rattle.evaluation.specs.Evaluate.{countIn, lengthIn, Reply}
 use Rattle.evaluation.proofs.Types.{inputs-fitting, results-size}
 use Rattle.evaluation.proofs.Answers.{isValues, isEnd, causeIn}
 use Rattle.machine.specs.Blocks.{Block, emptyBlock, parse, blocksOf, hasBlock, variablesOf}

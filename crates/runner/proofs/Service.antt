@@ -15,6 +15,7 @@ use lib.ListN.{length, getD, List·getD-eq-default}
 use lib.Dec.{ltb}
 use borrow.Author.Tests.{le-leb, lt-leb, ltb-true, ltb-false}
 use Rattle.laws.proofs.Booleans.{decide}
+use Rattle.answers.specs.Response.{memoryAfter}
 use Rattle.answers.specs.declared.Cause.{Cause}
 use Rattle.calculus.specs.declared.Given.{Given}
 use Rattle.book.specs.declared.Variable.{Variable}
@@ -25,12 +26,11 @@ use Rattle.lists.specs.Writing.{valuesOf, written}
 use Rattle.lists.proofs.Types.{typed-count}
 use Rattle.evaluation.specs.Run.{values}
 use Rattle.evaluation.specs.Types.{Fitting}
-use Rattle.evaluation.specs.Evaluate.{memoryAfter}
 use Rattle.answers.specs.declared.Refusal.the-variants as refusal
 use Rattle.answers.specs.declared.Answer.{Answer}
 use Rattle.answers.specs.declared.Answer.the-variants.{Values, Ended, Refused}
 use Rattle.evaluation.proofs.Types.{inputs-fitting}
-use Rattle.evaluation.proofs.Replies.{same-reply, refuses}
+use Rattle.answers.proofs.Response.{same-response, nothing-written}
 use Rattle.machine.specs.Blocks.{blocksOf, variablesOf}
 use Rattle.machine.specs.Machine as machine
 use Rattle.machine.specs.Run.{runIn}
@@ -53,7 +53,7 @@ use Rattle.runner.proofs.Types.{types-are}
 pub refused-code : (code spans heads places : List ℕ) (i : ℕ) (list : List ℕ) {memory : List ℕ} (v : Verdict) → v ≡ verdict.Refused → Judged code spans heads places v
     → Runs code i list memory (Refused refusal.BadCode) memory
 unfolding run
-refused-code code spans heads places i list v e j = refuses refusal.BadCode (rw (rw e at j))
+refused-code code spans heads places i list v e j = nothing-written (rw (rw e at j))
 
 pub ready : {code spans heads places : List ℕ} {n : ℕ} (v : Verdict) → v ≡ verdict.Accepted n → Judged code spans heads places v → Room spans heads places
     → Ready code spans heads places
@@ -70,7 +70,7 @@ module _ {code spans heads places : List ℕ} (o : Ready code spans heads places
 
   pub refused-scope : (list : List ℕ) {memory : List ℕ} → getD places i 0 ≡ 0 → Runs code i list memory (Refused refusal.NoSuchScope) memory
   unfolding asked
-  refused-scope list {memory} z = refuses refusal.NoSuchScope (is-asked list (length memory) ∙ rw (has-none (o .accepts) (o .tabled) i z))
+  refused-scope list {memory} z = nothing-written (is-asked list (length memory) ∙ rw (has-none (o .accepts) (o .tabled) i z))
 
   module _ (place : ℕ) (e : place ≡ getD places i 0) (there : place ≡ 0 → ⊥) where
     small : i < 32
@@ -116,14 +116,14 @@ module _ {code spans heads places : List ℕ} (o : Ready code spans heads places
       are-typed = ap typed t ∙ types-are o p block-there
 
       pub refused-input : (list : List ℕ) {memory : List ℕ} → inputs (typed types) list ≡ bad → Runs code i list memory (Refused refusal.BadInput) memory
-      refused-input list {memory} b = refuses refusal.BadInput (is-there list (length memory) ∙ rw (rw are-typed at b))
+      refused-input list {memory} b = nothing-written (is-there list (length memory) ∙ rw (rw are-typed at b))
 
       module _ {list given : List ℕ} (taken : Taken (typed types) list given) where
         is-good : inputs variables list ≡ good (taken .givens)
         is-good = ap (λ (vs : List Variable). inputs vs list) (sym are-typed) ∙ taken .list
 
         pub refused-room : {memory : List ℕ} → length memory < resultLength (typed types) → Runs code i list memory (Refused refusal.BufferTooSmall) memory
-        refused-room {memory} l = refuses refusal.BufferTooSmall (is-there list (length memory) ∙ rw (is-good, the-variables, lt-leb (resultLength variables) (length memory) (rw are-typed at l)))
+        refused-room {memory} l = nothing-written (is-there list (length memory) ∙ rw (is-good, the-variables, lt-leb (resultLength variables) (length memory) (rw are-typed at l)))
 
         same-givens : givensAt given 0 (variablesAt code p) ≡ taken .givens
         unfolding variablesAt
@@ -146,7 +146,7 @@ module _ {code spans heads places : List ℕ} (o : Ready code spans heads places
         answers {memory} {after} {r} l q =
             let k : run code i list (length memory) ≡ reply (runAt code p (givensAt given 0 (variablesAt code p))) =
             is-there list (length memory) ∙ good-list ∙ ap (λ (gs : List Given). reply (runAt code p gs)) (sym same-givens) in
-            same-reply k q
+            same-response k q
           where
             good-list : onInputs (inputs variables list) (length memory) (blocksOf code) i ≡ reply (runAt code p (taken .givens))
             good-list = rw (is-good, the-variables, le-leb (resultLength variables) (length memory) (rw are-typed at l), the-run (taken .givens))
@@ -171,7 +171,7 @@ module _ {code spans heads places : List ℕ} {p : ℕ} {types given memory : Li
 
     replied : {m : machine.Ran} {answer : Answer} {after : List ℕ} → runAt code p gs ≡ m → answer ≡ reply m .answer → after ≡ memoryAfter (reply m) memory
         → Replied code p given memory answer after
-    replied e x y = same-reply (ap reply e) (record { answer = x; memory = y })
+    replied e x y = same-response (ap reply e) (record { answer = x; memory = y })
 
     pub ends-so : {c : Cause} {m : ℕ} → r ≡ ran.Ended c m → Replied code p given memory (Ended c m) memory
     unfolding memoryAfter

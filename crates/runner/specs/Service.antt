@@ -7,7 +7,7 @@ use lib.ListN.{length}
 use Rattle.lists.specs.Reading.{typed}
 use Rattle.lists.specs.Results.{resultLength}
 use Rattle.evaluation.specs.Types.{Fitting}
-use Rattle.evaluation.specs.Evaluate.{Replies}
+use Rattle.answers.specs.Response.{Responds}
 use Rattle.answers.specs.declared.Answer.{Answer}
 use Rattle.machine.specs.Acceptance.{accepted}
 use Rattle.machine.specs.Service.{reply, run}
@@ -17,7 +17,7 @@ use Rattle.blocks.specs.Entries.{runAt, variablesAt}
 
 -- the answer and the memory are those of running
 abbrev pub Runs : List ℕ → ℕ → List ℕ → List ℕ → Answer → List ℕ → Type 0
-Runs code i list before = Replies (run code i list (length before)) before
+Runs code i list before = Responds (run code i list (length before)) before
 
 -- accepted code with its tables
 pub record Ready (code spans heads places : List ℕ) : Type 0 where
@@ -36,4 +36,4 @@ pub record Asked (code spans heads places : List ℕ) (p : ℕ) (types given mem
 
 -- the answer and the memory are those of entering block p with what the cells give
 abbrev pub Replied : List ℕ → ℕ → List ℕ → List ℕ → Answer → List ℕ → Type 0
-Replied code p given = Replies (reply (runAt code p (givensAt given 0 (variablesAt code p))))
+Replied code p given = Responds (reply (runAt code p (givensAt given 0 (variablesAt code p))))

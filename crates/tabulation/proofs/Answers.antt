@@ -23,8 +23,9 @@ use Rattle.book.specs.Decode.{scopesOf}
 use Rattle.book.specs.References.{scopeAt}
 use Rattle.book.specs.Judge.{judge}
 use Rattle.book.specs.declared.Variable.{Variable}
+use Rattle.answers.specs.Response.{onJudged, memoryAfter}
 use Rattle.answers.specs.Numbers.{producedNumbers}
-use Rattle.answers.specs.Production.{Production, fitting, onJudged, producedMemory}
+use Rattle.answers.specs.Production.{Production, refuse, fitting}
 use Rattle.answers.specs.declared.Judged.{Judged}
 use Rattle.answers.specs.declared.Judged.the-variants as judged
 use Rattle.answers.specs.declared.Refusal.{Refusal}
@@ -71,7 +72,7 @@ module _ (bytes : List ℕ) (i : ℕ) (chosen fixed : List ℕ) (room : ℕ) whe
       (λ (q : ltb i (length book) ≡ false). rw q (Replied.absent n h (omega (arith, ltb-false i (length book) q, count))))
       (decide (ltb i (length book)))
 
-  on-judged : (j : Judged) → judge bytes ≡ j → Replied bytes i chosen fixed room (onJudged j (asked bytes i chosen fixed room))
+  on-judged : (j : Judged) → judge bytes ≡ j → Replied bytes i chosen fixed room (onJudged refuse j (asked bytes i chosen fixed room))
   on-judged (judged.Accepted n) h = on-asked n h
   on-judged (judged.Refused f) h = Replied.faulty f h
 
@@ -114,17 +115,18 @@ module _ (bytes : List ℕ) (i : ℕ) (chosen fixed memory : List ℕ) where
   abbrev variables : List Variable
   variables = scopeAt (scopesOf bytes) i .variables
 
-  pub tabulated-refused : (r : Refusal) → reply .answer ≡ Refused r → producedMemory reply memory ≡ memory
+  pub tabulated-refused : (r : Refusal) → reply .answer ≡ Refused r → memoryAfter reply memory ≡ memory
   tabulated-refused r e = within-refused (tabulated-within bytes i chosen fixed (length memory)) r e memory
 
-  pub tabulated-unchanged : ((size : ℕ) → reply .answer ≡ Written size → ⊥) → producedMemory reply memory ≡ memory
+  pub tabulated-unchanged : ((size : ℕ) → reply .answer ≡ Written size → ⊥) → memoryAfter reply memory ≡ memory
   tabulated-unchanged other = within-unchanged (tabulated-within bytes i chosen fixed (length memory)) other memory
 
-  pub tabulated-size : length (producedMemory reply memory) ≡ length memory
+  pub tabulated-size : length (memoryAfter reply memory) ≡ length memory
   tabulated-size = within-size memory (tabulated-within bytes i chosen fixed (length memory))
 
   in-table : (size : ℕ) (p : Production) → Replied bytes i chosen fixed (length memory) p → p .answer ≡ Written size
-      → InTable bytes i chosen fixed memory size (producedMemory p memory)
+      → InTable bytes i chosen fixed memory size (memoryAfter p memory)
+  unfolding memoryAfter
   in-table size p (Replied.faulty f h) e = absurd (false≢true (ap isWritten e))
   in-table size p (Replied.absent n h l) e = absurd (false≢true (ap isWritten e))
   in-table size p (Replied.malformed a h) e = absurd (false≢true (ap isWritten e))
@@ -140,13 +142,13 @@ module _ (bytes : List ℕ) (i : ℕ) (chosen fixed memory : List ℕ) where
         written = ap (λ (k : ℕ). table bytes i chosen fixed ++ drop k memory) whole;
       }
 
-  pub tabulated-table : (size : ℕ) → reply .answer ≡ Written size → InTable bytes i chosen fixed memory size (producedMemory reply memory)
+  pub tabulated-table : (size : ℕ) → reply .answer ≡ Written size → InTable bytes i chosen fixed memory size (memoryAfter reply memory)
   tabulated-table size = in-table size reply (tabulated-replied bytes i chosen fixed (length memory))
 
   -- "Every choice is there once, with evaluation's answer": the row of an assignment, in the memory afterwards
   pub tabulated-choice : (size : ℕ) → reply .answer ≡ Written size → (a : List Bool) → length a ≡ length chosen
       → Rowed (resultLength variables) (evaluate bytes i (fixed ++ assigned (inOrder chosen variables) a) (resultLength variables))
-      (take (suc (resultLength variables)) (drop (binary a * suc (resultLength variables)) (producedMemory reply memory)))
+      (take (suc (resultLength variables)) (drop (binary a * suc (resultLength variables)) (memoryAfter reply memory)))
   tabulated-choice size e a long =
       let t = tabulated-table size e in
       rw (t .written, choice-in bytes i chosen fixed (t .choosing) (drop size memory) a long) (choice-answers bytes i chosen fixed (t .choosing) a long)

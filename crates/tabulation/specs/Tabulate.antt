@@ -5,8 +5,9 @@ use mathlib.Core.Bool.{Bool, cond}
 use mathlib.Core.List.{List, _∷_, _++_}
 use lib.ListN.{length, replicate}
 use lib.Dec.{ltb}
+use Rattle.answers.specs.Response.{onJudged, Responds}
 use Rattle.answers.specs.Numbers.{answerNumbers}
-use Rattle.answers.specs.Production.{Production, refuse, fitting, onJudged, Produces}
+use Rattle.answers.specs.Production.{Production, refuse, fitting}
 use Rattle.answers.specs.declared.Refusal.the-variants.{NoSuchScope, BadInput, BadChoice}
 use Rattle.answers.specs.declared.Produced.{Produced}
 use Rattle.book.specs.Decode.{scopesOf}
@@ -57,8 +58,8 @@ asked bytes i chosen fixed room =
 
 -- tabulating scope i of a book for the chosen variables with a fixed input list, for a memory of this length
 unfoldable pub tabulate : List ℕ → ℕ → List ℕ → List ℕ → ℕ → Production
-tabulate bytes i chosen fixed room = onJudged (judge bytes) (asked bytes i chosen fixed room)
+tabulate bytes i chosen fixed room = onJudged refuse (judge bytes) (asked bytes i chosen fixed room)
 
 -- the answer and the memory are those of tabulating
 abbrev pub Tabulates : List ℕ → ℕ → List ℕ → List ℕ → List ℕ → Produced → List ℕ → Type 0
-Tabulates bytes i chosen fixed before = Produces (tabulate bytes i chosen fixed (length before)) before
+Tabulates bytes i chosen fixed before = Responds (tabulate bytes i chosen fixed (length before)) before

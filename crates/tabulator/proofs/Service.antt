@@ -11,8 +11,10 @@ use mathlib.Core.List.{List, [], _∷_, _++_, map}
 use native.Mathlib.Omega.{arith}
 use lib.ListN.{length, getD, take, drop, set, length-set}
 use borrow.Author.Tests.{lt-ltb, le-ltb}
-use Rattle.answers.specs.Production.{refuse, fitting, onJudged}
-use Rattle.answers.proofs.Production.{same-production, produces-refusal, produces-all, produces-none}
+use Rattle.answers.specs.Response.{onJudged}
+use Rattle.answers.specs.Production.{refuse, fitting}
+use Rattle.answers.proofs.Response.{same-response, nothing-written}
+use Rattle.answers.proofs.Production.{produces-all, produces-none}
 use Rattle.answers.specs.declared.Fault.{Fault}
 use Rattle.answers.specs.declared.Judged.{Judged}
 use Rattle.answers.specs.declared.Judged.the-variants as judged
@@ -85,12 +87,12 @@ sized k e f = e ∙ ap (λ (x : ℕ). power k * suc x) f
 module _ (bytes : List ℕ) (i : ℕ) (chosen fixed : List ℕ) where
   pub refused-book : {memory : List ℕ} {f : Fault} → judge bytes ≡ judged.Refused f → Tabulates bytes i chosen fixed memory (Refused (Book f)) memory
   unfolding tabulate
-  refused-book {memory} {f} e = produces-refusal (Book f) (ap (λ (j : Judged). onJudged j (asked bytes i chosen fixed (length memory))) e)
+  refused-book {memory} {f} e = nothing-written (ap (λ (j : Judged). onJudged refuse j (asked bytes i chosen fixed (length memory))) e)
 
   module _ (n : ℕ) (ok : judge bytes ≡ judged.Accepted n) where
     is-asked : (room : ℕ) → tabulate bytes i chosen fixed room ≡ asked bytes i chosen fixed room
     unfolding tabulate
-    is-asked room = ap (λ (j : Judged). onJudged j (asked bytes i chosen fixed room)) ok
+    is-asked room = ap (λ (j : Judged). onJudged refuse j (asked bytes i chosen fixed room)) ok
 
     count : n ≡ length (scopesOf bytes)
     count = accepted-count bytes n ok
@@ -100,7 +102,7 @@ module _ (bytes : List ℕ) (i : ℕ) (chosen fixed : List ℕ) where
     none-asked room l = rw (le-ltb i (length (scopesOf bytes)) (omega (arith, count)))
 
     pub refused-scope : {memory : List ℕ} → n ≤ i → Tabulates bytes i chosen fixed memory (Refused NoSuchScope) memory
-    refused-scope {memory} l = produces-refusal NoSuchScope (is-asked (length memory) ∙ none-asked (length memory) l)
+    refused-scope {memory} l = nothing-written (is-asked (length memory) ∙ none-asked (length memory) l)
 
     module _ (here : i < n) where
       abbrev variables : List Variable
@@ -111,7 +113,7 @@ module _ (bytes : List ℕ) (i : ℕ) (chosen fixed : List ℕ) where
       bad-asked room e = rw (lt-ltb i (length (scopesOf bytes)) (omega (arith, count)), e)
 
       pub refused-input : {memory : List ℕ} → inputs variables fixed ≡ bad → Tabulates bytes i chosen fixed memory (Refused BadInput) memory
-      refused-input {memory} e = produces-refusal BadInput (is-asked (length memory) ∙ bad-asked (length memory) e)
+      refused-input {memory} e = nothing-written (is-asked (length memory) ∙ bad-asked (length memory) e)
 
       module _ {given : List ℕ} (taken : Taken variables fixed given) where
         same-choice : badChoice variables (map givenOf given) chosen ≡ badChoice variables (taken .givens) chosen
@@ -124,7 +126,7 @@ module _ (bytes : List ℕ) (i : ℕ) (chosen fixed : List ℕ) where
 
         pub refused-choice : {memory : List ℕ} → badChoice variables (map givenOf given) chosen ≡ true
             → Tabulates bytes i chosen fixed memory (Refused BadChoice) memory
-        refused-choice {memory} e = produces-refusal BadChoice (is-asked (length memory) ∙ chosen-asked (length memory) e)
+        refused-choice {memory} e = nothing-written (is-asked (length memory) ∙ chosen-asked (length memory) e)
 
         module _ (good : badChoice variables (map givenOf given) chosen ≡ false) where
           fits : badChoice variables (taken .givens) chosen ≡ false
@@ -181,7 +183,7 @@ module _ (bytes : List ℕ) (i : ℕ) (chosen fixed : List ℕ) where
             pub tabulated : {memory after : List ℕ} {r : Produced} → WritesTable bytes i chosen given memory r after
                 → Tabulates bytes i chosen fixed memory r after
             tabulated {memory} =
-                same-production
+                same-response
                 (is-asked (length memory) ∙ fitting-asked (length memory) ∙ ap (λ (t : List ℕ). fitting t (length memory)) (sym same-table))
 
 -- Writing the table

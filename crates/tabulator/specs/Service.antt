@@ -4,7 +4,8 @@ use mathlib.Core.Path.{_≡_}
 use mathlib.Core.Bool.{false}
 use mathlib.Core.List.{List}
 use lib.ListN.{length, take}
-use Rattle.answers.specs.Production.{fitting, Produces}
+use Rattle.answers.specs.Response.{Responds}
+use Rattle.answers.specs.Production.{fitting}
 use Rattle.answers.specs.declared.Produced.{Produced}
 use Rattle.book.specs.Decode.{scopesOf}
 use Rattle.book.specs.References.{scopeAt}
@@ -27,4 +28,4 @@ pub record TableAsked (bytes index links orders : List ℕ) (i : ℕ) (chosen or
 -- the answer and the memory are those of the rows of all assignments
 abbrev pub WritesTable : List ℕ → ℕ → List ℕ → List ℕ → List ℕ → Produced → List ℕ → Type 0
 WritesTable bytes i chosen given before =
-    Produces (fitting (cellRows bytes i (inOrder chosen (scopeAt (scopesOf bytes) i .variables)) given) (length before)) before
+    Responds (fitting (cellRows bytes i (inOrder chosen (scopeAt (scopesOf bytes) i .variables)) given) (length before)) before
