@@ -104,7 +104,7 @@ enum {
     ENGINE_BUFFER_TOO_SMALL = 15,  /* the memory lent for code, results or table */
     ENGINE_BAD_CODE = 16,          /* code that is not accepted */
     ENGINE_STUCK = 17,             /* code that is accepted and cannot go on: never code that engine_compile wrote */
-    ENGINE_BAD_CHOICE = 18         /* more than 12 chosen; or one chosen twice, absent, not yes/no, or in the list of inputs */
+    ENGINE_BAD_CHOICE = 18         /* the chosen variables: more than 12, or one of them twice, absent, not yes/no, or in the list of inputs */
 };
 
 /* The outcomes of an evaluation or a run that is not refused, and of a row. */

@@ -12,8 +12,7 @@ ghost use lib.ListN.{length};
 ghost use Rattle.book.specs.Judge.{judge as Judge·judge};
 ghost use Rattle.answers.specs.Numbers.{judgedNumbers};
 ghost use Rattle.numbers.specs.Packed.{Says};
-ghost use Rattle.capi.specs.Replies.{PackedEvaluation, PackedRun};
-ghost use Rattle.capi.specs.Productions.{PackedCompilation, PackedTabulation};
+ghost use Rattle.capi.specs.Packed.{PackedCompilation, PackedEvaluation, PackedRun, PackedTabulation};
 
 // Judges a book: refusal * 2^56 + number of scopes.
 #[no_mangle]

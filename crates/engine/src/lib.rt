@@ -28,10 +28,10 @@ pub struct Answers {
 }
 
 // The length of the code that compiling handed back; 0 with a refusal.
-fn written_length(c: Produced) -> usize
-    ensures { λ r. ⌜ r ≡ producedNumbers c .length ⌝ }
+fn written_length(p: Produced) -> usize
+    ensures { λ r. ⌜ r ≡ producedNumbers p .length ⌝ }
 {
-    match c {
+    match p {
         Produced::Written(n) => n,
         Produced::Refused(_) => 0,
     }

@@ -105,10 +105,10 @@ pub fn pack_judged(j: Judged) -> u64
 }
 
 // What compiling or tabulating answers, as one number.
-pub fn pack_produced(c: Produced) -> u64
-    ensures { λ r. ⌜ r ≡ packed (wrapped (producedNumbers c)) ⌝ }
+pub fn pack_produced(p: Produced) -> u64
+    ensures { λ r. ⌜ r ≡ packed (wrapped (producedNumbers p)) ⌝ }
 {
-    match c {
+    match p {
         Produced::Written(n) => pack(0, 0, 0, n),
         Produced::Refused(r) => pack(refusal_number(r), 0, 0, 0),
     }

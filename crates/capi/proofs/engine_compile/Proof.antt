@@ -1,7 +1,7 @@
 -- `capi::engine_compile` meets its contract.
 -- Assumes nothing.
 use borrow.Author.Needs.{needs}
-use Rattle.capi.proofs.Replies.{compiled}
+use Rattle.capi.proofs.Packed.{compiled}
 use Rattle.capi.proofs.engine_compile.Statement.{statement}
 use Rattle.capi.proofs.engine_compile.Tie as tie
 

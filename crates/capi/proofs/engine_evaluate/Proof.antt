@@ -1,7 +1,7 @@
 -- `capi::engine_evaluate` meets its contract.
 -- Assumes nothing.
 use borrow.Author.Needs.{needs}
-use Rattle.capi.proofs.Replies.{evaluated}
+use Rattle.capi.proofs.Packed.{evaluated}
 use Rattle.capi.proofs.engine_evaluate.Statement.{statement}
 use Rattle.capi.proofs.engine_evaluate.Tie as tie
 

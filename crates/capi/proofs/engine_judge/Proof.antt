@@ -3,7 +3,7 @@
 use borrow.Author.Needs.{needs}
 use Rattle.answers.specs.Numbers.{judgedNumbers}
 use Rattle.engine.proofs.Placed.{judge-placed}
-use Rattle.capi.proofs.Replies.{said}
+use Rattle.capi.proofs.Packed.{said}
 use Rattle.capi.proofs.engine_judge.Statement.{statement}
 use Rattle.capi.proofs.engine_judge.Tie as tie
 

@@ -1,7 +1,7 @@
 -- `capi::engine_run` meets its contract.
 -- Assumes nothing.
 use borrow.Author.Needs.{needs}
-use Rattle.capi.proofs.Replies.{ran}
+use Rattle.capi.proofs.Packed.{ran}
 use Rattle.capi.proofs.engine_run.Statement.{statement}
 use Rattle.capi.proofs.engine_run.Tie as tie
 

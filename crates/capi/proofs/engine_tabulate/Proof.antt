@@ -1,7 +1,7 @@
 -- `capi::engine_tabulate` meets its contract.
 -- Assumes nothing.
 use borrow.Author.Needs.{needs}
-use Rattle.capi.proofs.Replies.{tabulated}
+use Rattle.capi.proofs.Packed.{tabulated}
 use Rattle.capi.proofs.engine_tabulate.Statement.{statement}
 use Rattle.capi.proofs.engine_tabulate.Tie as tie
 
