@@ -45,14 +45,14 @@ causeNumber Empty = 1
 causeNumber Conflict = 2
 causeNumber OutOfRange = 3
 
--- what a service hands back, in numbers; refusal 0 where nothing is refused
+-- what a service hands back, in numbers; refusal 0 where nothing is refused. That what it does not hand back is 0 is the project's own
 pub record Numbers : Type 0 where
   pub refusal : ℕ
   pub outcome : ℕ
   pub count : ℕ
   pub length : ℕ
 
--- "A refusal returns its number and the count 0"; that outcome and length are 0 as well is the project's own
+-- "A refusal returns its number and the count 0"
 abbrev pub refusedNumbers : Refusal → Numbers
 refusedNumbers r = record { refusal = refusalNumber r; outcome = 0; count = 0; length = 0 }
 

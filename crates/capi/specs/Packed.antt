@@ -1,4 +1,4 @@
--- What the exported services answer, and what every byte of the lent memory holds afterwards.
+-- What the exported services answer that are lent memory, and what every byte of the lent memory holds afterwards.
 use Prim.Native.Nat.{ℕ}
 use mathlib.Core.Path.{_≡_}
 use mathlib.Core.List.{List}

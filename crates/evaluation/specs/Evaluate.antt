@@ -19,7 +19,7 @@ use Rattle.answers.specs.declared.Refusal.the-variants.{NoSuchScope, BadInput, 
 use Rattle.answers.specs.declared.Answer.{Answer}
 use Rattle.answers.specs.declared.Answer.the-variants.{Values, Ended, Refused}
 
--- "A refusal returns its number and the count 0"
+-- the count in an answer
 abbrev pub countIn : Answer → ℕ
 countIn a = answerNumbers a .count
 

@@ -39,7 +39,7 @@ use Rattle.lists.specs.Results.{resultLength}
 use Rattle.evaluation.specs.Answers.{Asked}
 use Rattle.evaluation.specs.Evaluate.{evaluate}
 use Rattle.tabulation.specs.Chosen.{badChoice, inOrder}
-use Rattle.tabulation.specs.Assignments.{binary, assigned}
+use Rattle.tabulation.specs.Assignments.{rowNumber, assigned}
 use Rattle.tabulation.specs.Tabulate.{table, onInputs, asked, tabulate}
 use Rattle.tabulation.specs.Answers.{Tabulable, Rowed, Replied, InTable}
 use Rattle.tabulation.proofs.Rows.{table-length, choice-in, choice-answers, table-most}
@@ -48,7 +48,11 @@ use Rattle.tabulation.proofs.Rows.{table-length, choice-in, choice-answ
 
 module _ (bytes : List ℕ) (i : ℕ) (chosen fixed : List ℕ) (room : ℕ) where
   on-fitting : Tabulable bytes i chosen fixed → Replied bytes i chosen fixed room (fitting (table bytes i chosen fixed) room)
-  on-fitting c = fitting-cases (Replied bytes i chosen fixed room) (table bytes i chosen fixed) room (Replied.whole c) (Replied.short c)
+  on-fitting c =
+      let long = table-length bytes i chosen fixed c in
+      fitting-cases (Replied bytes i chosen fixed room) (table bytes i chosen fixed) room
+      (λ l. rw long (Replied.whole c (omega (arith, l, long))))
+      (λ l. Replied.short c (omega (arith, l, long)))
 
   on-inputs : Asked bytes i → (r : Inputs) → inputs (scopeAt (scopesOf bytes) i .variables) fixed ≡ r
       → Replied bytes i chosen fixed room (onInputs r (scopeAt (scopesOf bytes) i .variables) chosen (fitting (table bytes i chosen fixed) room))
@@ -89,7 +93,9 @@ module _ (bytes : List ℕ) (i : ℕ) (chosen fixed : List ℕ) (room : ℕ) whe
   within p (Replied.malformed a h) = Within.refused BadInput
   within p (Replied.unfit a given h q) = Within.refused BadChoice
   within p (Replied.short c l) = Within.refused BufferTooSmall
-  within p (Replied.whole c l) = Within.whole (table bytes i chosen fixed) l
+  within p (Replied.whole c l) =
+      let long = table-length bytes i chosen fixed c in
+      rw (← long) (Within.whole (table bytes i chosen fixed) (omega (arith, l, long)))
 
   tabulated-within : Within room (tabulate bytes i chosen fixed room)
   tabulated-within = within (tabulate bytes i chosen fixed room) (tabulated-replied bytes i chosen fixed room)
@@ -103,7 +109,7 @@ module _ (bytes : List ℕ) (i : ℕ) (chosen fixed : List ℕ) (room : ℕ) whe
   most p (Replied.malformed a h) = omega arith
   most p (Replied.unfit a given h q) = omega arith
   most p (Replied.short c l) = omega arith
-  most p (Replied.whole c l) = table-most bytes i chosen fixed c
+  most p (Replied.whole c l) = omega (arith, table-length bytes i chosen fixed c, table-most bytes i chosen fixed c)
 
   pub tabulated-most : producedNumbers (tabulate bytes i chosen fixed room .answer) .length ≤ 643072
   tabulated-most = most (tabulate bytes i chosen fixed room) (tabulated-replied bytes i chosen fixed room)
@@ -133,12 +139,13 @@ module _ (bytes : List ℕ) (i : ℕ) (chosen fixed memory : List ℕ) where
   in-table size p (Replied.unfit a given h q) e = absurd (false≢true (ap isWritten e))
   in-table size p (Replied.short c l) e = absurd (false≢true (ap isWritten e))
   in-table size p (Replied.whole c l) e =
-      let whole : length (table bytes i chosen fixed) ≡ size = ap (λ (r : Produced). producedNumbers r .length) e in
+      let long = ap (λ (r : Produced). producedNumbers r .length) e in
+      let whole : length (table bytes i chosen fixed) ≡ size = table-length bytes i chosen fixed c ∙ long in
       record {
         choosing = c;
         whole = whole;
-        long = sym whole ∙ table-length bytes i chosen fixed c;
-        fits = omega (arith, l, whole);
+        long = sym long;
+        fits = omega (arith, l, long);
         written = ap (λ (k : ℕ). table bytes i chosen fixed ++ drop k memory) whole;
       }
 
@@ -148,7 +155,7 @@ module _ (bytes : List ℕ) (i : ℕ) (chosen fixed memory : List ℕ) where
   -- "Every choice is there once, with evaluation's answer": the row of an assignment, in the memory afterwards
   pub tabulated-choice : (size : ℕ) → reply .answer ≡ Written size → (a : List Bool) → length a ≡ length chosen
       → Rowed (resultLength variables) (evaluate bytes i (fixed ++ assigned (inOrder chosen variables) a) (resultLength variables))
-      (take (suc (resultLength variables)) (drop (binary a * suc (resultLength variables)) (memoryAfter reply memory)))
+      (take (suc (resultLength variables)) (drop (rowNumber a * suc (resultLength variables)) (memoryAfter reply memory)))
   tabulated-choice size e a long =
       let t = tabulated-table size e in
       rw (t .written, choice-in bytes i chosen fixed (t .choosing) (drop size memory) a long) (choice-answers bytes i chosen fixed (t .choosing) a long)

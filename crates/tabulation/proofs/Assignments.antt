@@ -1,6 +1,6 @@
 -- The assignments of k variables: "Every choice is there once".
 --     assignments-count     there are 2^k
---     binary-below          an assignment's binary number is one of theirs
+--     row-number-below          an assignment's binary number is one of theirs
 --     assignment-at         an assignment stands at its binary number
 --     assignment-length     what stands at a number is an assignment of k variables
 --     assignment-once       and that number is its binary number, so that it stands nowhere else
@@ -16,7 +16,7 @@ use lib.Seq.{getD-append-add}
 use lib.Dec.{ltb}
 use borrow.Author.Tests.{ltb-true, ltb-false}
 use Rattle.laws.proofs.Booleans.{decide}
-use Rattle.tabulation.specs.Assignments.{assignments, power, binary}
+use Rattle.tabulation.specs.Assignments.{assignments, power, rowNumber}
 
 -- two lists made of one
 two-halves : (f g : List Bool → List Bool) (xs : List (List Bool)) → length (map f xs ++ map g xs) ≡ 2 * length xs
@@ -59,11 +59,11 @@ module _ (k n : ℕ) (l : n < power k) where
       ∙ getD-append-add (map withNo xs) (map withYes xs) n []
       ∙ map-at withYes xs n (omega arith)
 
-pub binary-below : (a : List Bool) → binary a < power (length a)
-unfolding binary power
-binary-below [] = omega arith
-binary-below (false ∷ bs) = let l = binary-below bs in omega arith
-binary-below (true ∷ bs) = let l = binary-below bs in omega arith
+pub row-number-below : (a : List Bool) → rowNumber a < power (length a)
+unfolding rowNumber power
+row-number-below [] = omega arith
+row-number-below (false ∷ bs) = let l = row-number-below bs in omega arith
+row-number-below (true ∷ bs) = let l = row-number-below bs in omega arith
 
 -- of no variable there is one assignment
 of-none : (P : ℕ → List Bool → Type 0) → P 0 [] → (n : ℕ) → n < power 0 → P n (getD (assignments 0) n [])
@@ -71,15 +71,15 @@ unfolding assignments power
 of-none P p zero l = p
 of-none P p (suc n) l = absurd (omega arith)
 
-pub assignment-at : (a : List Bool) → getD (assignments (length a)) (binary a) [] ≡ a
-unfolding binary power
+pub assignment-at : (a : List Bool) → getD (assignments (length a)) (rowNumber a) [] ≡ a
+unfolding rowNumber power
 assignment-at [] = of-none (λ n a. a ≡ []) refl 0 (omega arith)
 assignment-at (false ∷ bs) =
-    let z : 0 * power (length bs) + binary bs ≡ binary bs = omega arith in
-    rw z (first-no (length bs) (binary bs) (binary-below bs) ∙ ap withNo (assignment-at bs))
+    let z : 0 * power (length bs) + rowNumber bs ≡ rowNumber bs = omega arith in
+    rw z (first-no (length bs) (rowNumber bs) (row-number-below bs) ∙ ap withNo (assignment-at bs))
 assignment-at (true ∷ bs) =
-    let z : 1 * power (length bs) + binary bs ≡ power (length bs) + binary bs = omega arith in
-    rw z (then-yes (length bs) (binary bs) (binary-below bs) ∙ ap withYes (assignment-at bs))
+    let z : 1 * power (length bs) + rowNumber bs ≡ power (length bs) + rowNumber bs = omega arith in
+    rw z (then-yes (length bs) (rowNumber bs) (row-number-below bs) ∙ ap withYes (assignment-at bs))
 
 -- a number below 2^(k+1) is one below 2^k, or such a one and 2^k
 by-halves : (P : ℕ → List Bool → Type 0) (k : ℕ) → ((n : ℕ) → n < power k → P n (false ∷ getD (assignments k) n []))
@@ -101,11 +101,11 @@ assignment-length zero n l = of-none (λ n a. length a ≡ 0) refl n l
 assignment-length (suc k) n l =
     by-halves (λ n a. length a ≡ suc k) k (λ n h. ap suc (assignment-length k n h)) (λ n h. ap suc (assignment-length k n h)) n l
 
-pub assignment-once : (k n : ℕ) → n < power k → binary (getD (assignments k) n []) ≡ n
-unfolding binary
-assignment-once zero n l = of-none (λ n a. binary a ≡ n) refl n l
+pub assignment-once : (k n : ℕ) → n < power k → rowNumber (getD (assignments k) n []) ≡ n
+unfolding rowNumber
+assignment-once zero n l = of-none (λ n a. rowNumber a ≡ n) refl n l
 assignment-once (suc k) n l =
-    by-halves (λ n a. binary a ≡ n) k
+    by-halves (λ n a. rowNumber a ≡ n) k
     (λ n h. let e = assignment-once k n h in omega arith)
     (λ n h. let e = assignment-once k n h in rw (assignment-length k n h) (omega arith))
     n l

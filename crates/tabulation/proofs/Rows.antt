@@ -36,12 +36,12 @@ use Rattle.evaluation.specs.Evaluate.{Reply, replyOf, evaluate}
 use Rattle.evaluation.proofs.Types.{inputs-fitting, values-length}
 use Rattle.evaluation.proofs.Cases.{evaluate-run}
 use Rattle.tabulation.specs.Chosen.{badChoice, inOrder}
-use Rattle.tabulation.specs.Assignments.{assignments, power, binary, assigned}
+use Rattle.tabulation.specs.Assignments.{assignments, power, rowNumber, assigned}
 use Rattle.tabulation.specs.Giving.{giving}
 use Rattle.tabulation.specs.Tabulate.{rowOf, row, table}
 use Rattle.tabulation.specs.Answers.{Tabulable, Rowed}
 use Rattle.tabulation.proofs.Chosen.{order-repeated, order-fit, chosen-count, chosen-few}
-use Rattle.tabulation.proofs.Assignments.{assignments-count, assignment-at, assignment-length, binary-below}
+use Rattle.tabulation.proofs.Assignments.{assignments-count, assignment-at, assignment-length, row-number-below}
 use Rattle.tabulation.proofs.Giving.{assigned-inputs}
 use Rattle.tabulation.proofs.Widths.{results-narrow, rows-most}
 
@@ -163,23 +163,23 @@ module _ (bytes : List ℕ) (i : ℕ) (chosen fixed : List ℕ) (c : Tabulable b
       ∙ ap (λ (k : ℕ). row bytes i chosen fixed (getD (assignments k) n [])) as-many
 
   pub choice-row : (a : List Bool) → length a ≡ length chosen
-      → take (suc (resultLength scopeVariables)) (drop (binary a * suc (resultLength scopeVariables)) (table bytes i chosen fixed)) ≡ row bytes i chosen fixed a
+      → take (suc (resultLength scopeVariables)) (drop (rowNumber a * suc (resultLength scopeVariables)) (table bytes i chosen fixed)) ≡ row bytes i chosen fixed a
   choice-row a e =
-      row-at (binary a) (rw (← e) (binary-below a))
-      ∙ ap (λ (k : ℕ). row bytes i chosen fixed (getD (assignments k) (binary a) [])) (sym e)
+      row-at (rowNumber a) (rw (← e) (row-number-below a))
+      ∙ ap (λ (k : ℕ). row bytes i chosen fixed (getD (assignments k) (rowNumber a) [])) (sym e)
       ∙ ap (row bytes i chosen fixed) (assignment-at a)
 
   -- it lies in the table, whatever stands behind that
   pub choice-in : (rest : List ℕ) (a : List Bool) → length a ≡ length chosen
-      → take (suc (resultLength scopeVariables)) (drop (binary a * suc (resultLength scopeVariables)) (table bytes i chosen fixed ++ rest))
+      → take (suc (resultLength scopeVariables)) (drop (rowNumber a * suc (resultLength scopeVariables)) (table bytes i chosen fixed ++ rest))
       ≡ row bytes i chosen fixed a
   choice-in rest a e =
       let width = suc (resultLength scopeVariables) in
       let whole = table bytes i chosen fixed in
-      let at = binary a * width in
-      let below : suc (binary a) ≤ power (length chosen) = rw (← e) (binary-below a) in
-      let inside : suc (binary a) * width ≤ power (length chosen) * width = mul-le-mul-right width below in
-      let end : at + width ≤ length whole = omega (arith, inside, suc-mul (binary a) width, table-length) in
+      let at = rowNumber a * width in
+      let below : suc (rowNumber a) ≤ power (length chosen) = rw (← e) (row-number-below a) in
+      let inside : suc (rowNumber a) * width ≤ power (length chosen) * width = mul-le-mul-right width below in
+      let end : at + width ≤ length whole = omega (arith, inside, suc-mul (rowNumber a) width, table-length) in
       ap (take width) (drop-append-le at whole rest (omega (arith, end)))
       ∙ take-append-le width (drop at whole) rest (omega (arith, end, length-drop at whole))
       ∙ choice-row a e

@@ -31,6 +31,10 @@ pub record Tabulable (bytes : List ℕ) (i : ℕ) (chosen fixed : List ℕ) : Ty
   pub read : inputs (scopeAt (scopesOf bytes) i .variables) fixed ≡ good given
   pub fit : badChoice (scopeAt (scopesOf bytes) i .variables) given chosen ≡ false
 
+-- the length of the table, which is known before a row is: 2^k rows of one byte and the results
+abbrev pub tableLength : List ℕ → ℕ → List ℕ → ℕ
+tableLength bytes i chosen = power (length chosen) * suc (resultLength (scopeAt (scopesOf bytes) i .variables))
+
 -- the row of what evaluating replies, its results being of this length: "the results, or as many zero bytes where there are no values"
 pub data Rowed (size : ℕ) : Reply → List ℕ → Type 0 where
   inValues : (count : ℕ) (written : List ℕ) → length written ≡ size → Rowed size (record { answer = Values count size; written = written }) (0 ∷ written)
@@ -43,14 +47,14 @@ pub data Replied (bytes : List ℕ) (i : ℕ) (chosen fixed : List ℕ) (room : 
   malformed : Asked bytes i → inputs (scopeAt (scopesOf bytes) i .variables) fixed ≡ bad → Replied bytes i chosen fixed room (refuse BadInput)
   unfit : Asked bytes i → (given : List Given) → inputs (scopeAt (scopesOf bytes) i .variables) fixed ≡ good given
       → badChoice (scopeAt (scopesOf bytes) i .variables) given chosen ≡ true → Replied bytes i chosen fixed room (refuse BadChoice)
-  short : Tabulable bytes i chosen fixed → room < length (table bytes i chosen fixed) → Replied bytes i chosen fixed room (refuse BufferTooSmall)
-  whole : Tabulable bytes i chosen fixed → length (table bytes i chosen fixed) ≤ room
-      → Replied bytes i chosen fixed room (record { answer = Written (length (table bytes i chosen fixed)); written = table bytes i chosen fixed })
+  short : Tabulable bytes i chosen fixed → room < tableLength bytes i chosen → Replied bytes i chosen fixed room (refuse BufferTooSmall)
+  whole : Tabulable bytes i chosen fixed → tableLength bytes i chosen ≤ room
+      → Replied bytes i chosen fixed room (record { answer = Written (tableLength bytes i chosen); written = table bytes i chosen fixed })
 
 -- where the answer is a length: the memory before and after
 pub record InTable (bytes : List ℕ) (i : ℕ) (chosen fixed memory : List ℕ) (size : ℕ) (after : List ℕ) : Type 0 where
   pub choosing : Tabulable bytes i chosen fixed
   pub whole : length (table bytes i chosen fixed) ≡ size
-  pub long : size ≡ power (length chosen) * suc (resultLength (scopeAt (scopesOf bytes) i .variables))
+  pub long : size ≡ tableLength bytes i chosen
   pub fits : size ≤ length memory
   pub written : after ≡ table bytes i chosen fixed ++ drop size memory

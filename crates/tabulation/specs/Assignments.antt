@@ -15,10 +15,11 @@ unfoldable pub power : ℕ → ℕ
 power zero = 1
 power (suc k) = 2 * power k
 
--- "Every choice is there once": at the row of its binary number (choice-row), the first variable being the highest digit
-unfoldable pub binary : List Bool → ℕ
-binary [] = 0
-binary (b ∷ bs) = bit b * power (length bs) + binary bs
+-- the number of an assignment's row, from 0: no is the digit 0 and yes 1, the first variable the highest digit. That "Every choice is there once",
+-- at this row, are the theorems choice-row and assignment-once
+unfoldable pub rowNumber : List Bool → ℕ
+rowNumber [] = 0
+rowNumber (b ∷ bs) = bit b * power (length bs) + rowNumber bs
 
 -- the input records of an assignment of as many variables: "kind 1 (variable, 0 or 1)"
 unfoldable pub assigned : List ℕ → List Bool → List ℕ

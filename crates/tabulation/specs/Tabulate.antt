@@ -26,7 +26,7 @@ abbrev pub padded : ℕ → List ℕ → List ℕ
 padded size bytes = bytes ++ replicate (size - length bytes) 0
 
 -- "Each line holds one byte of outcome (0 values, 1 empty, 2 conflict, 3 out of range) and the results, or as many zero bytes where there are no
--- values": the row of what evaluating replies, its results being of this length
+-- values": the row of what evaluating replies, its results being of this length. A refused reply, which has no outcome, would read as 0
 unfoldable pub rowOf : ℕ → Reply → List ℕ
 rowOf size reply = answerNumbers (reply .answer) .outcome ∷ padded size (reply .written)
 
@@ -44,7 +44,7 @@ table bytes i chosen fixed =
     let variables = scopeAt (scopesOf bytes) i .variables in
     gathered (row bytes i chosen fixed) (assignments (length (inOrder chosen variables)))
 
--- "Turned away: 18, .. after 14, before 15"
+-- 14 where the fixed input list is bad; "Turned away: 18, .. after 14, before 15"
 abbrev pub onInputs : Inputs → List Variable → List ℕ → Production → Production
 onInputs bad variables chosen p = refuse BadInput
 onInputs (good given) variables chosen p = cond (badChoice variables given chosen) (refuse BadChoice) p
