@@ -1,10 +1,11 @@
 -- The outcome of a node of a row, by its kind: one law for each way through the code.
---     readable-below           a node below one that can be evaluated can be
---     whole-kind .. byte-5     the bytes that each kind has
---     named                    what a node names
---     constant .. default      the outcome of a node over those of the nodes that it names
+--     readable-below              a node below one that can be evaluated can be
+--     first-byte .. default-byte  the bytes that each kind has
+--     leaf-readable, leaf-here    a leaf, by `Leaves`
+--     not-below .. default-below  what the others name
+--     empty .. unjustified        their outcome over those of the nodes that they name
 -- Assumes nothing.
-use Prim.Native.Nat.{ℕ, zero, suc, _+_, _*_, _<_, _≤_}
+use Prim.Native.Nat.{ℕ, zero, suc, _+_, _<_, _≤_}
 use mathlib.Core.Path.{_≡_, refl, sym, ap, _∙_}
 use mathlib.Core.Bool.{Bool, true, false, cond}
 use mathlib.Core.List.{List, [], _∷_}
@@ -12,13 +13,9 @@ use mathlib.Core.Logic.{_⊎_, inl, inr, ⊎-elim}
 use native.Mathlib.Omega.{arith}
 use native.Mathlib.Nat.{eq-or-lt-of-le}
 use lib.ListN.{length, getD, drop}
-use lib.Dec.{T, eqb, leb}
-use lib.IntN.{ℤ}
-use mir.Syntax.{w32}
-use mir.Val.{SFits}
+use lib.Dec.{T, eqb, leb, leb→le}
 use types.Run.{OneOf}
 use borrow.Author.Tests.{eq-eqb, ne-eqb, eqb-false}
-use Rattle.slices.specs.Bytes.{numberAt}
 use Rattle.record.specs.Kinds.{kinds, shapesOf, shapeIn}
 use Rattle.record.proofs.Decision.{NoneOf}
 use Rattle.laws.proofs.Booleans.{decide}
@@ -27,7 +24,6 @@ use Rattle.calculus.specs.Defaults.{gather, settle}
 use Rattle.calculus.specs.Terms.{Term, Terms, none, also}
 use Rattle.calculus.specs.Evaluation.{Env, eval, exceptions}
 use Rattle.calculus.proofs.Numbers.{zero-fits}
-use Rattle.calculus.specs.declared.Value.the-variants as value
 use Rattle.answers.specs.declared.Cause.the-variants as cause
 use Rattle.calculus.specs.declared.Outcome.{Outcome}
 use Rattle.calculus.specs.declared.Outcome.the-variants.{Gives, Ends}
@@ -40,17 +36,15 @@ use Rattle.book.specs.Syntax.{noNode, nodeOf, typeOf}
 use Rattle.book.specs.Positions.{nodeFrom, nodeLength}
 use Rattle.book.specs.Trees.{exception, nodeTerm, termBelow}
 use Rattle.book.specs.declared.Node.{Node}
-use Rattle.book.specs.declared.Node.the-variants.{Constant, Number, Own, Called, Empty, Conflict, Unary, Binary, Choice, Default}
+use Rattle.book.specs.declared.Node.the-variants.{Empty, Conflict, Unary, Binary, Choice, Default}
 use Rattle.book.proofs.Terms.{term-here}
-use Rattle.index.proofs.Bodies.{after, number-after, body-byte, kind-inside, default-inside, keys}
-use Rattle.cells.specs.Codec.{conflictCell, emptyCell, manyCell, yesCell, truthCell, valueCell, cellOf, gatheredCell, heldCell, Codes, Gathers}
-use Rattle.cells.specs.Cells.{givenAt}
+use Rattle.index.proofs.Bodies.{after, body-byte, kind-inside, default-inside, keys}
+use Rattle.cells.specs.Codec.{conflictCell, emptyCell, manyCell, yesCell, cellOf, gatheredCell, Codes, Gathers}
 use Rattle.terms.specs.Operators.{operator, OnOne, OnTwo, OnBoth}
-use Rattle.terms.specs.Outcomes.{envOf, nodesIn, outcomeIn, gatherIn, defaultFrom, Names, NamesException, Stands, Readable, GathersIn}
+use Rattle.terms.specs.Outcomes.{envOf, nodesIn, outcomeIn, gatherIn, isLeaf, defaultFrom, Names, NamesException, Stands, Readable, ReadableLeaf, CodesLeaf, GathersIn}
 use Rattle.terms.proofs.Defaults.{no-so-far, settled-many, settled, unsettled}
 use Rattle.cells.proofs.Codec.{no-end, no-value, is-yes}
-use Rattle.cells.proofs.Variables.{held-is}
-use Rattle.terms.proofs.Operators.{truth-codes, number-codes}
+use Rattle.terms.proofs.Leaves.{inner-kinds, own-node, called-node}
 
 at-or-past : (m k : ℕ) → m ≤ k → (k ≡ m) ⊎ (m < k)
 at-or-past m k l = ⊎-elim (λ (e : m ≡ k). inl (sym e)) inr (eq-or-lt-of-le {n = m} {m = k} l)
@@ -67,23 +61,18 @@ binary-of k body (inr (inr (inl e))) = rw e
 binary-of k body (inr (inr (inr (inl e)))) = rw e
 binary-of k body (inr (inr (inr (inr e)))) = rw e
 
--- the single kinds of the decision over a node's kind, the last first; the others lie between two bounds, or not
+-- the single kinds of the decision over the kind of a node that is no leaf, the last first; the others lie between two bounds, or not
 abbrev pub singles : List (List ℕ)
-singles = (17 ∷ []) ∷ (11 ∷ []) ∷ (10 ∷ []) ∷ (9 ∷ []) ∷ (8 ∷ []) ∷ (7 ∷ []) ∷ (6 ∷ []) ∷ (5 ∷ []) ∷ (4 ∷ []) ∷ []
+singles = (17 ∷ []) ∷ (11 ∷ []) ∷ (10 ∷ []) ∷ (9 ∷ []) ∷ (8 ∷ []) ∷ []
 
 abbrev pub Two : ℕ → Type 0
-Two k = NoneOf singles k × (4 ≤ k) × (k < 17)
+Two k = NoneOf singles k × (8 ≤ k) × (k < 17)
 
 abbrev pub Other : ℕ → Type 0
-Other k = NoneOf singles k × ((k < 4) ⊎ (17 ≤ k))
+Other k = (isLeaf k ≡ false) × NoneOf singles k × ((k < 8) ⊎ (17 ≤ k))
 
-past : (m k : ℕ) → m ≤ k → (k ≡ m → ⊥) → suc m ≤ k
-past m k l e = ⊎-elim (λ (q : k ≡ m). absurd (e q)) (λ (h : m < k). h) (at-or-past m k l)
-
-from-twelve : (k : ℕ) → NoneOf singles k → 4 ≤ k → 12 ≤ k
-from-twelve k out l =
-    let n = out .0 in
-    past 11 k (past 10 k (past 9 k (past 8 k (past 7 k (past 6 k (past 5 k (past 4 k l (n .0 .0 .0 .0 .0 .0 .0 .1)) (n .0 .0 .0 .0 .0 .0 .1)) (n .0 .0 .0 .0 .0 .1)) (n .0 .0 .0 .0 .1)) (n .0 .0 .0 .1)) (n .0 .0 .1)) (n .0 .1)) (n .1)
+from-twelve : (k : ℕ) → NoneOf singles k → 8 ≤ k → 12 ≤ k
+from-twelve k (n, _) l = omega (arith, n .0 .0 .0 .1, n .0 .0 .1, n .0 .1, n .1)
 
 two-of : (k : ℕ) → Two k → OneOf twos k
 two-of k (out, l, h) =
@@ -93,15 +82,20 @@ two-of k (out, l, h) =
     ⊎-elim inl (λ (c : 14 < k). inr (
     ⊎-elim inl (λ (d : 15 < k). inr (omega arith)) (at-or-past 15 k (omega arith)))) (at-or-past 14 k (omega arith)))) (at-or-past 13 k (omega arith)))) (at-or-past 12 k m)
 
-apart : (k m : ℕ) → (k < 4) ⊎ (17 ≤ k) → 12 ≤ m → m ≤ 16 → k ≡ m → ⊥
-apart k m (inl l) a b e = omega arith
-apart k m (inr l) a b e = omega arith
+outside : (k : ℕ) → (k < 4) ⊎ (8 ≤ k) → (k < 8) ⊎ (17 ≤ k) → (k < 4) ⊎ (17 ≤ k)
+outside k (inl l) far = inl l
+outside k (inr h) (inl l) = absurd (omega arith)
+outside k (inr h) (inr l) = inr l
 
--- the same, each kind by itself
+apart : (k m : ℕ) → (k < 4) ⊎ (17 ≤ k) → T (leb 4 m) → T (leb m 16) → k ≡ m → ⊥
+apart k m (inl l) a b e = let h = leb→le 4 m a in omega arith
+apart k m (inr l) a b e = let h = leb→le m 16 b in omega arith
+
+-- an other kind is none of the single kinds of all nodes
 no-kind : (k : ℕ) → Other k → NoneOf keys k
-no-kind k (out, far) =
-    let not : (m : ℕ) → 12 ≤ m → m ≤ 16 → k ≡ m → ⊥ = λ m. apart k m far in
-    ((((((out .0, not 12 (omega arith) (omega arith)), not 13 (omega arith) (omega arith)), not 14 (omega arith) (omega arith)), not 15 (omega arith) (omega arith)), not 16 (omega arith) (omega arith)), out .1)
+no-kind k (inner, out, far) =
+    let no : (m : ℕ) → T (leb 4 m) → T (leb m 16) → k ≡ m → ⊥ = λ m. apart k m (outside k (inner-kinds k inner) far) in
+    ((((((((((((((tt, no 4 tt tt), no 5 tt tt), no 6 tt tt), no 7 tt tt), no 8 tt tt), no 9 tt tt), no 10 tt tt), no 11 tt tt), no 12 tt tt), no 13 tt tt), no 14 tt tt), no 15 tt tt), no 16 tt tt), out .1)
 
 default-of : (k : ℕ) (body : List ℕ) → NoneOf keys k
     → nodeOf k body ≡ Default (getD body 0 0) (getD body 1 0) (getD body 2 0) (getD body 3 0) (getD body 4 0)
@@ -228,22 +222,6 @@ module _ (bytes row own called : List ℕ) (n : ℕ) (s : Readable bytes row own
       (term-here (nodesIn bytes row) (suc n) n (omega arith) ∙ ap (nodeTerm (termBelow (nodesIn bytes row) n)) (getD-nodes bytes row n (here .inside) ∙ e))
 
   -- the node, by its kind
-  constant-node : kind ≡ 4 → nodeFrom bytes at ≡ Constant (eqb (byte 1) 1)
-  unfolding nodeFrom nodeOf
-  constant-node e = rw (e, after bytes at 0)
-
-  number-node : kind ≡ 5 → nodeFrom bytes at ≡ Number (numberAt bytes (at + 1))
-  unfolding nodeFrom nodeOf
-  number-node e = rw (e, number-after bytes at)
-
-  own-node : kind ≡ 6 → nodeFrom bytes at ≡ Own (byte 1)
-  unfolding nodeFrom nodeOf
-  own-node e = rw (e, after bytes at 0)
-
-  called-node : kind ≡ 7 → nodeFrom bytes at ≡ Called (byte 1) (byte 2)
-  unfolding nodeFrom nodeOf
-  called-node e = rw (e, after bytes at 0, after bytes at 1)
-
   empty-node : kind ≡ 8 → nodeFrom bytes at ≡ Empty (typeOf (byte 1))
   unfolding nodeFrom nodeOf
   empty-node e = rw (e, after bytes at 0)
@@ -274,10 +252,6 @@ module _ (bytes row own called : List ℕ) (n : ℕ) (s : Readable bytes row own
       rw (default-of kind (drop (at + 1) bytes) (no-kind kind out), after bytes at 0, after bytes at 1, after bytes at 2, after bytes at 3, after bytes at 4)
 
   -- the bytes that it has
-  pub called-byte : kind ≡ 7 → at + 2 < length bytes
-  unfolding nodeLength shapeIn shapesOf kinds
-  called-byte e = byte-of 7 2 e tt
-
   pub binary-byte : Two kind → at + 2 < length bytes
   unfolding nodeLength shapeIn shapesOf kinds
   binary-byte h = go (two-of kind h)
@@ -297,11 +271,15 @@ module _ (bytes row own called : List ℕ) (n : ℕ) (s : Readable bytes row own
   default-byte out l = default-inside bytes at (here .whole) (no-kind kind out) l 5 (omega arith)
 
   -- what it names
-  pub own-there : kind ≡ 6 → byte 1 < length own
-  own-there e = named _ (own-node e)
-
-  pub called-there : kind ≡ 7 → byte 1 * 32 + byte 2 < length called
-  called-there e = named _ (called-node e)
+  pub leaf-readable : isLeaf kind ≡ true → ReadableLeaf bytes own called at
+  leaf-readable e = record {
+    leaf = e;
+    whole = here .whole;
+    ownThere = λ q. named _ (own-node bytes at q);
+    calledThere = λ q. named _ (called-node bytes at q);
+    ownKept = s .ownKept;
+    calledKept = s .calledKept;
+  }
 
   pub not-below : kind ≡ 10 → byte 1 < n
   not-below e = named _ (not-node e)
@@ -320,21 +298,8 @@ module _ (bytes row own called : List ℕ) (n : ℕ) (s : Readable bytes row own
   default-below e = named _ e
 
   -- its outcome
-  pub constant : kind ≡ 4 → (r : ℕ) → r ≡ truthCell (eqb (byte 1) 1) → Codes r (outcome n)
-  unfolding eval
-  constant e r h = rw (found _ (constant-node e)) (truth-codes r _ _ h refl)
-
-  pub number : kind ≡ 5 → (r : ℕ) (z : ℤ) → SFits w32 z → z ≡ numberAt bytes (at + 1) → r ≡ valueCell (value.Number z) → Codes r (outcome n)
-  unfolding eval
-  number e r z f q h = rw (found _ (number-node e), ← q) (number-codes r z f h)
-
-  pub own-read : kind ≡ 6 → (r : ℕ) → r ≡ heldCell (getD own (byte 1) 0) → Codes r (outcome n)
-  unfolding eval givenAt
-  own-read e r h = rw (found _ (own-node e), h, held-is (getD own (byte 1) 0)) (s .ownKept (byte 1))
-
-  pub called-read : kind ≡ 7 → (r : ℕ) → r ≡ heldCell (getD called (byte 1 * 32 + byte 2) 0) → Codes r (outcome n)
-  unfolding eval givenAt
-  called-read e r h = rw (found _ (called-node e), h, held-is (getD called (byte 1 * 32 + byte 2) 0)) (s .calledKept (byte 1 * 32 + byte 2))
+  pub leaf-here : (r : ℕ) → CodesLeaf bytes own called at r → Codes r (outcome n)
+  leaf-here r h = rw (found (nodeFrom bytes at) refl) (h (termBelow (nodesIn bytes row) n))
 
   pub empty : kind ≡ 8 → Codes emptyCell (outcome n)
   unfolding eval cellOf

@@ -1,19 +1,20 @@
 -- What the nodes of a scope evaluate to, by its row of positions, over the cells of its variables and of its sub-scopes' variables.
 use Prim.Native.Nat.{ℕ, suc, _+_, _*_, _<_, _≤_}
 use mathlib.Core.Path.{_≡_}
-use mathlib.Core.Bool.{cond}
+use mathlib.Core.Bool.{Bool, true, false, cond, _&&_}
 use mathlib.Core.List.{List, [], _∷_}
 use lib.ListN.{length, getD}
-use lib.Dec.{eqb}
+use lib.Dec.{eqb, leb, ltb}
+use Rattle.calculus.specs.Terms.{Term}
 use Rattle.calculus.specs.Evaluation.{Env, eval}
 use Rattle.calculus.specs.Defaults.{gather}
 use Rattle.calculus.specs.declared.Outcome.{Outcome}
 use Rattle.calculus.specs.declared.Gathered.{Gathered}
 use Rattle.book.specs.Positions.{nodeFrom, nodeLength}
-use Rattle.book.specs.Trees.{termBelow}
+use Rattle.book.specs.Trees.{nodeTerm, termBelow}
 use Rattle.book.specs.declared.Node.{Node}
 use Rattle.book.specs.declared.Node.the-variants as node
-use Rattle.cells.specs.Codec.{Gathers, AllKept}
+use Rattle.cells.specs.Codec.{Codes, Gathers, AllKept}
 use Rattle.cells.specs.Cells.{givenAt, held}
 
 -- one cell for each own variable, 32 for each sub-scope
@@ -66,7 +67,29 @@ pub record Readable (bytes row own called : List ℕ) (n : ℕ) : Type 0 where
   pub ownKept : AllKept own
   pub calledKept : AllKept called
 
--- so can node n, a default
+-- a node of this kind is a leaf, which names no node: 4 a constant, 5 a number, 6 an own variable, 7 a sub-scope's
+unfoldable pub isLeaf : ℕ → Bool
+isLeaf k = leb 4 k && ltb k 8
+
+-- the leaf at a position can be read
+pub record ReadableLeaf (bytes own called : List ℕ) (at : ℕ) : Type 0 where
+  pub leaf : isLeaf (getD bytes at 0) ≡ true
+  pub whole : at + nodeLength (getD bytes at 0) < length bytes
+  pub ownThere : getD bytes at 0 ≡ 6 → getD bytes (at + 1) 0 < length own
+  pub calledThere : getD bytes at 0 ≡ 7 → getD bytes (at + 1) 0 * 32 + getD bytes (at + 2) 0 < length called
+  pub ownKept : AllKept own
+  pub calledKept : AllKept called
+
+-- the cell is that of its outcome, whatever the terms of lower nodes are
+abbrev pub CodesLeaf : List ℕ → List ℕ → List ℕ → ℕ → ℕ → Type 0
+CodesLeaf bytes own called at r = (lower : ℕ → Term) → Codes r (eval (envOf own called) (nodeTerm lower (nodeFrom bytes at)))
+
+-- node n can be evaluated, and is no leaf
+pub record ReadableInner (bytes row own called : List ℕ) (n : ℕ) : Type 0 where
+  pub readable : Readable bytes row own called n
+  pub inner : isLeaf (getD bytes (getD row n 0) 0) ≡ false
+
+-- node n, a default, can be evaluated
 pub record ReadableDefault (bytes row own called : List ℕ) (n : ℕ) : Type 0 where
   pub readable : Readable bytes row own called n
   pub whole : getD row n 0 + 5 < length bytes

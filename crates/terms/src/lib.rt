@@ -13,7 +13,6 @@ use integers::number_at;
 use integers::number_of;
 use record::KIND_ADD;
 use record::KIND_AND;
-use record::KIND_CALLED;
 use record::KIND_CHOICE;
 use record::KIND_CONFLICT;
 use record::KIND_CONSTANT;
@@ -32,7 +31,7 @@ ghost use Rattle.calculus.specs.declared.Value.the-variants.{Number};
 ghost use Rattle.calculus.specs.declared.Unary.the-variants.{Not, Negate};
 ghost use Rattle.cells.specs.Codec.{truthCell, valueCell, payload, heldCell, Codes};
 ghost use Rattle.terms.specs.Operators.{operator, OnOne, OnTwo, OnBoth};
-ghost use Rattle.terms.specs.Outcomes.{outcomeIn, Readable, ReadableDefault, ReadableException, GathersIn};
+ghost use Rattle.terms.specs.Outcomes.{outcomeIn, isLeaf, Readable, ReadableLeaf, CodesLeaf, ReadableInner, ReadableDefault, ReadableException, GathersIn};
 ghost use Rattle.terms.specs.Clauses.{restIn, ReadableClause};
 
 // The cells of a sub-scope's variables.
@@ -135,22 +134,56 @@ fn held_cell(c: u64) -> u64
     if c == NOTHING { NO } else { c }
 }
 
-// Node n of a scope, by the scope's row of positions. A node names only nodes below itself.
-fn eval_below(book: &[u8], row: &[u16], own: &[u64], called: &[u64], n: usize) -> u64
-    requires { ⌜ Readable (now book) (now row) (now own) (now called) n ⌝ }
-    ensures { λ r. ⌜ Codes r (outcomeIn (now (book .entry)) (now (row .entry)) (now (own .entry)) (now (called .entry)) n) ⌝ }
+// Whether a node of this kind is a leaf: a constant, a number or a variable. A leaf names no node.
+fn is_leaf(kind: u8) -> bool
+    ensures { λ r. ⌜ r ≡ isLeaf kind ⌝ }
 {
-    let at = row[n] as usize;
+    if kind < KIND_CONSTANT {
+        return false;
+    }
+    kind < KIND_EMPTY
+}
+
+// The leaf whose record begins at a position.
+fn leaf(book: &[u8], own: &[u64], called: &[u64], at: usize) -> u64
+    requires { ⌜ ReadableLeaf (now book) (now own) (now called) at ⌝ }
+    ensures { λ r. ⌜ CodesLeaf (now (book .entry)) (now (own .entry)) (now (called .entry)) at r ⌝ }
+{
     let kind = book[at];
     let a = book[at + 1];
     match kind {
         KIND_CONSTANT => truth(a == 1),
         KIND_NUMBER => number(number_at(book, at + 1)),
         KIND_OWN => held_cell(own[a as usize]),
-        KIND_CALLED => {
+        // A sub-scope's variable: a leaf has no other kind.
+        _ => {
             let x = book[at + 2];
             held_cell(called[(a as usize) * VARIABLES + (x as usize)])
         }
+    }
+}
+
+// Node n of a scope, by the scope's row of positions; a leaf is read at once.
+fn eval_below(book: &[u8], row: &[u16], own: &[u64], called: &[u64], n: usize) -> u64
+    requires { ⌜ Readable (now book) (now row) (now own) (now called) n ⌝ }
+    ensures { λ r. ⌜ Codes r (outcomeIn (now (book .entry)) (now (row .entry)) (now (own .entry)) (now (called .entry)) n) ⌝ }
+{
+    let at = row[n] as usize;
+    if is_leaf(book[at]) {
+        return leaf(book, own, called, at);
+    }
+    eval_inner(book, row, own, called, n)
+}
+
+// Node n, no leaf. A node names only nodes below itself.
+fn eval_inner(book: &[u8], row: &[u16], own: &[u64], called: &[u64], n: usize) -> u64
+    requires { ⌜ ReadableInner (now book) (now row) (now own) (now called) n ⌝ }
+    ensures { λ r. ⌜ Codes r (outcomeIn (now (book .entry)) (now (row .entry)) (now (own .entry)) (now (called .entry)) n) ⌝ }
+{
+    let at = row[n] as usize;
+    let kind = book[at];
+    let a = book[at + 1];
+    match kind {
         KIND_EMPTY => EMPTY,
         KIND_CONFLICT => CONFLICT,
         KIND_NOT => not(eval_below(book, row, own, called, a as usize)),
