@@ -1,12 +1,15 @@
 -- Walking along a chain with cells: the laws of `Walking`, of what a cell says.
 -- Assumes nothing.
 use Prim.Native.Nat.{ℕ, suc, _+_, _-_, _<_, _≤_}
-use mathlib.Core.Path.{_≡_, refl, _∙_}
+use mathlib.Core.Path.{_≡_, refl, sym, _∙_}
 use mathlib.Core.Bool.{Bool, true, false, cond}
 use mathlib.Core.List.{List, [], _∷_}
 use mathlib.Core.Logic.{_⊎_, inl, inr, ⊎-elim}
 use native.Mathlib.Omega.{arith}
 use lib.ListN.{length, getD, drop, length-drop}
+use lib.Dec.{eqb}
+use borrow.Author.Tests.{eqb-true}
+use Rattle.laws.proofs.Booleans.{both}
 use Rattle.calculus.specs.Defaults.{gather}
 use Rattle.calculus.proofs.Numbers.{zero-fits}
 use Rattle.answers.specs.declared.Cause.{Cause}
@@ -22,7 +25,7 @@ use Rattle.cells.specs.Codec.{emptyCell, gatheredCell, Codes, Gathers}
 use Rattle.terms.specs.Operators.{OnBoth}
 use Rattle.terms.specs.Clauses.{ReadableClause}
 use Rattle.terms.proofs.Defaults.{no-so-far}
-use Rattle.trees.specs.Chains.{chainOutcome, settledClause}
+use Rattle.trees.specs.Chains.{alone, chainOutcome, settledClause}
 use Rattle.trees.specs.Rows.{clausePlace, Walk, Settles}
 use Rattle.trees.proofs.Clauses as clauses
 use Rattle.trees.proofs.Walking as walking
@@ -128,3 +131,12 @@ module _ (bytes row links own called : List ℕ) (i k : ℕ) (w : Walk bytes row
               walking = walking.again bytes row links own called i k w (v .soFar) c (v .walking) there _ refl clause refl (gather (v .soFar) clause) refl d e;
               there = found-there (inChain k) (suc c) cs there d (walking.following bytes row links own called i k w (v .soFar) c (v .walking) there d e);
             }
+
+  -- a clause that stands alone in its chain, without exceptions
+  pub single : (c : ℕ) → c ≡ getD links k 0 → c < 128 → alone links c ≡ true → (o h : ℕ)
+      → Settles bytes row own called (getD row (clausePlace c) 0) 0 o → OnBoth 0 o h → Gathers h (chainOutcome bytes own called i k)
+  single c e l lone o h eo eh =
+      let (last, plain) = both (eqb (getD links (417 + c) 0) 255) (eqb (getD links (289 + c) 0) 255) lone in
+      let v = begin c e in
+      let none = none-there 0 c v l (eqb-true (getD links (289 + c) 0) 255 plain) in
+      stop h 255 (again 0 c v l 0 o h none eo eh 255 (sym (eqb-true (getD links (417 + c) 0) 255 last))) (omega arith)

@@ -1,7 +1,9 @@
 -- What chains of clauses, clauses and default trees evaluate to, over the cells of the variables.
-use Prim.Native.Nat.{ℕ}
-use mathlib.Core.Bool.{Bool}
+use Prim.Native.Nat.{ℕ, _+_}
+use mathlib.Core.Bool.{Bool, _&&_}
 use mathlib.Core.List.{List}
+use lib.ListN.{getD}
+use lib.Dec.{eqb}
 use Rattle.calculus.specs.Outcomes.{choose}
 use Rattle.calculus.specs.Defaults.{settle}
 use Rattle.calculus.specs.Terms.{Terms}
@@ -20,6 +22,10 @@ use Rattle.book.specs.Positions.{clauseAt}
 use Rattle.book.specs.Trees.{conditionTerm, consequenceTerm, select, clauseTerms, hasTarget, tree, calledTarget}
 use Rattle.terms.specs.Outcomes.{envOf}
 use Rattle.links.specs.Links.{inChain, Sound, Linked}
+
+-- by the links of a scope, no clause stands behind clause c in its chain, and it has no exception
+abbrev pub alone : List ℕ → ℕ → Bool
+alone links c = eqb (getD links (417 + c) 0) 255 && eqb (getD links (289 + c) 0) 255
 
 -- the clauses of the chain that begins in cell k of scope i, as exceptions in their order
 unfoldable pub chainTerms : Scope → ℕ → Terms

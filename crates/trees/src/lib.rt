@@ -16,9 +16,11 @@ use slices::byte_at;
 use terms::eval_rest;
 use terms::gather;
 ghost use mathlib.Core.Path.{_≡_};
+ghost use Prim.Native.Nat.{_<_};
+ghost use lib.ListN.{length};
 ghost use Rattle.cells.specs.Codec.{Codes, Gathers};
 ghost use Rattle.terms.specs.Clauses.{ReadableClause};
-ghost use Rattle.trees.specs.Chains.{chainOutcome, treeOutcome, clauseFor, Ready};
+ghost use Rattle.trees.specs.Chains.{alone, chainOutcome, treeOutcome, clauseFor, Ready};
 ghost use Rattle.trees.specs.Rows.{Walk, Settles, Evaluable};
 
 // The part of a scope's row in the index that evaluating reads: 250 positions of nodes, then 128 of clauses.
@@ -72,6 +74,42 @@ fn eval_chain(
     g
 }
 
+// Whether no clause stands behind clause c in its chain, and it has no exception.
+fn is_alone(links: &[u8], c: usize) -> bool
+    requires { ⌜ (c < 128) × (length (now links) ≡ 834) ⌝ }
+    ensures { λ r. ⌜ r ≡ alone (now (links .entry)) c ⌝ }
+{
+    if links[SIBLINGS + c] != 255 {
+        return false;
+    }
+    links[EXCEPTIONS + c] == 255
+}
+
+// The bases of a target, whose chain begins in a cell of the links. One alone and without exceptions, as most targets have it, is evaluated
+// without a walk along the chain.
+fn eval_bases(
+    book: &[u8],
+    row: &[u16],
+    links: &[u8],
+    own: &[u64],
+    called: &[u64],
+    i: usize,
+    cell: usize,
+) -> u64
+    requires { ⌜ Walk (now book) (now row) (now links) (now own) (now called) i cell ⌝ }
+    ensures { λ r. ⌜ Gathers r (chainOutcome (now (book .entry)) (now (own .entry)) (now (called .entry)) i cell) ⌝ }
+{
+    let c = links[cell] as usize;
+    if c < 128 {
+        if is_alone(links, c) {
+            let at = row[CLAUSES + c] as usize;
+            let o = settle_clause(book, row, own, called, at, NOTHING);
+            return gather(NOTHING, o);
+        }
+    }
+    eval_chain(book, row, links, own, called, i, cell)
+}
+
 // The default tree of a target of scope i: its bases; where none has a value, no if it has rules, empty if it has none.
 pub fn eval_tree(
     book: &[u8],
@@ -88,7 +126,7 @@ pub fn eval_tree(
 {
     let slot = slot_of(Target { sub, variable });
     let start = ROWS + i * ROW + NODES;
-    let g = eval_chain(
+    let g = eval_bases(
         book,
         &index[start..start + RECORDS],
         links,

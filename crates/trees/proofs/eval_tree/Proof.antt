@@ -20,29 +20,29 @@ add-start c = search needs
 add-start-2 : tie.Need-add-start-2
 add-start-2 c = search needs
 
-add-eval-chain : tie.Need-add-eval-chain
-add-eval-chain c = search needs
+add-eval-bases : tie.Need-add-eval-bases
+add-eval-bases c = search needs
 
-mul-eval-chain : tie.Need-mul-eval-chain
-mul-eval-chain c = search needs
+mul-eval-bases : tie.Need-mul-eval-bases
+mul-eval-bases c = search needs
 
-sub-eval-chain : tie.Need-sub-eval-chain
-sub-eval-chain c = search needs
+sub-eval-bases : tie.Need-sub-eval-bases
+sub-eval-bases c = search needs
 
-part-eval-chain-start : tie.Need-part-eval-chain-start
-part-eval-chain-start c = search needs
+part-eval-bases-start : tie.Need-part-eval-bases-start
+part-eval-bases-start c = search needs
 
-part-eval-chain-end : tie.Need-part-eval-chain-end
-part-eval-chain-end c = search needs
+part-eval-bases-end : tie.Need-part-eval-bases-end
+part-eval-bases-end c = search needs
 
-eval-chain-requires : tie.Need-eval-chain-requires
-eval-chain-requires c κs = rw (add-sub-cancel-left) (tree-walk _ _ _ _ _ _ (c .before .before .before .before .before .before .before .pre) _ _ _ (c .before .slot-of .ensures))
+eval-bases-requires : tie.Need-eval-bases-requires
+eval-bases-requires c κs = rw (add-sub-cancel-left) (tree-walk _ _ _ _ _ _ (c .before .before .before .before .before .before .before .pre) _ _ _ (c .before .slot-of .ensures))
 
 returns : tie.Need-returns
-returns c = tree-many _ _ _ _ _ _ (c .before .before .before .before .before .before .before .before .before .pre) _ _ _ (c .before .before .before .slot-of .ensures) _ (c .before .eval-chain .ensures) (c .if1 .taken)
+returns c = tree-many _ _ _ _ _ _ (c .before .before .before .before .before .before .before .before .before .pre) _ _ _ (c .before .before .before .slot-of .ensures) _ (c .before .eval-bases .ensures) (c .if1 .taken)
 
 returns-2 : tie.Need-returns-2
-returns-2 c = tree-one _ _ _ _ _ _ (c .before .before .before .before .before .before .before .before .before .before .pre) _ _ _ (c .before .before .before .before .slot-of .ensures) _ (c .before .before .eval-chain .ensures) (c .before .if1 .left) (c .if2 .taken)
+returns-2 c = tree-one _ _ _ _ _ _ (c .before .before .before .before .before .before .before .before .before .before .pre) _ _ _ (c .before .before .before .before .slot-of .ensures) _ (c .before .before .eval-bases .ensures) (c .before .if1 .left) (c .if2 .taken)
 
 add-if3 : tie.Need-add-if3
 add-if3 c = omega (arith, slot-few _ _ _ _ (c .before .before .before .before .before .before .before .before .before .before .pre .ready) _ _ _ (c .before .before .before .before .slot-of .ensures))
@@ -51,10 +51,10 @@ shared-slice-read-if3 : tie.Need-shared-slice-read-if3
 shared-slice-read-if3 c = omega (arith, slot-few _ _ _ _ (c .before .before .before .before .before .before .before .before .before .before .before .pre .ready) _ _ _ (c .before .before .before .before .before .slot-of .ensures), c .before .before .before .before .before .before .before .before .before .before .before .pre .ready .linked .size)
 
 returns-3 : tie.Need-returns-3
-returns-3 c = tree-empty _ _ _ _ _ _ (c .before .before .before .before .before .before .before .before .before .before .before .before .pre) _ _ _ (c .before .before .before .before .before .before .slot-of .ensures) _ (c .before .before .before .before .eval-chain .ensures) (c .before .before .if2 .left) (c .if3 .taken)
+returns-3 c = tree-empty _ _ _ _ _ _ (c .before .before .before .before .before .before .before .before .before .before .before .before .pre) _ _ _ (c .before .before .before .before .before .before .slot-of .ensures) _ (c .before .before .before .before .eval-bases .ensures) (c .before .before .if2 .left) (c .if3 .taken)
 
 returns-4 : tie.Need-returns-4
-returns-4 c = tree-no _ _ _ _ _ _ (c .before .before .before .before .before .before .before .before .before .before .before .before .pre) _ _ _ (c .before .before .before .before .before .before .slot-of .ensures) _ (c .before .before .before .before .eval-chain .ensures) (c .before .before .if2 .left) (c .if3 .left)
+returns-4 c = tree-no _ _ _ _ _ _ (c .before .before .before .before .before .before .before .before .before .before .before .before .pre) _ _ _ (c .before .before .before .before .before .before .slot-of .ensures) _ (c .before .before .before .before .eval-bases .ensures) (c .before .before .if2 .left) (c .if3 .left)
 
 pub eval-tree-spec : {M : Type 1} → statement M
 eval-tree-spec =
@@ -64,12 +64,12 @@ eval-tree-spec =
     mul-start
     add-start
     add-start-2
-    add-eval-chain
-    mul-eval-chain
-    sub-eval-chain
-    part-eval-chain-start
-    part-eval-chain-end
-    eval-chain-requires
+    add-eval-bases
+    mul-eval-bases
+    sub-eval-bases
+    part-eval-bases-start
+    part-eval-bases-end
+    eval-bases-requires
     returns
     returns-2
     add-if3
