@@ -15,7 +15,7 @@ use Rattle.book.specs.Decode.{scopesOf}
 use Rattle.book.specs.Trees.{termBelow, termOf, select, clauseTerms, bases, hasRule, tree}
 use Rattle.book.specs.Scopes.{calls, blocks, sum}
 use Rattle.book.specs.Steps.{stepCount, reads, readsAny, stepOf, clauseReads, dependsOn, stepOrder}
-use Rattle.lists.specs.Inputs.{badRecord, inputsFrom, inputs}
+use Rattle.lists.specs.Inputs.{cannotGive, badRecord, inputsFrom, inputs}
 use Rattle.lists.specs.Results.{resultLength, resultsFrom, results}
 use Rattle.answers.specs.declared.Cause.the-variants.{Empty}
 use Rattle.evaluation.specs.Evaluate.{Reply}
@@ -36,7 +36,7 @@ paperBook =
 -- "Book, hexadecimal, 29 bytes", as code
 pub paper-code : codeOf (scopesOf paperBook)
     ≡ 1 ∷ 0 ∷ 2 ∷ 2 ∷ 2 ∷ 1 ∷ 44 ∷ 1 ∷ 0 ∷ 3 ∷ 32 ∷ 41 ∷ 1 ∷ 44 ∷ 0 ∷ 0 ∷ 43 ∷ 38 ∷ 36 ∷ 0 ∷ 18 ∷ 6 ∷ 1 ∷ 35 ∷ 0 ∷ 8 ∷ 5 ∷ 0 ∷ 34 ∷ 201 ∷ 224 ∷ 34 ∷ 0 ∷ 1 ∷ 32 ∷ 37 ∷ 34 ∷ 0 ∷ 1 ∷ 38 ∷ 39 ∷ 40 ∷ 0 ∷ 14 ∷ 4 ∷ 1 ∷ 35 ∷ 0 ∷ 8 ∷ 5 ∷ 0 ∷ 69 ∷ 147 ∷ 192 ∷ 34 ∷ 0 ∷ 1 ∷ 32 ∷ 41 ∷ 0 ∷ []
-unfolding run asked accepted allWellFormed wellFormed weightIn sum hasBlock any variablesOf blocksOf parse inFront allFit fits lands sound faulty counted follows invalid instructionOf shapeIn shapesOf kinds exec effect runIn raised inputs inputsFrom badRecord resultLength results resultsFrom numberAt numberBytes bigEndian bytesOf codeOf blocksCode blockCode subScopesCode variablesCode stepsCode stepCode callCode overridesCode variableCode code codes size sizes scopesOf decode.parse decode.inFront records.records recordsFrom records.counted nodeOf clauseOf termBelow termOf select clauseTerms bases hasRule tree blocks calls among order taken next ready unmet lowest lowestFrom none stepOrder stepCount dependsOn clauseReads stepOf reads readsAny
+unfolding run asked accepted allWellFormed wellFormed weightIn sum hasBlock any variablesOf blocksOf parse inFront allFit fits lands sound faulty counted follows invalid instructionOf shapeIn shapesOf kinds exec effect runIn raised inputs inputsFrom cannotGive badRecord resultLength results resultsFrom numberAt numberBytes bigEndian bytesOf codeOf blocksCode blockCode subScopesCode variablesCode stepsCode stepCode callCode overridesCode variableCode code codes size sizes scopesOf decode.parse decode.inFront records.records recordsFrom records.counted nodeOf clauseOf termBelow termOf select clauseTerms bases hasRule tree blocks calls among order taken next ready unmet lowest lowestFrom none stepOrder stepCount dependsOn clauseReads stepOf reads readsAny
 paper-code = refl
 
 -- what a run answers and writes, and what it is to answer and write
@@ -65,5 +65,5 @@ expected (row a b ∷ rows) = b ∷ expected rows
 
 -- every example answers what it is to answer
 pub examples-hold : answers examples ≡ expected examples
-unfolding run asked accepted allWellFormed wellFormed weightIn sum hasBlock any variablesOf blocksOf parse inFront allFit fits lands sound faulty counted follows invalid instructionOf shapeIn shapesOf kinds exec effect runIn raised inputs inputsFrom badRecord resultLength results resultsFrom numberAt numberBytes bigEndian bytesOf codeOf blocksCode blockCode subScopesCode variablesCode stepsCode stepCode callCode overridesCode variableCode code codes size sizes scopesOf decode.parse decode.inFront records.records recordsFrom records.counted nodeOf clauseOf termBelow termOf select clauseTerms bases hasRule tree blocks calls among order taken next ready unmet lowest lowestFrom none stepOrder stepCount dependsOn clauseReads stepOf reads readsAny
+unfolding run asked accepted allWellFormed wellFormed weightIn sum hasBlock any variablesOf blocksOf parse inFront allFit fits lands sound faulty counted follows invalid instructionOf shapeIn shapesOf kinds exec effect runIn raised inputs inputsFrom cannotGive badRecord resultLength results resultsFrom numberAt numberBytes bigEndian bytesOf codeOf blocksCode blockCode subScopesCode variablesCode stepsCode stepCode callCode overridesCode variableCode code codes size sizes scopesOf decode.parse decode.inFront records.records recordsFrom records.counted nodeOf clauseOf termBelow termOf select clauseTerms bases hasRule tree blocks calls among order taken next ready unmet lowest lowestFrom none stepOrder stepCount dependsOn clauseReads stepOf reads readsAny
 examples-hold = refl

@@ -1,5 +1,4 @@
 -- Laws of marking the chosen variables, from the last to the first.
---     past, within         the tests of one variable, by its type byte and its cell
 --     too-many             more than 12 are refused
 --     start, turn, stop    marking goes on: at first, after one more variable, after all
 --     unfit-one            one that is unfit, and
@@ -8,10 +7,10 @@
 -- Assumes nothing.
 use Prim.Native.Nat.{ℕ, zero, suc, _-_, _≤_, _<_}
 use mathlib.Core.Path.{_≡_, refl, sym, _∙_}
-use mathlib.Core.Bool.{Bool, true, false, not, _||_, false≢true, or-true, or-false}
-use mathlib.Core.List.{List, [], _∷_, map}
+use mathlib.Core.Bool.{Bool, true, false, _||_, false≢true, or-true, or-false}
+use mathlib.Core.List.{List, [], _∷_}
 use native.Mathlib.Omega.{arith}
-use lib.ListN.{length, getD, set, drop, replicate, length-set, List·getD-map}
+use lib.ListN.{length, getD, set, drop, replicate, length-set}
 use lib.Seq.{drop-cons, drop-length}
 use lib.Dec.{eqb, ltb}
 use borrow.Author.Tests.{lt-ltb, le-ltb}
@@ -19,33 +18,14 @@ use Rattle.calculus.specs.declared.Given.{Given}
 use Rattle.order.specs.Matrix.{marked}
 use Rattle.order.proofs.Matrix.{marked-set, zero-marks}
 use Rattle.book.specs.Lists.{any}
-use Rattle.book.specs.Syntax.{typeOf, sameType}
 use Rattle.book.specs.declared.ValueType.the-variants.{YesNo}
 use Rattle.book.specs.declared.Variable.{Variable}
 use Rattle.book.proofs.Searches.{any-at}
-use Rattle.cells.specs.Cells.{givenOf, givenAt}
-use Rattle.lists.specs.Inputs.{isGiven}
-use Rattle.lists.specs.Reading.{typed}
-use Rattle.lists.proofs.Types.{typed-count, typed-at}
 use Rattle.order.specs.Order.{among}
 use Rattle.book.specs.Sharing.{repeats}
 use Rattle.tabulation.specs.Chosen.{unfit, badChoice}
-use Rattle.tabulation.proofs.Chosen.{fit}
+use Rattle.lists.proofs.Reading.{can-give}
 use Rattle.choices.specs.Marks.{ChosenMarked}
-
--- One variable
-
-module _ (types cells : List ℕ) (v : ℕ) where
-  pub past : length types ≤ v → true ≡ unfit (typed types) (map givenOf cells) v
-  unfolding unfit
-  past h = rw (typed-count types, le-ltb v (length types) h)
-
-  pub within : v < length types
-      → unfit (typed types) (map givenOf cells) v ≡ (not (sameType YesNo (typeOf (getD types v 0))) || isGiven (givenAt cells v))
-  unfolding unfit givenAt givenOf
-  within h = rw (typed-count types, lt-ltb v (length types) h, typed-at types v h, ← List·getD-map givenOf cells v 0)
-
--- All of them
 
 repeated-later : (n : ℕ) (xs : List ℕ) → repeats (drop n xs) ≡ true → repeats xs ≡ true
 unfolding repeats
@@ -119,7 +99,7 @@ module _ {variables : List Variable} {given : List Given} {chosen marks : List �
 
     module _ (few : length variables ≤ 32) (ok : unfit variables given (getD chosen (left - 1) 0) ≡ false) where
       pub has-mark : getD chosen (left - 1) 0 < length marks
-      has-mark = let k = fit variables given v ok .known in let s = m .size in omega arith
+      has-mark = let k = can-give variables given YesNo v ok .known in let s = m .size in omega arith
 
       pub turn : marked marks (getD chosen (left - 1) 0) ≡ false → MarkingChosen variables given chosen (set marks (getD chosen (left - 1) 0) 1) (left - 1)
       unfolding repeats any among

@@ -1,11 +1,8 @@
 // The chosen variables of a scope: whether they are good, and their order.
 // 18: "more than 12 chosen, one chosen twice, absent, not yes/no, or in the fixed list".
 use book::ValueType;
-use cells::given_at;
-use inputs::is_given;
+use inputs::cannot_give;
 use signatures::fill_types;
-use types::same_type;
-use types::type_of;
 ghost use mathlib.Core.Path.{_≡_};
 ghost use Prim.Native.Nat.{_≤_};
 ghost use lib.ListN.{length, replicate};
@@ -15,23 +12,8 @@ ghost use Rattle.book.specs.Decode.{scopesOf};
 ghost use Rattle.book.specs.References.{scopeAt};
 ghost use Rattle.index.specs.Index.{Laid};
 ghost use Rattle.lists.specs.Reading.{typed};
-ghost use Rattle.tabulation.specs.Chosen.{unfit};
 ghost use Rattle.choices.specs.Marks.{ChosenMarked, MarkedWritten};
 ghost use Rattle.choices.specs.Choosing.{Choosing};
-
-// Whether a variable cannot be chosen, by the type bytes and the cells of the fixed list.
-fn is_unfit(types: &[u8], given: &[u64], v: u8) -> bool
-    ensures { λ r. ⌜ r ≡ unfit (typed (now (types .entry))) (map givenOf (now (given .entry))) v ⌝ }
-{
-    let at = v as usize;
-    if types.len() <= at {
-        return true;
-    }
-    if !same_type(ValueType::YesNo, type_of(types[at])) {
-        return true;
-    }
-    is_given(given_at(given, at))
-}
 
 // Marks the chosen variables, from the last to the first, where none is marked; whether they are good.
 fn mark_chosen(types: &[u8], given: &[u64], chosen: &[u8], marks: &mut [u8]) -> bool
@@ -46,7 +28,7 @@ fn mark_chosen(types: &[u8], given: &[u64], chosen: &[u8], marks: &mut [u8]) -> 
     while 0 < left {
         left -= 1;
         let v = chosen[left];
-        if is_unfit(types, given, v) {
+        if cannot_give(types, given, ValueType::YesNo, v) {
             return false;
         }
         let at = v as usize;

@@ -17,7 +17,7 @@ ghost use Rattle.cells.specs.Cells.{givenOf};
 ghost use Rattle.book.specs.Decode.{scopesOf};
 ghost use Rattle.book.specs.References.{scopeAt};
 ghost use Rattle.index.specs.Index.{Laid};
-ghost use Rattle.lists.specs.Inputs.{inputLength, inputType, inputValue, isGiven, badRecord};
+ghost use Rattle.lists.specs.Inputs.{inputLength, inputType, inputValue, isGiven, cannotGive, badRecord};
 ghost use Rattle.lists.specs.Reading.{malformed, typed, Reading};
 
 // How many bytes follow the kind of an input record; 0: no such kind.
@@ -55,7 +55,7 @@ fn input_value(kind: u8, rest: &[u8]) -> Value
     }
 }
 
-pub fn is_given(g: Given) -> bool
+fn is_given(g: Given) -> bool
     ensures { λ r. ⌜ r ≡ isGiven g ⌝ }
 {
     match g {
@@ -81,6 +81,20 @@ fn is_malformed(kind: u8, rest: &[u8]) -> bool
     false
 }
 
+// Whether a variable cannot be given a value of a type, by the type bytes and the cells so far: there is none, it is of another type, or it is given.
+pub fn cannot_give(types: &[u8], given: &[u64], t: ValueType, v: u8) -> bool
+    ensures { λ r. ⌜ r ≡ cannotGive (typed (now (types .entry))) (map givenOf (now (given .entry))) t v ⌝ }
+{
+    let at = v as usize;
+    if types.len() <= at {
+        return true;
+    }
+    if !same_type(t, type_of(types[at])) {
+        return true;
+    }
+    is_given(given_at(given, at))
+}
+
 // Whether an input record is bad, by the type bytes, its kind, the bytes after it and the cells so far.
 fn is_bad(types: &[u8], given: &[u64], kind: u8, rest: &[u8]) -> bool
     ensures { λ r. ⌜ r ≡ badRecord (typed (now (types .entry))) (map givenOf (now (given .entry))) kind (now (rest .entry)) ⌝ }
@@ -88,14 +102,7 @@ fn is_bad(types: &[u8], given: &[u64], kind: u8, rest: &[u8]) -> bool
     if is_malformed(kind, rest) {
         return true;
     }
-    let v = byte_at(rest, 0) as usize;
-    if types.len() <= v {
-        return true;
-    }
-    if !same_type(input_type(kind), type_of(types[v])) {
-        return true;
-    }
-    is_given(given_at(given, v))
+    cannot_give(types, given, input_type(kind), byte_at(rest, 0))
 }
 
 // Reads the inputs into cells that are unset, by one type byte for each variable; whether the list is good.

@@ -23,7 +23,7 @@ use Rattle.book.specs.declared.ValueType.{ValueType}
 use Rattle.book.specs.declared.ValueType.the-variants.{YesNo}
 use Rattle.book.specs.declared.Variable.{Variable}
 use Rattle.book.proofs.Same.{same-type}
-use Rattle.lists.specs.Inputs.{Inputs, bad, good, inputLength, inputType, inputValue, isGiven, badRecord, inputsFrom, inputs}
+use Rattle.lists.specs.Inputs.{Inputs, bad, good, inputLength, inputType, inputValue, isGiven, cannotGive, badRecord, inputsFrom, inputs}
 use Rattle.lists.specs.Writing.{valueType}
 use Rattle.lists.proofs.Reading.{Fine, fine}
 
@@ -65,10 +65,10 @@ one-given variables gs k rest f h =
           ⊎-elim
           (λ q.
           let same : v ≡ u = eqb-true v u q in
-          let here : getD (set gs u g) u Absent ≡ g = getD-set-same gs u g Absent (rw (h .number) (f .known)) in
+          let here : getD (set gs u g) u Absent ≡ g = getD-set-same gs u g Absent (rw (h .number) (f .free .known)) in
           let p : getD (set gs u g) u Absent ≡ Present x = ap (λ (w : ℕ). getD (set gs u g) w Absent) (sym same) ∙ e in
           let y : inputValue k rest ≡ x = cc in
-          rw (same, ← y) (value-type k rest ∙ same-type (inputType k) (typeAt variables u) (f .typed)))
+          rw (same, ← y) (value-type k rest ∙ same-type (inputType k) (typeAt variables u) (f .free .typed)))
           (λ q. h .typed v x (sym (getD-set-other gs u v g Absent (eqb-false v u q)) ∙ e))
           (decide (eqb v u));
     }
@@ -131,8 +131,8 @@ short-from variables (k ∷ rest) zero gs end l e =
     let p = passed variables k rest gs end e in
     let v = getD rest 0 0 in
     let x = inputValue k rest in
-    let here : v < length gs = rw l (p .0 .known) in
-    let less = unset-less gs v x here (p .0 .fresh) in
+    let here : v < length gs = rw l (p .0 .free .known) in
+    let less = unset-less gs v x here (p .0 .free .fresh) in
     let more = short-from variables rest (inputLength k) (set gs v (Present x)) end (length-set gs v (Present x) ∙ l) (p .1) in
     let s = length-small k in
     omega arith
@@ -176,7 +176,7 @@ module _ (variables : List Variable) (gs : List Given) (k : ℕ) (rest more : Li
       two false false h = absurd (false≢true (sym h))
 
   record-more : badRecord variables gs k (rest ++ more) ≡ false
-  unfolding badRecord
+  unfolding badRecord cannotGive
   record-more =
       let whole = fine variables gs k rest e .whole in
       let cut : ltb (length (rest ++ more)) (inputLength k) ≡ false =

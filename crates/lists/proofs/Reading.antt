@@ -1,5 +1,6 @@
 -- Laws of an input list read into cells.
---     fine                 what holds of a record that is not bad
+--     can-give, fine       what holds of a variable that can be given, and of a record that is not bad
+--     past, within         the tests of a variable, by type bytes and cells
 --     tests                the tests of a record, those that need no variable first
 --     start, turn, stop    reading goes on: at first, after a good record, at the list's end
 --     room, cell           a good record is whole, and its variable has a cell
@@ -17,7 +18,7 @@ use lib.Seq.{drop-cons, drop-drop, getD-set-same, getD-set-other}
 use lib.Dec.{eqb, ltb}
 use mir.Syntax.{w32}
 use mir.Val.{SFits, toZ}
-use borrow.Author.Tests.{ltb-true, ltb-false, eqb-true, eqb-false, not-false}
+use borrow.Author.Tests.{lt-ltb, le-ltb, ltb-true, ltb-false, eqb-true, eqb-false, not-false}
 use Rattle.calculus.specs.Values.{numberOf}
 use Rattle.calculus.specs.declared.Given.{Given}
 use Rattle.calculus.specs.declared.Given.the-variants.{Absent, Present}
@@ -27,38 +28,50 @@ use Rattle.laws.proofs.Zeros.{zeros}
 use Rattle.cells.specs.Codec.{valueCell, AllKept}
 use Rattle.cells.specs.Cells.{givenOf, givenAt}
 use Rattle.cells.proofs.Variables.{given-cell, kept-nothing, kept-stored}
-use Rattle.book.specs.Syntax.{sameType}
+use Rattle.book.specs.Syntax.{sameType, typeOf}
+use Rattle.book.specs.declared.ValueType.{ValueType}
 use Rattle.book.specs.declared.ValueType.the-variants.{YesNo}
 use Rattle.book.specs.declared.Variable.{Variable}
-use Rattle.lists.specs.Inputs.{bad, inputLength, inputType, inputValue, isGiven, badRecord, inputsFrom, inputs}
-use Rattle.lists.specs.Reading.{malformed, Taken}
+use Rattle.lists.specs.Inputs.{bad, inputLength, inputType, inputValue, isGiven, cannotGive, badRecord, inputsFrom, inputs}
+use Rattle.lists.specs.Reading.{malformed, typed, Taken}
+use Rattle.lists.proofs.Types.{typed-count, typed-at}
 
--- A record that is not bad
+-- A variable that can be given, and a record that is not bad
+
+pub record Free (variables : List Variable) (given : List Given) (t : ValueType) (v : ℕ) : Type 0 where
+  pub known : v < length variables
+  pub typed : sameType t (getD variables v (record { holds = YesNo }) .holds) ≡ true
+  pub fresh : isGiven (getD given v Absent) ≡ false
+
+pub can-give : (variables : List Variable) (given : List Given) (t : ValueType) (v : ℕ) → cannotGive variables given t v ≡ false → Free variables given t v
+unfolding cannotGive
+can-give variables given t v e =
+    let unknown = not (ltb v (length variables)) in
+    let mismatch = not (sameType t (getD variables v (record { holds = YesNo }) .holds)) in
+    let repeated = isGiven (getD given v Absent) in
+    let a = neither unknown (mismatch || repeated) e in
+    let b = neither mismatch repeated (a .1) in
+    record {
+      known = ltb-true v (length variables) (not-false (ltb v (length variables)) (a .0));
+      typed = not-false (sameType t (getD variables v (record { holds = YesNo }) .holds)) (b .0);
+      fresh = b .1;
+    }
 
 pub record Fine (variables : List Variable) (given : List Given) (k : ℕ) (rest : List ℕ) : Type 0 where
   pub whole : inputLength k ≤ length rest
-  pub known : getD rest 0 0 < length variables
-  pub typed : sameType (inputType k) (getD variables (getD rest 0 0) (record { holds = YesNo }) .holds) ≡ true
-  pub fresh : isGiven (getD given (getD rest 0 0) Absent) ≡ false
+  pub free : Free variables given (inputType k) (getD rest 0 0)
 
 pub fine : (variables : List Variable) (given : List Given) (k : ℕ) (rest : List ℕ) → badRecord variables given k rest ≡ false → Fine variables given k rest
 unfolding badRecord
 fine variables given k rest e =
-    let v = getD rest 0 0 in
-    let repeated = isGiven (getD given v Absent) in
-    let mismatch = not (sameType (inputType k) (getD variables v (record { holds = YesNo }) .holds)) in
-    let unknown = not (ltb v (length variables)) in
+    let cannot = cannotGive variables given (inputType k) (getD rest 0 0) in
     let invalid = eqb k 1 && ltb 1 (getD rest 1 0) in
     let cut = ltb (length rest) (inputLength k) in
-    let a = neither (eqb (inputLength k) 0) (cut || (invalid || (unknown || (mismatch || repeated)))) e in
-    let b = neither cut (invalid || (unknown || (mismatch || repeated))) (a .1) in
-    let c = neither invalid (unknown || (mismatch || repeated)) (b .1) in
-    let d = neither unknown (mismatch || repeated) (c .1) in
+    let a = neither (eqb (inputLength k) 0) (cut || (invalid || cannot)) e in
+    let b = neither cut (invalid || cannot) (a .1) in
     record {
       whole = ltb-false (length rest) (inputLength k) (b .0);
-      known = ltb-true v (length variables) (not-false (ltb v (length variables)) (d .0));
-      typed = not-false (sameType (inputType k) (getD variables v (record { holds = YesNo }) .holds)) (neither mismatch repeated (d .1) .0);
-      fresh = neither mismatch repeated (d .1) .1;
+      free = can-give variables given (inputType k) (getD rest 0 0) (neither invalid cannot (b .1) .1);
     }
 
 -- a record's number is one of 32 bits
@@ -79,17 +92,23 @@ pub held-at : (cells : List ℕ) (v : ℕ) → getD (map givenOf cells) v Absent
 unfolding givenAt givenOf
 held-at cells v = List·getD-map givenOf cells v 0
 
+-- the tests of a variable, by type bytes and cells
+module _ (types cells : List ℕ) (t : ValueType) (v : ℕ) where
+  pub past : length types ≤ v → true ≡ cannotGive (typed types) (map givenOf cells) t v
+  unfolding cannotGive
+  past h = rw (typed-count types, le-ltb v (length types) h)
+
+  pub within : v < length types
+      → cannotGive (typed types) (map givenOf cells) t v ≡ (not (sameType t (typeOf (getD types v 0))) || isGiven (givenAt cells v))
+  unfolding cannotGive
+  within h = rw (typed-count types, lt-ltb v (length types) h, typed-at types v h, held-at cells v)
+
 -- the tests of a record, those that need no variable first
-pub tests : (variables : List Variable) (cells : List ℕ) (k : ℕ) (rest : List ℕ)
-    → badRecord variables (map givenOf cells) k rest
-    ≡ (malformed k rest
-    || (not (ltb (getD rest 0 0) (length variables))
-    || (not (sameType (inputType k) (getD variables (getD rest 0 0) (record { holds = YesNo }) .holds))
-    || isGiven (givenAt cells (getD rest 0 0)))))
+pub tests : (variables : List Variable) (given : List Given) (k : ℕ) (rest : List ℕ)
+    → badRecord variables given k rest ≡ (malformed k rest || cannotGive variables given (inputType k) (getD rest 0 0))
 unfolding badRecord malformed
-tests variables cells k rest =
-    rw (held-at cells (getD rest 0 0))
-    (regroup (eqb (inputLength k) 0) (ltb (length rest) (inputLength k)) (eqb k 1 && ltb 1 (getD rest 1 0)) _)
+tests variables given k rest =
+    regroup (eqb (inputLength k) 0) (ltb (length rest) (inputLength k)) (eqb k 1 && ltb 1 (getD rest 1 0)) _
   where
     regroup : (a b c d : Bool) → (a || (b || (c || d))) ≡ ((a || (b || c)) || d)
     regroup true b c d = refl
@@ -98,7 +117,7 @@ tests variables cells k rest =
 
 same-record : (variables : List Variable) (cells : List ℕ) (gs : List Given) (k : ℕ) (rest : List ℕ) → Decoded cells gs
     → badRecord variables gs k rest ≡ badRecord variables (map givenOf cells) k rest
-unfolding badRecord
+unfolding badRecord cannotGive
 same-record variables cells gs k rest d = rw (held-at cells (getD rest 0 0), d (getD rest 0 0))
 
 stored : (cells : List ℕ) (gs : List Given) (v c : ℕ) (g : Given) → v < length cells → v < length gs → givenOf c ≡ g → Decoded cells gs
@@ -176,7 +195,7 @@ module _ {variables : List Variable} {bytes cells : List ℕ} {at : ℕ} (r : Re
       room = let w = f .whole in let l = length-drop (at + 1) bytes in omega arith
 
       pub cell : getD (drop (at + 1) bytes) 0 0 < length cells
-      cell = let k = f .known in let s = r .size in omega arith
+      cell = let k = f .free .known in let s = r .size in omega arith
 
       pub turn :
           Read variables bytes
@@ -188,7 +207,7 @@ module _ {variables : List Variable} {bytes cells : List ℕ} {at : ℕ} (r : Re
           let v = getD rest 0 0 in
           let c = valueCell (inputValue k rest) in
           let g = Present (inputValue k rest) in
-          let here : v < length (r .givens) = rw (r .number) (f .known) in
+          let here : v < length (r .givens) = rw (r .number) (f .free .known) in
           record {
             givens = set (r .givens) v g;
             rest =

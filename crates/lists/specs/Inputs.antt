@@ -34,16 +34,20 @@ abbrev pub isGiven : Given → Bool
 isGiven Absent = false
 isGiven (Present v) = true
 
+-- variable v cannot be given a value of this type: "unknown, of wrong type or repeated"
+unfoldable pub cannotGive : List Variable → List Given → ValueType → ℕ → Bool
+cannotGive variables given t v =
+    not (ltb v (length variables))
+    || (not (sameType t (getD variables v (record { holds = YesNo }) .holds))
+    || isGiven (getD given v Absent))
+
 -- "input record cut, strange, misprinted, unknown, of wrong type or repeated": rest are the bytes after the kind
 unfoldable pub badRecord : List Variable → List Given → ℕ → List ℕ → Bool
 badRecord variables given k rest =
-    let v = getD rest 0 0 in
     eqb (inputLength k) 0
     || (ltb (length rest) (inputLength k)
     || ((eqb k 1 && ltb 1 (getD rest 1 0))
-    || (not (ltb v (length variables))
-    || (not (sameType (inputType k) (getD variables v (record { holds = YesNo }) .holds))
-    || isGiven (getD given v Absent)))))
+    || cannotGive variables given (inputType k) (getD rest 0 0)))
 
 -- the list from here on, n bytes of a body left to pass
 unfoldable pub inputsFrom : List Variable → List ℕ → ℕ → List Given → Inputs

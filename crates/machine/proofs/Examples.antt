@@ -10,7 +10,7 @@ use Rattle.answers.specs.declared.Cause.the-variants.{Empty, Conflict, OutOfRan
 use Rattle.book.specs.Lists.{any}
 use Rattle.book.specs.Records.{follows, invalid}
 use Rattle.book.specs.Scopes.{sum}
-use Rattle.lists.specs.Inputs.{badRecord, inputsFrom, inputs}
+use Rattle.lists.specs.Inputs.{cannotGive, badRecord, inputsFrom, inputs}
 use Rattle.lists.specs.Results.{resultLength, resultsFrom, results}
 use Rattle.evaluation.specs.Evaluate.{Reply, refuse}
 use Rattle.answers.specs.declared.Refusal.the-variants.{NoSuchScope, Stuck}
@@ -117,5 +117,5 @@ expected (row a b ∷ rows) = b ∷ expected rows
 
 -- every run answers what it is to answer
 pub runs-hold : answers runs ≡ expected runs
-unfolding run accepted sound faulty counted follows invalid any blocksOf parse inFront hasBlock variablesOf allWellFormed wellFormed allFit fits lands weightIn sum asked runIn exec effect raised instructionOf shapeIn shapesOf kinds bigEndian bytesOf numberAt numberBytes inputs inputsFrom badRecord resultLength results resultsFrom
+unfolding run accepted sound faulty counted follows invalid any blocksOf parse inFront hasBlock variablesOf allWellFormed wellFormed allFit fits lands weightIn sum asked runIn exec effect raised instructionOf shapeIn shapesOf kinds bigEndian bytesOf numberAt numberBytes inputs inputsFrom cannotGive badRecord resultLength results resultsFrom
 runs-hold = refl

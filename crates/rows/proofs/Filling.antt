@@ -33,7 +33,7 @@ use Rattle.tabulation.specs.Assignments.{power}
 use Rattle.order.specs.Order.{among}
 use Rattle.book.specs.Sharing.{repeats}
 use Rattle.tabulation.specs.Chosen.{unfit}
-use Rattle.tabulation.proofs.Chosen.{Fit, fit}
+use Rattle.lists.proofs.Reading.{Free, can-give}
 use Rattle.tabulation.proofs.Giving.{fit-after}
 use Rattle.rows.specs.Filling.{cellRow, cellRows, FillsRow, FillsRows}
 use Rattle.rows.proofs.Power.{doubled}
@@ -54,9 +54,9 @@ one-of {chosen} more p q = split chosen more ∙ rw (p, q)
 
 -- the first chosen variable may be chosen; it is not among the others, and they may be chosen though it is given
 module _ (variables : List Variable) (gs : List Given) (v : ℕ) (vs : List ℕ) where
-  first-fit : any (unfit variables gs) (v ∷ vs) ≡ false → Fit variables gs v
+  first-fit : any (unfit variables gs) (v ∷ vs) ≡ false → Free variables gs YesNo v
   unfolding any
-  first-fit e = fit variables gs v (neither (unfit variables gs v) (any (unfit variables gs) vs) e .0)
+  first-fit e = can-give variables gs YesNo v (neither (unfit variables gs v) (any (unfit variables gs) vs) e .0)
 
   others-distinct : repeats (v ∷ vs) ≡ false → repeats vs ≡ false
   unfolding repeats
@@ -120,7 +120,7 @@ module _ {bytes index links orders : List ℕ} {i : ℕ} {chosen given memo tabl
     allFit : any (unfit variables (gives given)) (v ∷ vs) ≡ false
     allFit = ap (any (unfit variables (gives given))) (sym is) ∙ f .fit
 
-    fits : Fit variables (gives given) v
+    fits : Free variables (gives given) YesNo v
     fits = first-fit variables (gives given) v vs allFit
 
     room : v < length given

@@ -19,13 +19,11 @@ use lib.Dec.{eqb, ltb}
 use borrow.Author.Tests.{ltb-true, ltb-false, lt-ltb, eqb-true, eqb-false, eq-eqb, ne-eqb, not-false}
 use Rattle.laws.proofs.Booleans.{decide, both, or-cases, neither, both-ways, untrue}
 use Rattle.calculus.specs.declared.Given.{Given}
-use Rattle.calculus.specs.declared.Given.the-variants.{Absent}
 use Rattle.book.specs.Lists.{any}
 use Rattle.order.proofs.Among.{among-at}
-use Rattle.book.specs.Syntax.{sameType}
 use Rattle.book.specs.declared.ValueType.the-variants.{YesNo}
 use Rattle.book.specs.declared.Variable.{Variable}
-use Rattle.lists.specs.Inputs.{isGiven}
+use Rattle.lists.proofs.Reading.{Free, can-give}
 use Rattle.order.specs.Order.{among}
 use Rattle.book.specs.Sharing.{repeats}
 use Rattle.tabulation.specs.Chosen.{unfit, badChoice, chosenFrom, inOrder}
@@ -200,33 +198,13 @@ count-order variables (c ∷ cs) once known =
 
 -- Lists that are not refused
 
--- one variable that may be chosen
-pub record Fit (variables : List Variable) (fixed : List Given) (v : ℕ) : Type 0 where
-  pub known : v < length variables
-  pub typed : sameType YesNo (getD variables v (record { holds = YesNo }) .holds) ≡ true
-  pub fresh : isGiven (getD fixed v Absent) ≡ false
-
-pub fit : (variables : List Variable) (fixed : List Given) (v : ℕ) → unfit variables fixed v ≡ false → Fit variables fixed v
-unfolding unfit
-fit variables fixed v e =
-    let unknown = not (ltb v (length variables)) in
-    let mismatch = not (sameType YesNo (getD variables v (record { holds = YesNo }) .holds)) in
-    let given = isGiven (getD fixed v Absent) in
-    let a = neither unknown (mismatch || given) e in
-    let b = neither mismatch given (a .1) in
-    record {
-      known = ltb-true v (length variables) (not-false (ltb v (length variables)) (a .0));
-      typed = not-false (sameType YesNo (getD variables v (record { holds = YesNo }) .holds)) (b .0);
-      fresh = b .1;
-    }
-
 known-from : (variables : List Variable) (fixed : List Given) (chosen : List ℕ) → any (unfit variables fixed) chosen ≡ false
     → any (λ v. not (ltb v (length variables))) chosen ≡ false
 unfolding any
 known-from variables fixed [] e = refl
 known-from variables fixed (c ∷ cs) e =
     let n = neither (unfit variables fixed c) (any (unfit variables fixed) cs) e in
-    rw (lt-ltb c (length variables) (fit variables fixed c (n .0) .known), known-from variables fixed cs (n .1))
+    rw (lt-ltb c (length variables) (can-give variables fixed YesNo c (n .0) .known), known-from variables fixed cs (n .1))
 
 module _ (variables : List Variable) (fixed : List Given) (chosen : List ℕ) (ok : badChoice variables fixed chosen ≡ false) where
   tests : (ltb 12 (length chosen) ≡ false) × (repeats chosen ≡ false) × (any (unfit variables fixed) chosen ≡ false)
@@ -239,8 +217,8 @@ module _ (variables : List Variable) (fixed : List Given) (chosen : List ℕ) (o
   pub chosen-few : length chosen ≤ 12
   chosen-few = ltb-false 12 (length chosen) (tests .0)
 
-  pub chosen-fit : (v : ℕ) → among chosen v ≡ true → Fit variables fixed v
-  chosen-fit v here = fit variables fixed v (among-lacks (unfit variables fixed) chosen v (tests .2) here)
+  pub chosen-fit : (v : ℕ) → among chosen v ≡ true → Free variables fixed YesNo v
+  chosen-fit v here = can-give variables fixed YesNo v (among-lacks (unfit variables fixed) chosen v (tests .2) here)
 
   pub chosen-count : length (inOrder chosen variables) ≡ length chosen
   chosen-count = count-order variables chosen (tests .1) (known-from variables fixed chosen (tests .2))

@@ -19,7 +19,7 @@ use Rattle.calculus.specs.declared.Given.{Given}
 use Rattle.calculus.specs.declared.Given.the-variants.{Absent, Present}
 use Rattle.book.specs.Lists.{any}
 use Rattle.book.specs.declared.Variable.{Variable}
-use Rattle.lists.specs.Inputs.{good, badRecord, inputsFrom, inputs}
+use Rattle.lists.specs.Inputs.{good, cannotGive, badRecord, inputsFrom, inputs}
 use Rattle.lists.specs.Results.{bit}
 use Rattle.lists.proofs.Givens.{good-more}
 use Rattle.order.specs.Order.{among}
@@ -30,13 +30,13 @@ use Rattle.tabulation.specs.Giving.{giving}
 
 pub unfit-record : (variables : List Variable) (gs : List Given) (v : ℕ) (b : Bool) (rest : List ℕ)
     → unfit variables gs v ≡ badRecord variables gs 1 (v ∷ bit b ∷ rest)
-unfolding unfit badRecord
+unfolding badRecord
 unfit-record variables gs v false rest = rw (le-ltb (suc (suc (length rest))) 2 (omega arith))
 unfit-record variables gs v true rest = rw (le-ltb (suc (suc (length rest))) 2 (omega arith))
 
 pub fit-after : (variables : List Variable) (gs : List Given) (v : ℕ) (g : Given) (vs : List ℕ) → among vs v ≡ false
     → any (unfit variables gs) vs ≡ false → any (unfit variables (set gs v g)) vs ≡ false
-unfolding any among unfit
+unfolding any among cannotGive
 fit-after variables gs v g [] other ok = refl
 fit-after variables gs v g (w ∷ vs) other ok =
     let o = neither (eqb v w) (among vs v) other in

@@ -1,25 +1,20 @@
 -- The chosen variables: which lists of them are refused, and their order.
 use Prim.Native.Nat.{ℕ, suc}
-use mathlib.Core.Bool.{Bool, not, cond, _||_}
+use mathlib.Core.Bool.{Bool, cond, _||_}
 use mathlib.Core.List.{List, [], _∷_}
-use lib.ListN.{length, getD}
+use lib.ListN.{length}
 use lib.Dec.{ltb}
 use Rattle.calculus.specs.declared.Given.{Given}
-use Rattle.calculus.specs.declared.Given.the-variants.{Absent}
 use Rattle.order.specs.Order.{among}
 use Rattle.book.specs.Lists.{any}
 use Rattle.book.specs.Sharing.{repeats}
-use Rattle.book.specs.Syntax.{sameType}
 use Rattle.book.specs.declared.ValueType.the-variants.{YesNo}
 use Rattle.book.specs.declared.Variable.{Variable}
-use Rattle.lists.specs.Inputs.{isGiven}
+use Rattle.lists.specs.Inputs.{cannotGive}
 
 -- one variable, by the variables of the scope and what the fixed input list gives: "absent, not yes/no, or in the fixed list"
-unfoldable pub unfit : List Variable → List Given → ℕ → Bool
-unfit variables fixed v =
-    not (ltb v (length variables))
-    || (not (sameType YesNo (getD variables v (record { holds = YesNo }) .holds))
-    || isGiven (getD fixed v Absent))
+abbrev pub unfit : List Variable → List Given → ℕ → Bool
+unfit variables fixed = cannotGive variables fixed YesNo
 
 -- 18: "more than 12 chosen, one chosen twice, absent, not yes/no, or in the fixed list"
 unfoldable pub badChoice : List Variable → List Given → List ℕ → Bool

@@ -34,10 +34,11 @@ use Rattle.book.specs.References.{scopeAt}
 use Rattle.book.specs.Judge.{judge}
 use Rattle.book.specs.declared.Variable.{Variable}
 use Rattle.acceptance.proofs.Acceptance.{accepted-count}
-use Rattle.lists.specs.Inputs.{bad, inputs}
+use Rattle.book.specs.declared.ValueType.the-variants.{YesNo}
+use Rattle.lists.specs.Inputs.{bad, cannotGive, inputs}
 use Rattle.lists.specs.Reading.{Taken}
 use Rattle.lists.specs.Writing.{resultLengthAt}
-use Rattle.lists.proofs.Reading.{held-at}
+use Rattle.lists.proofs.Reading.{held-at, can-give}
 use Rattle.lists.proofs.Lengths.{length-most}
 use Rattle.evaluation.specs.Evaluate.{replyOf}
 use Rattle.evaluation.specs.Run.{runScope}
@@ -49,7 +50,7 @@ use Rattle.tabulation.specs.Assignments.{power}
 use Rattle.tabulation.specs.Giving.{giving}
 use Rattle.tabulation.specs.Tabulate.{rowOf, row, table, asked, tabulate, Tabulates}
 use Rattle.tabulation.specs.Answers.{Tabulable}
-use Rattle.tabulation.proofs.Chosen.{fit, order-repeated, order-fit, chosen-count, chosen-few}
+use Rattle.tabulation.proofs.Chosen.{order-repeated, order-fit, chosen-count, chosen-few}
 use Rattle.tabulation.proofs.Halves.{rows-same}
 use Rattle.tabulation.proofs.Rows.{row-run, table-length}
 use Rattle.rows.specs.Filling.{assign, cellRow, cellRows, FillsRows}
@@ -59,7 +60,7 @@ use Rattle.tabulator.specs.Service.{TableAsked, WritesTable}
 -- chosen variables are judged by what is given alone
 unfit-same : (variables : List Variable) (gs hs : List Given) → ((v : ℕ) → getD gs v Absent ≡ getD hs v Absent) → (chosen : List ℕ)
     → any (unfit variables gs) chosen ≡ any (unfit variables hs) chosen
-unfolding any unfit
+unfolding any cannotGive
 unfit-same variables gs hs same [] = refl
 unfit-same variables gs hs same (v ∷ vs) = rw (same v, unfit-same variables gs hs same vs)
 
@@ -71,7 +72,7 @@ assign-giving variables gs n [] a cells ok few = refl
 assign-giving variables gs n (v ∷ vs) [] cells ok few = refl
 assign-giving variables gs n (v ∷ vs) (b ∷ bs) cells ok few =
     let k = neither (unfit variables gs v) (any (unfit variables gs) vs) ok in
-    let there = fit variables gs v (k .0) .known in
+    let there = can-give variables gs YesNo v (k .0) .known in
     let next = set cells v (valueCell (Truth b)) in
     assign-giving variables gs n vs bs next (k .1) (omega (arith, few, length-set cells v (valueCell (Truth b))))
     ∙ ap (λ (g : List Given). giving g vs bs) (givens-set cells n v b (omega (arith, there, few)))

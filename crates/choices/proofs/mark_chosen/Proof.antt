@@ -32,20 +32,20 @@ sub-left c = search needs
 shared-slice-read-v : tie.Need-shared-slice-read-v Inv-loop μ-loop
 shared-slice-read-v c = let i = c .before .before .loop .inv .inside in omega (arith, c .before .loop-test .taken)
 
-is-unfit-requires : tie.Need-is-unfit-requires Inv-loop μ-loop
-is-unfit-requires c κs = search needs
+cannot-give-requires : tie.Need-cannot-give-requires Inv-loop μ-loop
+cannot-give-requires c κs = search needs
 
 same-length : tie.Need-same-length Inv-loop μ-loop
 same-length c = c .before .before .before .before .loop .inv .size ∙ sym (ap length (c .before .before .before .before .before .before .before .before .before .before .pre .1))
 
 returns-2 : tie.Need-returns-2 Inv-loop μ-loop
-returns-2 c = unfit-one (c .before .before .before .before .loop .inv) (c .before .before .before .loop-test .taken) (sym (c .before .is-unfit .ensures) ∙ c .if2 .taken)
+returns-2 c = unfit-one (c .before .before .before .before .loop .inv) (c .before .before .before .loop-test .taken) (sym (c .before .cannot-give .ensures) ∙ c .if2 .taken)
 
 cast-at : tie.Need-cast-at Inv-loop μ-loop
 cast-at c = omega (arith, c .before .before .shared-slice-known4 .given (c .before .before .before .before .loop .left - 1))
 
 slice-read-if3 : tie.Need-slice-read-if3 Inv-loop μ-loop
-slice-read-if3 c = has-mark (c .before .before .before .before .before .loop .inv) (c .before .before .before .before .loop-test .taken) (rw (typed-count _) (c .before .before .before .before .before .before .before .before .before .before .before .pre .0)) (sym (c .before .before .is-unfit .ensures) ∙ c .before .if2 .left)
+slice-read-if3 c = has-mark (c .before .before .before .before .before .loop .inv) (c .before .before .before .before .loop-test .taken) (rw (typed-count _) (c .before .before .before .before .before .before .before .before .before .before .before .pre .0)) (sym (c .before .before .cannot-give .ensures) ∙ c .before .if2 .left)
 
 same-length-2 : tie.Need-same-length-2 Inv-loop μ-loop
 same-length-2 c = c .before .before .before .before .before .before .loop .inv .size ∙ sym (ap length (c .before .before .before .before .before .before .before .before .before .before .before .before .pre .1))
@@ -54,14 +54,14 @@ returns-3 : tie.Need-returns-3 Inv-loop μ-loop
 returns-3 c = twice (c .before .before .before .before .before .before .loop .inv) (c .before .before .before .before .before .loop-test .taken) (marked-true _ _ (c .if3 .taken))
 
 slice-write-marks : tie.Need-slice-write-marks Inv-loop μ-loop
-slice-write-marks c = has-mark (c .before .before .before .before .before .before .loop .inv) (c .before .before .before .before .before .loop-test .taken) (rw (typed-count _) (c .before .before .before .before .before .before .before .before .before .before .before .before .pre .0)) (sym (c .before .before .before .is-unfit .ensures) ∙ c .before .before .if2 .left)
+slice-write-marks c = has-mark (c .before .before .before .before .before .before .loop .inv) (c .before .before .before .before .before .loop-test .taken) (rw (typed-count _) (c .before .before .before .before .before .before .before .before .before .before .before .before .pre .0)) (sym (c .before .before .before .cannot-give .ensures) ∙ c .before .before .if2 .left)
 
 loop-less : tie.Need-loop-less Inv-loop μ-loop
 loop-less c = omega (arith, c .before .before .before .before .before .loop-test .taken)
 
 loop-again : tie.Need-loop-again Inv-loop μ-loop
 loop-again c =
-    turn (c .before .before .before .before .before .before .loop .inv) (c .before .before .before .before .before .loop-test .taken) (rw (typed-count _) (c .before .before .before .before .before .before .before .before .before .before .before .before .pre .0)) (sym (c .before .before .before .is-unfit .ensures) ∙ c .before .before .if2 .left) (marked-false _ _ (c .if3 .left))
+    turn (c .before .before .before .before .before .before .loop .inv) (c .before .before .before .before .before .loop-test .taken) (rw (typed-count _) (c .before .before .before .before .before .before .before .before .before .before .before .before .pre .0)) (sym (c .before .before .before .cannot-give .ensures) ∙ c .before .before .if2 .left) (marked-false _ _ (c .if3 .left))
 
 same-length-3 : tie.Need-same-length-3 Inv-loop μ-loop
 same-length-3 c = c .before .loop .inv .size ∙ sym (ap length (c .before .before .before .before .before .before .before .pre .1))
@@ -79,7 +79,7 @@ mark-chosen-spec =
     loop-holds
     sub-left
     shared-slice-read-v
-    is-unfit-requires
+    cannot-give-requires
     same-length
     returns-2
     cast-at
