@@ -19,6 +19,33 @@ use links::RULES;
 use links::SIBLINGS;
 use links::fill_links;
 use links::slot_of;
+use record::KIND_ADD;
+use record::KIND_AND;
+use record::KIND_CALLED;
+use record::KIND_CONSTANT;
+use record::KIND_END_TRY;
+use record::KIND_ENTER;
+use record::KIND_EQUAL;
+use record::KIND_JOIN;
+use record::KIND_JUMP;
+use record::KIND_JUMP_IF_GIVEN;
+use record::KIND_JUMP_IF_NO;
+use record::KIND_LESS;
+use record::KIND_NEGATE;
+use record::KIND_NOT;
+use record::KIND_NUMBER;
+use record::KIND_OVERRIDE;
+use record::KIND_OWN;
+use record::KIND_PUSH_NOTHING;
+use record::KIND_RAISE_CONFLICT;
+use record::KIND_RAISE_EMPTY;
+use record::KIND_SCOPE;
+use record::KIND_SETTLE;
+use record::KIND_STORE;
+use record::KIND_SUB_SCOPE;
+use record::KIND_SUBTRACT;
+use record::KIND_TRY;
+use record::KIND_VARIABLE;
 use slices::byte_at;
 use trees::has_clause;
 ghost use mathlib.Core.Path.{_≡_};
@@ -103,9 +130,9 @@ fn put_truth(out: &mut [u8], at: usize, b: bool) -> usize
     ensures { λ r. ⌜ Emitted (now (out .entry)) at (literal (value.Truth b)) r (now (out .exit)) ⌝ }
 {
     if b {
-        put_two(out, at, 4, 1)
+        put_two(out, at, KIND_CONSTANT, 1)
     } else {
-        put_two(out, at, 4, 0)
+        put_two(out, at, KIND_CONSTANT, 0)
     }
 }
 
@@ -122,7 +149,7 @@ fn put_number(out: &mut [u8], at: usize, z: i32) -> usize
         (u / 256 / 256 / 256 % 256) as u8,
         (u / 256 / 256 % 256) as u8,
     );
-    put_one(out, q, 5)
+    put_one(out, q, KIND_NUMBER)
 }
 
 // What stands behind an exception: the end of its try, and the join of what it came to.
@@ -130,9 +157,9 @@ fn put_caught(out: &mut [u8], at: usize) -> usize
     requires { ⌜ Room at 6 ⌝ }
     ensures { λ r. ⌜ Emits (now (out .entry)) at caught 6 r (now (out .exit)) ⌝ }
 {
-    let p = put_two(out, at, 38, 39);
-    let q = put_far(out, p, 34, 1);
-    put_one(out, q, 37)
+    let p = put_two(out, at, KIND_PUSH_NOTHING, KIND_JOIN);
+    let q = put_far(out, p, KIND_JUMP, 1);
+    put_one(out, q, KIND_END_TRY)
 }
 
 // The kind of an operator of one operand.
@@ -140,8 +167,8 @@ fn unary_kind(op: Unary) -> u8
     ensures { λ r. ⌜ r ≡ unaryKind op ⌝ }
 {
     match op {
-        Unary::Not => 10,
-        Unary::Negate => 11,
+        Unary::Not => KIND_NOT,
+        Unary::Negate => KIND_NEGATE,
     }
 }
 
@@ -150,11 +177,11 @@ fn binary_kind(op: Binary) -> u8
     ensures { λ r. ⌜ r ≡ binaryKind op ⌝ }
 {
     match op {
-        Binary::And => 12,
-        Binary::Add => 13,
-        Binary::Subtract => 14,
-        Binary::Equal => 15,
-        Binary::Less => 16,
+        Binary::And => KIND_AND,
+        Binary::Add => KIND_ADD,
+        Binary::Subtract => KIND_SUBTRACT,
+        Binary::Equal => KIND_EQUAL,
+        Binary::Less => KIND_LESS,
     }
 }
 
@@ -185,19 +212,19 @@ fn emit_below(
     ensures { λ r. ⌜ Emitted (now (out .entry)) at (nodeBelow (now (book .entry)) i limit n) r (now (out .exit)) ⌝ }
 {
     if limit <= n {
-        return put_one(out, at, 32);
+        return put_one(out, at, KIND_RAISE_EMPTY);
     }
     let node = node_at(book, index, i, n);
     match node {
         Node::Constant(b) => put_truth(out, at, b),
         Node::Number(z) => put_number(out, at, z),
-        Node::Own(x) => put_two(out, at, 6, x),
+        Node::Own(x) => put_two(out, at, KIND_OWN, x),
         Node::Called(k, x) => {
             let p = put_two(out, at, k, x);
-            put_one(out, p, 7)
+            put_one(out, p, KIND_CALLED)
         }
-        Node::Empty(_) => put_one(out, at, 32),
-        Node::Conflict(_) => put_one(out, at, 33),
+        Node::Empty(_) => put_one(out, at, KIND_RAISE_EMPTY),
+        Node::Conflict(_) => put_one(out, at, KIND_RAISE_CONFLICT),
         Node::Unary(op, a) => {
             let p = put_one(out, at, unary_kind(op));
             emit_below(book, index, i, n, a as usize, out, p)
@@ -240,9 +267,9 @@ fn emit_branches(
     ensures { λ r.
         ⌜ EmittedBranches (now (out .entry)) at (nodeBelow (now (book .entry)) i limit c) (nodeBelow (now (book .entry)) i limit a) d r (now (out .exit)) ⌝ }
 {
-    let p = put_far(out, at, 34, d);
+    let p = put_far(out, at, KIND_JUMP, d);
     let q = emit_below(book, index, i, limit, a as usize, out, p);
-    let r = put_far(out, q, 35, q - p + 3);
+    let r = put_far(out, q, KIND_JUMP_IF_NO, q - p + 3);
     emit_below(book, index, i, limit, c as usize, out, r)
 }
 
@@ -264,7 +291,7 @@ fn emit_exception(
     }
     let p = put_caught(out, at);
     let q = emit_below(book, index, i, limit, x as usize, out, p);
-    put_far(out, q, 36, q - p + 4)
+    put_far(out, q, KIND_TRY, q - p + 4)
 }
 
 // A default of nodes below a limit.
@@ -281,7 +308,7 @@ fn emit_default(
     ensures { λ r.
         ⌜ Emitted (now (out .entry)) at (defaultBelow (now (book .entry)) i limit (d .first) (d .second) (d .third) (d .justification) (d .consequence)) r (now (out .exit)) ⌝ }
 {
-    let p = put_one(out, at, 32);
+    let p = put_one(out, at, KIND_RAISE_EMPTY);
     let q = emit_branches(
         book,
         index,
@@ -296,11 +323,11 @@ fn emit_default(
     if no_exception(d.first, d.second, d.third) {
         return q;
     }
-    let r = put_far(out, q, 40, q - at);
+    let r = put_far(out, q, KIND_SETTLE, q - at);
     let s = emit_exception(book, index, i, limit, d.third, out, r);
     let t = emit_exception(book, index, i, limit, d.second, out, s);
     let u = emit_exception(book, index, i, limit, d.first, out, t);
-    put_one(out, u, 38)
+    put_one(out, u, KIND_PUSH_NOTHING)
 }
 
 // A clause's condition, node n of scope i; 255: always.
@@ -344,10 +371,10 @@ fn emit_rest(book: &[u8], index: &[u16], i: usize, c: usize, out: &mut [u8], at:
     let clause = clause_at(book, index, i, c);
     let condition = clause.condition;
     let consequence = clause.consequence;
-    let p = put_one(out, at, 32);
-    let q = put_far(out, p, 34, 1);
+    let p = put_one(out, at, KIND_RAISE_EMPTY);
+    let q = put_far(out, p, KIND_JUMP, 1);
     let r = emit_consequence(book, index, i, consequence, out, q);
-    let s = put_far(out, r, 35, r - q + 3);
+    let s = put_far(out, r, KIND_JUMP_IF_NO, r - q + 3);
     emit_condition(book, index, i, condition, out, s)
 }
 
@@ -373,7 +400,7 @@ fn emit_chain(
     let q = put_caught(out, p);
     let r = emit_rest(book, index, i, c, out, q);
     let s = emit_around(book, index, links, i, first, r - q, out, r);
-    put_far(out, s, 36, s - q + 4)
+    put_far(out, s, KIND_TRY, s - q + 4)
 }
 
 // The exceptions that begin with a clause, in front of a justification and consequence of d bytes.
@@ -393,9 +420,9 @@ fn emit_around(
     if clause_count(book, index, i) <= first {
         return at;
     }
-    let p = put_far(out, at, 40, d);
+    let p = put_far(out, at, KIND_SETTLE, d);
     let q = emit_chain(book, index, links, i, first, out, p);
-    put_one(out, q, 38)
+    put_one(out, q, KIND_PUSH_NOTHING)
 }
 
 // Clause c of scope i.
@@ -424,7 +451,7 @@ fn put_outcome(out: &mut [u8], at: usize, ruled: bool) -> usize
     if ruled {
         put_truth(out, at, false)
     } else {
-        put_one(out, at, 32)
+        put_one(out, at, KIND_RAISE_EMPTY)
     }
 }
 
@@ -433,10 +460,10 @@ fn put_last(out: &mut [u8], at: usize, ruled: bool) -> usize
     requires { ⌜ Room at (size (lastResort ruled)) ⌝ }
     ensures { λ r. ⌜ Emitted (now (out .entry)) at (lastResort ruled) r (now (out .exit)) ⌝ }
 {
-    let p = put_one(out, at, 32);
-    let q = put_far(out, p, 34, 1);
+    let p = put_one(out, at, KIND_RAISE_EMPTY);
+    let q = put_far(out, p, KIND_JUMP, 1);
     let r = put_outcome(out, q, ruled);
-    let s = put_far(out, r, 35, r - q + 3);
+    let s = put_far(out, r, KIND_JUMP_IF_NO, r - q + 3);
     put_truth(out, s, true)
 }
 
@@ -479,7 +506,7 @@ fn emit_tree(
         return emit_bases(book, index, links, i, first, true, out, at);
     }
     if count <= first {
-        return put_one(out, at, 32);
+        return put_one(out, at, KIND_RAISE_EMPTY);
     }
     let next = byte_at(links, SIBLINGS + first) as usize;
     if count <= next {
@@ -502,11 +529,11 @@ fn emit_variable(
     ensures { λ r.
         ⌜ Emits (now (out .entry)) at (variablePiece (now (book .entry)) i x) (variableSize (now (book .entry)) i x) r (now (out .exit)) ⌝ }
 {
-    let p = put_two(out, at, 41, x);
+    let p = put_two(out, at, KIND_STORE, x);
     let q = emit_tree(book, index, links, i, 255, x, out, p);
     let d = q - at;
     let r = put_two(out, q, (d / 256 % 256) as u8, (d % 256) as u8);
-    put_two(out, r, 44, x)
+    put_two(out, r, KIND_JUMP_IF_GIVEN, x)
 }
 
 // The override of variable v of sub-scope k of scope i; nothing where no clause has that target.
@@ -528,7 +555,7 @@ fn emit_override(
         return at;
     }
     let p = put_two(out, at, k, v);
-    let q = put_one(out, p, 42);
+    let q = put_one(out, p, KIND_OVERRIDE);
     emit_tree(book, index, links, i, k, v, out, q)
 }
 
@@ -548,7 +575,7 @@ fn emit_call(
 {
     let j = sub_scope_at(book, index, i, k);
     let mut v = variable_count(book, index, j);
-    let mut p = put_two(out, at, 43, k as u8);
+    let mut p = put_two(out, at, KIND_ENTER, k as u8);
     while 0 < v {
         v -= 1;
         p = emit_override(book, index, links, i, k as u8, v as u8, out, p);
@@ -616,7 +643,7 @@ fn head_byte(book: &[u8], index: &[u16], i: usize, kind: u8, n: usize) -> u8
     requires { ⌜ Laid (now book) (now index) × Called (now book) i × (n < headCount (now book) i kind) ⌝ }
     ensures { λ r. ⌜ r ≡ headByte (now (book .entry)) i kind n ⌝ }
 {
-    if kind == 2 {
+    if kind == KIND_VARIABLE {
         let variable = variable_at(book, index, i, n);
         let holds = variable.holds;
         return type_byte(holds);
@@ -665,9 +692,9 @@ fn emit_block(
     let mut links = [255u8; 834];
     fill_links(book, index, i, &mut links);
     let p = emit_steps(book, index, &links, orders, i, out, at);
-    let q = emit_heads(book, index, i, 3, subs, out, p);
-    let r = emit_heads(book, index, i, 2, variables, out, q);
-    put_two(out, r, 1, i as u8)
+    let q = emit_heads(book, index, i, KIND_SUB_SCOPE, subs, out, p);
+    let r = emit_heads(book, index, i, KIND_VARIABLE, variables, out, q);
+    put_two(out, r, KIND_SCOPE, i as u8)
 }
 
 // The code of an accepted book of n scopes, at the end of memory that holds it; its length in any memory.
