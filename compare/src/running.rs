@@ -8,9 +8,11 @@ use crate::tally::{Done, Tally};
 use second::cases::draft::results_length;
 use second::cases::random::Random;
 use second::cases::{self, damage, inputs, lend, mix, Case, Expected, Service, Success};
+use second::machine::{join_cases, Observer, Side};
 use second::run::{observed_run, Denial};
 use second::selfcheck::{expected_code_faults, expected_stuck};
 use second::Answer;
+use std::collections::BTreeSet;
 
 type Ran = Done<Result<Answer, u8>>;
 
@@ -38,11 +40,29 @@ fn described(case: &Case, label: &str) -> String {
     format!("{label}, scope {scope}, inputs {inputs:02x?}, room {room}, {all} bytes: {code:02x?}")
 }
 
+/// The cases of the join that a run met.
+#[derive(Default)]
+struct Joins(BTreeSet<(Side, Side)>);
+
+impl Observer for &mut Joins {
+    fn executes(&mut self, _kind: u8) {}
+
+    fn joins(&mut self, case: (Side, Side)) {
+        self.0.insert(case);
+    }
+}
+
+fn joined((left, right): (Side, Side)) -> String {
+    format!("joined, {left:?} with {right:?}")
+}
+
 /// One run by both; what the engine did, and why the second program refused.
 fn compare(tally: &mut Tally, case: &Case, label: &str) -> (Ran, Option<Denial>) {
     let ours = done(engine::run, case);
     let mut memory = lend(case.room);
-    let ran = observed_run(&case.bytes, case.scope, &case.inputs, &mut memory, ());
+    let mut joins = Joins::default();
+    let ran = observed_run(&case.bytes, case.scope, &case.inputs, &mut memory, &mut joins);
+    joins.0.into_iter().for_each(|case| tally.meet(&joined(case)));
     let theirs = Done {
         answer: ran.map_err(u8::from),
         memory,
@@ -187,6 +207,7 @@ pub fn run(random: u64) -> bool {
         .iter()
         .for_each(|outcome| tally.expect_met(outcome));
     (13..=15).for_each(|refusal| tally.expect_met(&format!("refused {refusal}")));
+    join_cases().for_each(|case| tally.expect_met(&joined(case)));
     let faults = expected_code_faults().into_iter().map(Denial::BadCode);
     let stuck = expected_stuck().into_iter().map(Denial::Stuck);
     faults

@@ -41,14 +41,32 @@ pub enum Halt {
     Stuck(Stuck),
 }
 
-/// Told of every instruction before it is done.
+/// What kind 39 may find on each side.
+#[derive(Clone, Copy, Debug, PartialEq, Eq, PartialOrd, Ord)]
+pub enum Side {
+    Nothing,
+    Value,
+    Many,
+}
+
+/// "The nine cases of nothing, a value and many on each side", the left side first.
+pub fn join_cases() -> impl Iterator<Item = (Side, Side)> {
+    let sides = [Side::Nothing, Side::Value, Side::Many];
+    sides
+        .into_iter()
+        .flat_map(move |left| sides.map(|right| (left, right)))
+}
+
+/// Told of every instruction before it is done, and of the case of every join.
 pub trait Observer {
     fn executes(&mut self, kind: u8);
+    fn joins(&mut self, case: (Side, Side));
 }
 
 /// Observes nothing.
 impl Observer for () {
     fn executes(&mut self, _kind: u8) {}
+    fn joins(&mut self, _case: (Side, Side)) {}
 }
 
 /// An entry of the stack.
@@ -57,6 +75,16 @@ enum Entry {
     Value(Value),
     Nothing,
     Many,
+}
+
+impl Entry {
+    fn side(self) -> Side {
+        match self {
+            Entry::Value(_) => Side::Value,
+            Entry::Nothing => Side::Nothing,
+            Entry::Many => Side::Many,
+        }
+    }
 }
 
 /// An open try: where it lands and the stack height it keeps.
@@ -289,6 +317,7 @@ impl<'a, O: Observer> Machine<'a, O> {
     fn join(&mut self) -> Result<(), Halt> {
         let right = self.take()?;
         let left = self.take()?;
+        self.observer.joins((left.side(), right.side()));
         self.push(match (left, right) {
             (Entry::Nothing, other) | (other, Entry::Nothing) => other,
             _ => Entry::Many,

@@ -1,12 +1,12 @@
 //! The fixed cases: every limit met and passed, extreme shapes, every way of each
-//! fault, and the tables of directed code.
+//! fault, the tables of directed code, and every case of the join.
 
 use super::books::{book, Plan};
 use super::draft::{results_length, Draft, DraftScope, CLAUSES, NODES, NUMBER, YES_NO};
 use super::faults::{fault, two_faults, WAYS};
 use super::mix::{evaluate_term, run_directed};
 use super::random::Random;
-use super::{badcode, deepest, heavy, inputs, shapes, stuck, terms};
+use super::{badcode, deepest, heavy, inputs, joins, shapes, stuck, terms};
 use super::{Case, Expected, Service};
 use crate::answer::Outcome;
 use crate::code_of;
@@ -25,6 +25,10 @@ pub fn fixed() -> Vec<Case> {
     for (code, expected) in badcode::all() {
         let case = Case::new("code of the acceptance table", Service::Run, code);
         cases.push(case.expecting(expected).asking(1, Vec::new(), 40));
+    }
+    for (code, expected) in joins::all() {
+        let case = Case::new("join of two entries", Service::Run, code);
+        cases.push(case.expecting(expected).asking(0, Vec::new(), 6));
     }
     cases
 }

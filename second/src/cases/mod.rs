@@ -15,6 +15,7 @@ pub mod handed;
 pub mod handmade;
 pub mod heavy;
 pub mod inputs;
+pub mod joins;
 pub mod long;
 pub mod mix;
 pub mod named;

@@ -3,7 +3,7 @@
 use crate::answer::Outcome;
 use crate::cases::{Case, Reply, Service, Success};
 use crate::code::CodeFault;
-use crate::machine::{Observer, Stuck, StuckCause};
+use crate::machine::{join_cases, Observer, Side, Stuck, StuckCause};
 use crate::naive;
 use crate::run::Denial;
 use crate::tabulate::MAX_CHOSEN;
@@ -22,23 +22,32 @@ pub struct Coverage {
     book_kinds: BTreeMap<u8, usize>,
     /// First words that rulerun printed.
     printed: BTreeMap<String, usize>,
-    /// Instructions executed, by kind.
     executed: Executed,
     digest: u64,
 }
 
-/// Counts instructions by kind.
-pub struct Executed([u64; 256]);
+/// Counts instructions by kind, and joins by case.
+pub struct Executed {
+    kinds: [u64; 256],
+    joins: BTreeMap<(Side, Side), usize>,
+}
 
 impl Default for Executed {
     fn default() -> Self {
-        Executed([0; 256])
+        Executed {
+            kinds: [0; 256],
+            joins: BTreeMap::new(),
+        }
     }
 }
 
 impl Observer for &mut Executed {
     fn executes(&mut self, kind: u8) {
-        self.0[usize::from(kind)] += 1;
+        self.kinds[usize::from(kind)] += 1;
+    }
+
+    fn joins(&mut self, case: (Side, Side)) {
+        *self.joins.entry(case).or_default() += 1;
     }
 }
 
@@ -160,8 +169,12 @@ impl Coverage {
             all.push((format!("book kind {kind}"), hits(&self.book_kinds, &kind)));
         }
         for kind in (4..=7usize).chain(10..=16).chain(32..=44) {
-            let times = self.executed.0[kind];
+            let times = self.executed.kinds[kind];
             all.push((format!("executed kind {kind}"), times.min(1) as usize));
+        }
+        for case in join_cases() {
+            let times = hits(&self.executed.joins, &case);
+            all.push((format!("joined {case:?}"), times));
         }
         all
     }
@@ -193,10 +206,21 @@ impl Coverage {
             self.book_kinds.len(),
             least(&self.book_kinds)
         );
-        let kinds = self.executed.0.iter().filter(|&&times| times > 0).count();
+        let kinds = self
+            .executed
+            .kinds
+            .iter()
+            .filter(|&&times| times > 0)
+            .count();
         println!(
             "{kinds} kinds executed, {} instructions",
-            self.executed.0.iter().sum::<u64>()
+            self.executed.kinds.iter().sum::<u64>()
+        );
+        let joins = &self.executed.joins;
+        println!(
+            "{} cases of the join, least met {}",
+            joins.len(),
+            least(joins)
         );
         println!("digest of cases and replies {:016x}", self.digest);
     }
