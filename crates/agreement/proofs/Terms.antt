@@ -14,7 +14,8 @@ use Rattle.slices.specs.Bytes.{bytesOf}
 use Rattle.calculus.specs.Values.{numberOf, lowest, highest, ranged}
 use Rattle.calculus.specs.Operators.{unaryOf, binaryOf}
 use Rattle.calculus.specs.Outcomes.{unaryOn, binaryOn, choose}
-use Rattle.calculus.specs.Defaults.{join, gather, settle}
+use Rattle.calculus.specs.Joining.{join}
+use Rattle.calculus.specs.Defaults.{gather, settle}
 use Rattle.calculus.specs.Terms.{Term, Terms, literal, own, called, error, unary, binary, choice, default, none, also}
 use Rattle.calculus.specs.Evaluation.{Env, eval, exceptions}
 use Rattle.calculus.specs.declared.Value.{Value}

@@ -1,35 +1,18 @@
 -- What exceptions come to, together. Assumes nothing.
 use mathlib.Core.Path.{_≡_, refl, sym, ap, _∙_}
-use Rattle.calculus.specs.Defaults.{join, found, together, gather}
+use Rattle.calculus.specs.Defaults.{found, together, gather}
 use Rattle.calculus.specs.Terms.{Terms, none, also}
 use Rattle.calculus.specs.Evaluation.{Env, eval, exceptions}
 use Rattle.answers.specs.declared.Cause.{Cause}
 use Rattle.calculus.specs.declared.Outcome.{Outcome}
-use Rattle.calculus.specs.declared.Joined.{Joined}
-use Rattle.calculus.specs.declared.Joined.the-variants.{Nothing, One, Many}
+use Rattle.calculus.specs.declared.Joined.the-variants.{Nothing}
 use Rattle.calculus.specs.declared.Gathered.{Gathered}
 use Rattle.calculus.specs.declared.Gathered.the-variants.{SoFar, Ended}
+use Rattle.calculus.proofs.Joining.{join-nothing-left, join-nothing-right, join-assoc}
 
-pub join-nothing-left : (a : Joined) → join Nothing a ≡ a
-join-nothing-left a = refl
-
-pub join-nothing-right : (a : Joined) → join a Nothing ≡ a
-join-nothing-right Nothing = refl
-join-nothing-right (One u) = refl
-join-nothing-right Many = refl
-
-pub join-assoc : (a b c : Joined) → join (join a b) c ≡ join a (join b c)
-join-assoc Nothing b c = refl
-join-assoc (One u) Nothing c = refl
-join-assoc (One u) (One v) Nothing = refl
-join-assoc (One u) (One v) (One w) = refl
-join-assoc (One u) (One v) Many = refl
-join-assoc (One u) Many c = refl
-join-assoc Many b c = refl
-
--- the same of parts of the exceptions, some of which may have ended
+-- the laws of the join, of parts of the exceptions, some of which may have ended
 pub together-nothing-left : (a : Gathered) → together (SoFar Nothing) a ≡ a
-together-nothing-left (SoFar j) = refl
+together-nothing-left (SoFar j) = rw join-nothing-left
 together-nothing-left (Ended c) = refl
 
 pub together-nothing-right : (a : Gathered) → together a (SoFar Nothing) ≡ a

@@ -27,6 +27,7 @@ use Rattle.calculus.specs.declared.Outcome.{Outcome}
 use Rattle.calculus.specs.declared.Outcome.the-variants.{Gives, Ends}
 use Rattle.calculus.specs.declared.Joined.the-variants.{Nothing, One}
 use Rattle.calculus.specs.declared.Gathered.the-variants.{SoFar}
+use Rattle.calculus.proofs.Joining.{join-nothing-left}
 use Rattle.calculus.proofs.Exceptions.{exceptions-ended}
 use Rattle.calculus.proofs.ReductionExceptions.{joined, exceptions-behind, exceptions-empties, two-join}
 use Rattle.calculus.proofs.ReductionHalts.{Halts, value, step, halts}
@@ -89,7 +90,7 @@ module _ (e : Env) where
 
     eval-seen : (t : Term) → eval e (default (behind vs (also t es)) j c) ≡ seen (eval e t)
     unfolding eval seen
-    eval-seen t = rw (exceptions-behind e Nothing vs (also t es))
+    eval-seen t = rw (exceptions-behind e Nothing vs (also t es), join-nothing-left (joined vs))
 
     fatal-ends : (x : Cause) → fatal x ≡ true → seen (Ends x) ≡ Ends x
     unfolding seen

@@ -5,7 +5,7 @@ use mathlib.Core.Path.{_≡_, refl, ap, subst, _∙_}
 use mathlib.Core.Option.{Option, some}
 use mathlib.Core.Option as option
 use mathlib.Core.List.{List, [], _∷_, _++_}
-use Rattle.calculus.specs.Defaults.{join}
+use Rattle.calculus.specs.Joining.{join}
 use Rattle.calculus.specs.Terms.{Terms, literal, error, none, also}
 use Rattle.calculus.specs.Evaluation.{Env, exceptions}
 use Rattle.calculus.specs.Reduction.{settledTerm, behind, empties}
@@ -14,7 +14,7 @@ use Rattle.answers.specs.declared.Cause.the-variants.{Empty}
 use Rattle.calculus.specs.declared.Joined.{Joined}
 use Rattle.calculus.specs.declared.Joined.the-variants.{Nothing, One, Many}
 use Rattle.calculus.specs.declared.Gathered.the-variants.{SoFar}
-use Rattle.calculus.proofs.Exceptions.{join-nothing-right, join-assoc}
+use Rattle.calculus.proofs.Joining.{join-nothing-right, join-many-left, join-assoc}
 
 -- what exceptions that are values come to
 unfoldable pub joined : List (Option Value) → Joined
@@ -37,11 +37,11 @@ exceptions-empties e j (suc n) es = rw (join-nothing-right j) (exceptions-emptie
 
 -- two values among others give many
 pub two-join : (j k l : Joined) (v w : Value) → join (join (join (join j (One v)) k) (One w)) l ≡ Many
-two-join Nothing Nothing l v w = refl
-two-join Nothing (One u) l v w = refl
-two-join Nothing Many l v w = refl
-two-join (One u) k l v w = refl
-two-join Many k l v w = refl
+two-join Nothing Nothing l v w = join-many-left l
+two-join Nothing (One u) l v w = join-many-left l
+two-join Nothing Many l v w = join-many-left l
+two-join (One u) k l v w = rw (join-many-left k) (join-many-left l)
+two-join Many k l v w = rw (join-many-left k) (join-many-left l)
 
 -- one more exception that is a value
 pub behind-one-more : (vs : List (Option Value)) (v : Option Value) (es : Terms)

@@ -1,4 +1,5 @@
 -- Defaults: what the exceptions come to, and the result of the whole.
+use Rattle.calculus.specs.Joining.{join}
 use Rattle.answers.specs.declared.Cause.{Cause}
 use Rattle.answers.specs.declared.Cause.the-variants.{Empty, Conflict, OutOfRange}
 use Rattle.calculus.specs.declared.Outcome.{Outcome}
@@ -7,14 +8,6 @@ use Rattle.calculus.specs.declared.Joined.{Joined}
 use Rattle.calculus.specs.declared.Joined.the-variants.{Nothing, One, Many}
 use Rattle.calculus.specs.declared.Gathered.{Gathered}
 use Rattle.calculus.specs.declared.Gathered.the-variants.{SoFar, Ended}
-
--- "nothing with a gives a; two values, or 'many' with anything, give 'many'"
-abbrev pub join : Joined → Joined → Joined
-join Nothing b = b
-join (One u) Nothing = One u
-join (One u) (One v) = Many
-join (One u) Many = Many
-join Many b = Many
 
 -- what an exception without a value comes to: an empty one to nothing
 abbrev pub caught : Cause → Gathered

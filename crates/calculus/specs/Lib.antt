@@ -1,9 +1,11 @@
 pub mod Values
 pub mod Operators
 pub mod Outcomes
+pub mod Joining
 pub mod Defaults
 pub mod Terms
 pub mod Evaluation
 pub mod Strips
 pub mod Reduction
+pub mod ProcessExceptions
 pub mod Overriding

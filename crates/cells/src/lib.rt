@@ -1,12 +1,14 @@
 // A variable, a joined value and an outcome as one number, a cell; slices of cells hold the variables of a scope.
 use answers::Cause;
 use calculus::Given;
+use calculus::Joined;
 use calculus::Value;
 use integers::bits_of;
 use integers::number_of;
 ghost use mathlib.Core.Path.{_≡_};
 ghost use Rattle.cells.specs.Cells.{givenOf, givenAt, held};
-ghost use Rattle.cells.specs.Codec.{valueCell, causeOf};
+ghost use Rattle.cells.specs.Codec.{valueCell, valueOf, causeOf};
+ghost use Rattle.cells.specs.Joining.{joinedOf, joinCell};
 
 // The cells in their order, a tag times 2 ^ 32: a value is below MANY, and what is not below EMPTY is an end with its cause.
 pub const NOTHING: u64 = 0;
@@ -49,6 +51,16 @@ pub fn cause_of(c: u64) -> Cause
     Cause::OutOfRange
 }
 
+// What a value's cell holds.
+pub fn value_in(c: u64) -> Value
+    ensures { λ r. ⌜ r ≡ valueOf c ⌝ }
+{
+    if c < ZERO {
+        return Value::Truth(c == YES);
+    }
+    Value::Number(number_of((c % 4294967296) as u32))
+}
+
 // What a variable's cell holds.
 pub fn given_of(c: u64) -> Given
     ensures { λ r. ⌜ r ≡ givenOf c ⌝ }
@@ -56,10 +68,7 @@ pub fn given_of(c: u64) -> Given
     if c == NOTHING {
         return Given::Absent;
     }
-    if c < ZERO {
-        return Given::Present(Value::Truth(c == YES));
-    }
-    Given::Present(Value::Number(number_of((c % 4294967296) as u32)))
+    Given::Present(value_in(c))
 }
 
 // What the cell at a place holds; past the end nothing.
@@ -80,5 +89,43 @@ pub fn value_of(g: Given) -> Value
     match g {
         Given::Absent => Value::Truth(false),
         Given::Present(v) => v,
+    }
+}
+
+// What a joined cell holds.
+pub fn joined_of(c: u64) -> Joined
+    ensures { λ r. ⌜ r ≡ joinedOf c ⌝ }
+{
+    if c == NOTHING {
+        return Joined::Nothing;
+    }
+    if c < MANY {
+        return Joined::One(value_in(c));
+    }
+    Joined::Many
+}
+
+// What two found exceptions come to together, the left one found first: the nine cases of nothing, a value and many on each side.
+pub fn join(a: u64, b: u64) -> u64
+    ensures { λ r. ⌜ r ≡ joinCell a b ⌝ }
+{
+    let left = joined_of(a);
+    let right = joined_of(b);
+    match left {
+        Joined::Nothing => match right {
+            Joined::Nothing => NOTHING,
+            Joined::One(_) => b,
+            Joined::Many => MANY,
+        },
+        Joined::One(_) => match right {
+            Joined::Nothing => a,
+            Joined::One(_) => MANY, // where figure 10 raises
+            Joined::Many => MANY,
+        },
+        Joined::Many => match right {
+            Joined::Nothing => MANY,
+            Joined::One(_) => MANY,
+            Joined::Many => MANY,
+        },
     }
 }

@@ -15,7 +15,9 @@ use borrow.Author.Tests.{eq-eqb}
 use Rattle.calculus.specs.Values.{truthOf, numberOf, lowest, highest, ranged}
 use Rattle.calculus.specs.Operators.{unaryOf, binaryOf}
 use Rattle.calculus.specs.Outcomes.{bind, choose}
-use Rattle.calculus.specs.Defaults.{join, found, together, gather, settle}
+use Rattle.calculus.specs.Joining.{join}
+use Rattle.calculus.specs.Defaults.{found, together, gather, settle}
+use Rattle.calculus.proofs.Joining.{join-nothing-left, join-many-left}
 use Rattle.calculus.specs.Terms.{Term, Terms, literal, own, called, error, unary, binary, choice, default, none, also}
 use Rattle.calculus.specs.Evaluation.{Env, eval, exceptions}
 use Rattle.calculus.specs.declared.Value.{Value}
@@ -132,11 +134,11 @@ choose-fits t c a b p q = bind-fits t c (λ v. cond (truthOf v) a b) (λ v. go (
     go false = q
 
 join-fits : (t : ValueType) (a b : Joined) → JoinedFits t a → JoinedFits t b → JoinedFits t (join a b)
-join-fits t Nothing b p q = q
+join-fits t Nothing b p q = rw (join-nothing-left b) q
 join-fits t (One u) Nothing p q = p
 join-fits t (One u) (One v) p q = tt
 join-fits t (One u) Many p q = tt
-join-fits t Many b p q = tt
+join-fits t Many b p q = rw (join-many-left b) tt
 
 found-fits : (t : ValueType) (o : Outcome) → OutcomeFits t o → GatheredFits t (found o)
 found-fits t (Gives v) h = h

@@ -18,13 +18,14 @@ use Rattle.calculus.specs.declared.Given.{Given}
 use Rattle.calculus.specs.declared.Given.the-variants.{Absent, Present}
 use Rattle.cells.specs.Codec.{noCell, zeroCell, manyCell, valueOf}
 use Rattle.cells.specs.Cells.{givenOf, held}
+use Rattle.cells.specs.Joining.{joinedOf}
 use Rattle.cells.proofs.Variables.{held-is}
 use Rattle.book.specs.Syntax.{sameType}
 use Rattle.book.specs.declared.ValueType.{ValueType}
 use Rattle.lists.specs.Writing.{valueType}
 use Rattle.machine.specs.Machine.{unset, stored, Callee, waiting, Memory, Try, Next, go, stop, stuck, taking, wanting, pushed, readFrom, readIn, valueAt, storedTo, overridden, jumpedIfGiven}
 use Rattle.instructions.specs.declared.Move.the-variants as move
-use Rattle.instructions.specs.Views.{entryOf, entries, opened, tab, cellWith, ownCell, givensAt, valuesIn, calleeAt}
+use Rattle.instructions.specs.Views.{entries, opened, tab, cellWith, ownCell, givensAt, valuesIn, calleeAt}
 use Rattle.instructions.specs.Effects.{Room, Encodes, Takes, Storing, Handing}
 use Rattle.instructions.proofs.Stack.{value-entry}
 
@@ -78,20 +79,23 @@ pub present : (c : ℕ) → (c ≡ 0 → ⊥) → givenOf c ≡ Present (held (g
 unfolding givenOf
 present c p = rw (ne-eqb c 0 p)
 
-pub cell-zero : {c : ℕ} → c ≡ 0 → entryOf noCell ≡ One (held (givenOf c))
-unfolding entryOf givenOf valueOf
+pub cell-zero : {c : ℕ} → c ≡ 0 → joinedOf noCell ≡ One (held (givenOf c))
+unfolding joinedOf givenOf valueOf
 cell-zero e = rw e
 
 same-number : (a b : ℕ) → zeroCell ≤ a → zeroCell ≤ b → a % 4294967296 ≡ b % 4294967296 → valueOf a ≡ valueOf b
 unfolding valueOf
 same-number a b p q e = rw (le-ltb a zeroCell p, le-ltb b zeroCell q, e)
 
-pub cell-high : (c : ℕ) → manyCell ≤ c → entryOf (c % 4294967296 + zeroCell) ≡ One (held (givenOf c))
+pub cell-high : (c : ℕ) → manyCell ≤ c → joinedOf (c % 4294967296 + zeroCell) ≡ One (held (givenOf c))
 cell-high c p =
     let n = c % 4294967296 in
     let l : n < 4294967296 = omega arith in
     let d = n + zeroCell in
-    value-entry d (λ e. absurd (omega arith)) (omega arith) ∙ ap One (held-is d ∙ same-number d c (omega arith) (omega arith) (omega arith) ∙ sym (held-is c))
+    value-entry d (λ e. absurd (omega arith)) (omega arith) ∙ ap One (same-number d c (omega arith) (omega arith) (omega arith) ∙ sym (held-is c))
+
+pub cell-value : (c : ℕ) → (c ≡ 0 → ⊥) → c < manyCell → joinedOf c ≡ One (held (givenOf c))
+cell-value c p q = value-entry c p q ∙ ap One (sym (held-is c))
 
 -- Reading
 

@@ -19,7 +19,6 @@ use mir.Val.{SFits}
 use lib.ListN.{length-set}
 use Rattle.calculus.specs.Values.{numberOf, truthOf}
 use Rattle.calculus.specs.Operators.{unaryOf, binaryOf}
-use Rattle.calculus.specs.Defaults as defaults
 use Rattle.calculus.specs.declared.Value.{Value}
 use Rattle.answers.specs.declared.Cause.{Cause}
 use Rattle.answers.specs.declared.Cause.the-variants.{Conflict}
@@ -31,10 +30,12 @@ use Rattle.calculus.specs.declared.Given.{Given}
 use Rattle.calculus.specs.declared.Given.the-variants.{Absent, Present}
 use Rattle.calculus.specs.declared.Unary.{Unary}
 use Rattle.calculus.specs.declared.Binary.{Binary}
-use Rattle.cells.specs.Codec.{manyCell, valueCell}
-use Rattle.cells.specs.Cells.{givenOf, held}
-use Rattle.cells.proofs.Codec.{value-high, value-low}
+use Rattle.cells.specs.Codec.{manyCell, valueCell, valueOf}
+use Rattle.cells.specs.Cells.{held}
+use Rattle.cells.specs.Joining.{joinedOf, joinCell}
+use Rattle.cells.proofs.Codec.{value-decoded, value-high, value-low}
 use Rattle.cells.proofs.Variables.{given-cell}
+use Rattle.cells.proofs.Joining.{join-decoded}
 use Rattle.book.specs.Syntax.{sameType}
 use Rattle.book.specs.Typing.{unaryType, operandType}
 use Rattle.book.specs.declared.ValueType.{ValueType}
@@ -45,7 +46,7 @@ use Rattle.evaluation.specs.Run.{ended}
 use Rattle.machine.specs.Instructions.{Instruction}
 use Rattle.machine.specs.Machine.{Memory, Try, Next, stop, ran, stuck, taking, pushed, answered, Surroundings, effect}
 use Rattle.instructions.specs.declared.Move.the-variants as move
-use Rattle.instructions.specs.Views.{entryOf, entries, opened}
+use Rattle.instructions.specs.Views.{entries, opened}
 use Rattle.instructions.specs.Effects.{Room, Moves, Encodes, Takes, suitable}
 
 pub entries-length : (st : List ℕ) (h : ℕ) → length (entries st h) ≡ h
@@ -58,26 +59,26 @@ unfolding entries
 entries-set st zero i v le = refl
 entries-set st (suc h) i v le = rw (getD-set-other st i h v 0 (omega arith), entries-set st h i v (omega arith))
 
-pub entries-put : (st : List ℕ) (h v : ℕ) → h < length st → entries (set st h v) (h + 1) ≡ entryOf v ∷ entries st h
+pub entries-put : (st : List ℕ) (h v : ℕ) → h < length st → entries (set st h v) (h + 1) ≡ joinedOf v ∷ entries st h
 unfolding entries
 entries-put st h v lt = rw (add-one h) (rw (getD-set-same st h v 0 lt, entries-set st h h v (omega arith)))
 
-pub entries-top : (st : List ℕ) (h : ℕ) → 0 < h → entries st h ≡ entryOf (getD st (h - 1) 0) ∷ entries st (h - 1)
+pub entries-top : (st : List ℕ) (h : ℕ) → 0 < h → entries st h ≡ joinedOf (getD st (h - 1) 0) ∷ entries st (h - 1)
 unfolding entries
 entries-top st h p = let e : h ≡ suc (h - 1) = omega arith in ap (entries st) e
 
 -- Values as entries
 
-pub value-entry : (c : ℕ) → (c ≡ 0 → ⊥) → c < manyCell → entryOf c ≡ One (held (givenOf c))
-unfolding entryOf
+pub value-entry : (c : ℕ) → (c ≡ 0 → ⊥) → c < manyCell → joinedOf c ≡ One (valueOf c)
+unfolding joinedOf
 value-entry c p q = rw (ne-eqb c 0 p, lt-ltb c manyCell q)
 
-pub nothing-entry : {c : ℕ} → c ≡ 0 → entryOf c ≡ Nothing
-unfolding entryOf
+pub nothing-entry : {c : ℕ} → c ≡ 0 → joinedOf c ≡ Nothing
+unfolding joinedOf
 nothing-entry e = rw e
 
-pub many-entry : (c : ℕ) → manyCell ≤ c → entryOf c ≡ Many
-unfolding entryOf
+pub many-entry : (c : ℕ) → manyCell ≤ c → joinedOf c ≡ Many
+unfolding joinedOf
 many-entry c p = rw (ne-eqb c 0 (λ e. absurd (omega arith)), le-ltb c manyCell p)
 
 pub encodes : (v : Value) → SFits w32 (numberOf v) → Encodes v (valueCell v)
@@ -85,7 +86,7 @@ encodes v f =
     let l = value-high v in
     record {
       cell = given-cell v f;
-      entry = value-entry (valueCell v) (λ e. absurd (omega arith)) (value-low v f) ∙ ap (λ (g : Given). One (held g)) (given-cell v f);
+      entry = value-entry (valueCell v) (λ e. absurd (omega arith)) (value-low v f) ∙ ap One (value-decoded v f);
     }
 
 -- The top
@@ -110,7 +111,7 @@ module _ (st : List ℕ) (h : ℕ) where
   pub take-many : 0 < h → manyCell ≤ getD st (h - 1) 0 → Takes Absent st h
   take-many p e = no-value (λ f. rw (entries-top st h p, many-entry (getD st (h - 1) 0) e))
 
-  pub take-value : 0 < h → (getD st (h - 1) 0 ≡ 0 → ⊥) → getD st (h - 1) 0 < manyCell → Takes (Present (held (givenOf (getD st (h - 1) 0)))) st h
+  pub take-value : 0 < h → (getD st (h - 1) 0 ≡ 0 → ⊥) → getD st (h - 1) 0 < manyCell → Takes (Present (valueOf (getD st (h - 1) 0))) st h
   take-value p q r =
       record {
         none = λ e. absurd (absent-not (sym e));
@@ -122,14 +123,14 @@ module _ (st : List ℕ) (h : ℕ) where
 pub room : {h t : ℕ} {st tr : List ℕ} → (h ≤ length st) × (h ≤ 1024) → (t ≤ 512) × (t * 2 ≤ length tr) → Room h t st tr
 room p q = record { height = p .1; stack = p .0; tries = q .0; pairs = q .1 }
 
-pub push-full : (st : List ℕ) (h e : ℕ) → 1024 ≤ h → (ts : List Try) (m : Memory) → pushed (entryOf e) (entries st h) ts m ≡ stop stuck
+pub push-full : (st : List ℕ) (h e : ℕ) → 1024 ≤ h → (ts : List Try) (m : Memory) → pushed (joinedOf e) (entries st h) ts m ≡ stop stuck
 push-full st h e p ts m = rw (entries-length st h, le-ltb h 1024 p)
 
 put-room : (st : List ℕ) (h e t : ℕ) {tr : List ℕ} → h < 1024 → h < length st → (t ≤ 512) × (t * 2 ≤ length tr) → Room (h + 1) t (set st h e) tr
 put-room st h e t p q r = let l = length-set st h e in record { height = omega arith; stack = omega arith; tries = r .0; pairs = r .1 }
 
 pub push-go : (st : List ℕ) (h e n t : ℕ) → h < 1024 → h < length st → (tr : List ℕ) (m : Memory) → Room h t st tr
-    → Moves (move.Go n (h + 1) t) n (set st h e) tr m (pushed (entryOf e) (entries st h) (opened tr t) m)
+    → Moves (move.Go n (h + 1) t) n (set st h e) tr m (pushed (joinedOf e) (entries st h) (opened tr t) m)
 push-go st h e n t p q tr m r =
     let z : n - n ≡ 0 = omega arith in
     (rw (entries-length st h, lt-ltb h 1024 p, entries-put st h e q, z), omega arith, put-room st h e t p q (r .tries, r .pairs))
@@ -205,33 +206,11 @@ module _ {st : List ℕ} {h : ℕ} {g : Given} (k : Takes g st h) (env : Surroun
 
 -- Joining
 
-join-right : (j : Joined) → defaults.join j Nothing ≡ j
-join-right Nothing = refl
-join-right (One v) = refl
-join-right Many = refl
-
-join-filled : (p q : Bool) (x y : Value) → defaults.join (cond p (One x) Many) (cond q (One y) Many) ≡ Many
-join-filled true true x y = refl
-join-filled true false x y = refl
-join-filled false true x y = refl
-join-filled false false x y = refl
-
-pub joined-left : {a : ℕ} (b : ℕ) → a ≡ 0 → entryOf b ≡ defaults.join (entryOf a) (entryOf b)
-joined-left b e = rw (nothing-entry e)
-
-pub joined-right : (a : ℕ) {b : ℕ} → b ≡ 0 → entryOf a ≡ defaults.join (entryOf a) (entryOf b)
-joined-right a e = rw (nothing-entry e) (sym (join-right (entryOf a)))
-
-pub joined-many : (a b : ℕ) → (a ≡ 0 → ⊥) → (b ≡ 0 → ⊥) → entryOf manyCell ≡ defaults.join (entryOf a) (entryOf b)
-unfolding entryOf
-joined-many a b p q =
-    rw (ne-eqb a 0 p, ne-eqb b 0 q) (sym (join-filled (ltb a manyCell) (ltb b manyCell) (held (givenOf a)) (held (givenOf b))))
-
 entries-two : (st : List ℕ) (h : ℕ) → 2 ≤ h
-    → entries st h ≡ entryOf (getD st (h - 1) 0) ∷ (entryOf (getD st (h - 2) 0) ∷ entries st (h - 2))
+    → entries st h ≡ joinedOf (getD st (h - 1) 0) ∷ (joinedOf (getD st (h - 2) 0) ∷ entries st (h - 2))
 entries-two st h p =
     let e : h - 1 - 1 ≡ h - 2 = omega arith in
-    entries-top st h (omega arith) ∙ ap (_∷_ (entryOf (getD st (h - 1) 0))) (rw (← e) (entries-top st (h - 1) (omega arith)))
+    entries-top st h (omega arith) ∙ ap (_∷_ (joinedOf (getD st (h - 1) 0))) (rw (← e) (entries-top st (h - 1) (omega arith)))
 
 module _ (env : Surroundings) (left : ℕ) (m : Memory) where
   pub join-low : (st : List ℕ) (h : ℕ) (ts : List Try) → h < 2 → effect env Instruction.join left (entries st h) ts m ≡ stop stuck
@@ -241,7 +220,7 @@ module _ (env : Surroundings) (left : ℕ) (m : Memory) where
   join-low st (suc (suc h)) ts p = absurd (omega arith)
 
   pub join-go : (st : List ℕ) (h e t : ℕ) → 2 ≤ h → (h ≤ length st) × (h ≤ 1024)
-      → entryOf e ≡ defaults.join (entryOf (getD st (h - 2) 0)) (entryOf (getD st (h - 1) 0))
+      → e ≡ joinCell (getD st (h - 2) 0) (getD st (h - 1) 0)
       → (tr : List ℕ) → (t ≤ 512) × (t * 2 ≤ length tr)
       → Moves (move.Go 0 (h - 1) t) 0 (set st (h - 2) e) tr m (effect env Instruction.join left (entries st h) (opened tr t) m)
   unfolding effect
@@ -249,8 +228,8 @@ module _ (env : Surroundings) (left : ℕ) (m : Memory) where
       let l = length-set st (h - 2) e in
       let z : h - 1 ≡ h - 2 + 1 = omega arith in
       let b : h - 2 < length st = omega arith in
-      let put : entries (set st (h - 2) e) (h - 1) ≡ entryOf e ∷ entries st (h - 2) = ap (entries (set st (h - 2) e)) z ∙ entries-put st (h - 2) e b in
-      (rw (entries-two st h p, put, k), omega arith, record { height = omega arith; stack = omega arith; tries = r .0; pairs = r .1 })
+      let put : entries (set st (h - 2) e) (h - 1) ≡ joinedOf e ∷ entries st (h - 2) = ap (entries (set st (h - 2) e)) z ∙ entries-put st (h - 2) e b in
+      (rw (entries-two st h p, put, k, join-decoded (getD st (h - 2) 0) (getD st (h - 1) 0)), omega arith, record { height = omega arith; stack = omega arith; tries = r .0; pairs = r .1 })
 
   -- Jumps
 
@@ -299,6 +278,6 @@ module _ (env : Surroundings) (left : ℕ) (m : Memory) where
       unfolding effect
       settle-value e f =
           let z : 2 + d - 2 ≡ d = omega arith in
-          let top : entries st h ≡ One (held (givenOf (getD st (h - 1) 0))) ∷ entries st (h - 1) =
+          let top : entries st h ≡ One (valueOf (getD st (h - 1) 0)) ∷ entries st (h - 1) =
           entries-top st h l ∙ rw (value-entry (getD st (h - 1) 0) e f) in
           (rw (top, z), omega arith, record { height = p .1; stack = p .0; tries = q .0; pairs = q .1 })

@@ -10,6 +10,7 @@ use Rattle.calculus.specs.declared.Joined.the-variants.{One}
 use Rattle.calculus.specs.declared.Given.{Given}
 use Rattle.calculus.specs.declared.Given.the-variants.{Absent, Present}
 use Rattle.cells.specs.Cells.{givenOf}
+use Rattle.cells.specs.Joining.{joinedOf}
 use Rattle.calculus.specs.declared.Binary.{Binary}
 use Rattle.book.specs.Syntax.{sameType}
 use Rattle.book.specs.Typing.{operandType}
@@ -22,7 +23,7 @@ use Rattle.machine.specs.Machine.{Cell, unset, Callee, waiting, Memory, Next, g
 use Rattle.heads.specs.Heads.{variablesIn, subScopesIn, typeIn, blockIn, sizeIn}
 use Rattle.instructions.specs.declared.Move.{Move}
 use Rattle.instructions.specs.declared.Move.the-variants.{Go, Ended, Stuck, NoRoom}
-use Rattle.instructions.specs.Views.{entryOf, entries, opened, tab, ownCell, calleeAt, memory}
+use Rattle.instructions.specs.Views.{entries, opened, tab, ownCell, calleeAt, memory}
 
 -- height and tries are within the limits and within the slices
 pub record Room (h t : ℕ) (st tr : List ℕ) : Type 0 where
@@ -46,7 +47,7 @@ Moves NoRoom l st tr m s = Ample st tr → ⊥
 -- a cell and an entry that holds a value
 pub record Encodes (v : Value) (c : ℕ) : Type 0 where
   pub cell : givenOf c ≡ Present v
-  pub entry : entryOf c ≡ One v
+  pub entry : joinedOf c ≡ One v
 
 -- the value on top of a stack, if there is one
 pub record Takes (g : Given) (st : List ℕ) (h : ℕ) : Type 0 where

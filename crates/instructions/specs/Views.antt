@@ -3,24 +3,19 @@ use Prim.Native.Nat.{ℕ, zero, suc, _+_, _*_}
 use mathlib.Core.Bool.{Bool, true, false, cond}
 use mathlib.Core.List.{List, [], _∷_}
 use lib.ListN.{getD}
-use lib.Dec.{eqb, ltb}
+use lib.Dec.{eqb}
 use Rattle.calculus.specs.declared.Value.{Value}
 use Rattle.calculus.specs.declared.Joined.{Joined}
-use Rattle.calculus.specs.declared.Joined.the-variants.{Nothing, One, Many}
 use Rattle.calculus.specs.declared.Given.{Given}
 use Rattle.calculus.specs.declared.Given.the-variants.{Absent, Present}
-use Rattle.cells.specs.Codec.{manyCell}
 use Rattle.cells.specs.Cells.{givenOf, held}
+use Rattle.cells.specs.Joining.{joinedOf}
 use Rattle.machine.specs.Machine.{Cell, unset, given, stored, Callee, waiting, entered, Memory, Try}
-
--- an entry of the stack by its cell: nothing, a value, many
-unfoldable pub entryOf : ℕ → Joined
-entryOf c = cond (eqb c 0) Nothing (cond (ltb c manyCell) (One (held (givenOf c))) Many)
 
 -- the entries below height h, the top first
 unfoldable pub entries : List ℕ → ℕ → List Joined
 entries st zero = []
-entries st (suc h) = entryOf (getD st h 0) ∷ entries st h
+entries st (suc h) = joinedOf (getD st h 0) ∷ entries st h
 
 -- the t open tries, the latest first; each is two numbers
 unfoldable pub opened : List ℕ → ℕ → List Try

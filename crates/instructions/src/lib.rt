@@ -11,8 +11,8 @@ use cells::NO;
 use cells::NOTHING;
 use cells::ZERO;
 use cells::cell_of;
-use cells::given_of;
-use cells::value_of;
+use cells::join;
+use cells::value_in;
 use heads::block_of;
 use heads::type_at;
 use integers::distance_at;
@@ -60,13 +60,13 @@ ghost use lib.ListN.{length, getD};
 ghost use lib.Dec.{eqb};
 ghost use Rattle.slices.specs.Bytes.{bigEndian, numberAt};
 ghost use Rattle.calculus.specs.declared.Joined.the-variants.{One};
-ghost use Rattle.calculus.specs.Defaults.{join};
 ghost use Rattle.cells.specs.Cells.{givenOf, held};
+ghost use Rattle.cells.specs.Joining.{joinedOf};
 ghost use Rattle.book.specs.Syntax.{sameType};
 ghost use Rattle.lists.specs.Writing.{valueType};
 ghost use Rattle.machine.specs.Instructions.{Instruction};
 ghost use Rattle.machine.specs.Machine.{Memory, answered, pushed, raised, tried, closed, readFrom, readIn, jumpedIfGiven, effect, Surroundings};
-ghost use Rattle.instructions.specs.Views.{entryOf, entries, opened, ownCell, calleeAt};
+ghost use Rattle.instructions.specs.Views.{entries, opened, ownCell, calleeAt};
 ghost use Rattle.heads.specs.Heads.{typeIn, blockIn};
 ghost use Rattle.instructions.specs.Effects.{Room, Moves, Encodes, Takes, suitable, Storing, Handing, StoreAt, OverrideAt, Controls, Passed, Stepping, Stepped};
 
@@ -87,12 +87,6 @@ fn encode(v: Value) -> u64
     ensures { λ r. ⌜ Encodes v r ⌝ }
 {
     cell_of(v)
-}
-
-fn value_in(c: u64) -> Value
-    ensures { λ r. ⌜ r ≡ held (givenOf c) ⌝ }
-{
-    value_of(given_of(c))
 }
 
 fn type_in(v: Value) -> ValueType
@@ -131,7 +125,7 @@ fn top_value(st: &[u64], h: usize) -> Given
 // Pushes an entry, n bytes passed behind the kind.
 fn push(st: &mut [u64], h: usize, e: u64, n: usize, t: usize) -> Move
     ensures { λ r. ⌜ ((tr : List ℕ) (m : Memory) → Room h t (now (st .entry)) tr
-        → Moves r n (now (st .exit)) tr m (pushed (entryOf e) (entries (now (st .entry)) h) (opened tr t) m)) ⌝ }
+        → Moves r n (now (st .exit)) tr m (pushed (joinedOf e) (entries (now (st .entry)) h) (opened tr t) m)) ⌝ }
 {
     if STACK <= h {
         return Move::Stuck;
@@ -220,20 +214,8 @@ fn join_top(st: &mut [u64], h: usize, t: usize) -> Move
     }
     let a = st[h - 2];
     let b = st[h - 1];
-    st[h - 2] = joined(a, b);
+    st[h - 2] = join(a, b);
     Move::Go(0, h - 1, t)
-}
-
-fn joined(a: u64, b: u64) -> u64
-    ensures { λ r. ⌜ entryOf r ≡ join (entryOf a) (entryOf b) ⌝ }
-{
-    if a == NOTHING {
-        return b;
-    }
-    if b == NOTHING {
-        return a;
-    }
-    MANY
 }
 
 // Takes a yes/no, and jumps on no.
@@ -338,7 +320,7 @@ fn end_try(h: usize, t: usize) -> Move
 
 // The entry of the value in a cell.
 fn value_cell(c: u64) -> u64
-    ensures { λ r. ⌜ entryOf r ≡ One (held (givenOf c)) ⌝ }
+    ensures { λ r. ⌜ joinedOf r ≡ One (held (givenOf c)) ⌝ }
 {
     if c == NOTHING {
         return NO;

@@ -22,7 +22,9 @@ use borrow.Author.Tests.{lt-ltb, le-ltb, le-leb}
 use Rattle.slices.specs.Bytes.{bigEndian, bytesOf, numberAt, numberBytes}
 use Rattle.record.specs.Kinds.{shapeIn, shapesOf, kinds}
 use Rattle.calculus.specs.Operators.{unaryOf, binaryOf}
-use Rattle.calculus.specs.Defaults as defaults
+use Rattle.calculus.specs.Joining as joining
+use Rattle.calculus.specs.Joining.{Joins}
+use Rattle.calculus.proofs.Joining.{joins-only}
 use Rattle.calculus.specs.declared.Value.{Value}
 use Rattle.calculus.specs.declared.Value.the-variants.{Truth, Number}
 use Rattle.answers.specs.declared.Cause.{Cause}
@@ -153,9 +155,13 @@ module _ (env : Surroundings) (st : List Joined) (ts : List Try) (m : Memory) wh
   tries-full d k h = exec-step env st ts m 36 (bytesOf 2 d ++ k) ∙ rw (le-ltb (length ts) 512 h)
 
   -- "the right one on top"
-  pub step-join : (a b : Joined) (k : List ℕ) → exec env (39 ∷ k) 0 (b ∷ a ∷ st) ts m ≡ exec env k 0 (defaults.join a b ∷ st) ts m
+  pub step-join : (a b : Joined) (k : List ℕ) → exec env (39 ∷ k) 0 (b ∷ a ∷ st) ts m ≡ exec env k 0 (joining.join a b ∷ st) ts m
   unfolding effect instructionOf shapeIn shapesOf kinds
   step-join a b k = exec-step env (b ∷ a ∷ st) ts m 39 k
+
+  -- the same by the words of kind 39
+  pub step-joins : {a b c : Joined} → Joins a b c → (k : List ℕ) → exec env (39 ∷ k) 0 (b ∷ a ∷ st) ts m ≡ exec env k 0 (c ∷ st) ts m
+  step-joins {a} {b} j k = rw (← joins-only j) (step-join a b k)
 
   pub step-settle-nothing : (d : ℕ) (k : List ℕ) → exec env (40 ∷ bytesOf 2 d ++ k) 0 (Nothing ∷ st) ts m ≡ exec env k 0 st ts m
   unfolding effect instructionOf shapeIn shapesOf kinds bytesOf

@@ -6,7 +6,7 @@ use lib.ListN.{length, getD, set, drop}
 use lib.Dec.{leb, ltb}
 use Rattle.calculus.specs.Values.{truthOf}
 use Rattle.calculus.specs.Operators.{unaryOf, binaryOf}
-use Rattle.calculus.specs.Defaults as defaults
+use Rattle.calculus.specs.Joining as joining
 use Rattle.calculus.specs.declared.Value.{Value}
 use Rattle.answers.specs.declared.Cause.{Cause}
 use Rattle.answers.specs.declared.Cause.the-variants.{Empty, Conflict, OutOfRange}
@@ -116,11 +116,11 @@ abbrev pub closed : List Joined → List Try → Memory → Next
 closed st [] m = stop stuck
 closed st (t ∷ ts) m = go 0 st ts m
 
--- "join the top two", the right one on top
+-- "join the top two": the one on top was found last
 abbrev pub joined : List Joined → List Try → Memory → Next
 joined [] ts m = stop stuck
 joined (b ∷ []) ts m = stop stuck
-joined (b ∷ a ∷ st) ts m = go 0 (defaults.join a b ∷ st) ts m
+joined (b ∷ a ∷ st) ts m = go 0 (joining.join a b ∷ st) ts m
 
 -- "settle. Many raises conflict; a value stays and jumps; nothing is removed"
 abbrev pub settled : ℕ → List Joined → List Try → Memory → Next

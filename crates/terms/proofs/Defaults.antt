@@ -1,11 +1,12 @@
 -- The exceptions of a default as cells: one law for each way through the code.
---     ended-stays .. second-value      the exceptions so far, and one more
+--     found-empty, found-other         what one exception comes to
+--     ended-stays .. one-joins         the exceptions so far, and one more
 --     settled-many, settled, unsettled what they come to
 -- Assumes nothing.
 use Prim.Native.Nat.{ℕ, _<_, _≤_}
 use mathlib.Core.Path.{_≡_, refl}
 use native.Mathlib.Omega.{arith}
-use Rattle.calculus.specs.Defaults.{settle}
+use Rattle.calculus.specs.Defaults.{found, together, settle}
 use Rattle.calculus.proofs.Numbers.{zero-fits}
 use Rattle.answers.specs.declared.Cause.{Cause}
 use Rattle.answers.specs.declared.Cause.the-variants.{Empty, Conflict, OutOfRange}
@@ -16,8 +17,10 @@ use Rattle.calculus.specs.declared.Joined.the-variants.{Nothing, One, Many}
 use Rattle.calculus.specs.declared.Gathered.{Gathered}
 use Rattle.calculus.specs.declared.Gathered.the-variants.{SoFar, Ended}
 use Rattle.cells.specs.Codec.{conflictCell, emptyCell, manyCell, cellOf, gatheredCell, Codes, Gathers}
-use Rattle.cells.proofs.Codec.{value-high, value-low, above, no-end, no-value}
-use Rattle.terms.specs.Operators.{OnBoth}
+use Rattle.cells.specs.Joining.{joinCell}
+use Rattle.cells.proofs.Codec.{value-high, value-low, above, no-end}
+use Rattle.cells.proofs.Joining.{join-gathers}
+use Rattle.terms.specs.Operators.{OnFound, OnBoth}
 
 -- what has not ended
 so-far-low : (j : Joined) (x : ℕ) → Gathers x (SoFar j) → x < emptyCell
@@ -33,55 +36,43 @@ pub no-ended : {A : Type 0} (k : Cause) (x : ℕ) → Gathers x (Ended k) → x 
 unfolding gatheredCell
 no-ended k x h l = let b = above k in let none : ⊥ = omega (arith, h .is) in absurd none
 
+-- An empty exception comes to nothing, every other to itself.
+pub found-empty : (x : ℕ) → x ≡ emptyCell → OnFound x 0
+unfolding cellOf gatheredCell
+found-empty x e (Gives v) k = no-end v x k (omega arith)
+found-empty x e (Ends Empty) k = record { is = refl; fits = zero-fits }
+found-empty x e (Ends Conflict) k = let none : ⊥ = omega (arith, k .is) in absurd none
+found-empty x e (Ends OutOfRange) k = let none : ⊥ = omega (arith, k .is) in absurd none
+
+pub found-other : (x : ℕ) → (x ≡ emptyCell → ⊥) → OnFound x x
+unfolding cellOf gatheredCell
+found-other x n (Gives v) k = record { is = k .is; fits = k .fits }
+found-other x n (Ends Empty) k = absurd (n (k .is))
+found-other x n (Ends Conflict) k = record { is = k .is; fits = zero-fits }
+found-other x n (Ends OutOfRange) k = record { is = k .is; fits = zero-fits }
+
+-- "The first that is conflict or out of range is the result"
 pub ended-stays : (x y : ℕ) → emptyCell ≤ x → OnBoth x y x
 ended-stays x y l (SoFar j) o h k = no-so-far j x h l
 ended-stays x y l (Ended c) o h k = h
 
--- the cause of an end, by its cell
-not-empty : {A : Type 0} (y : ℕ) → (y ≡ emptyCell → ⊥) → Codes y (Ends Empty) → A
-unfolding cellOf
-not-empty y n k = absurd (n (k .is))
+-- two parts of the exceptions, as the code found them by their cells
+end-ends : (x y : ℕ) (a b : Gathered) → x < emptyCell → emptyCell ≤ y → Gathers x a → Gathers y b → Gathers y (together a b)
+end-ends x y (Ended c) b l m h k = no-ended c x h l
+end-ends x y (SoFar j) (SoFar i) l m h k = no-so-far i y k m
+end-ends x y (SoFar j) (Ended c) l m h k = k
 
-pub empty-adds-nothing : (x : ℕ) → x < emptyCell → OnBoth x emptyCell x
-unfolding cellOf
-empty-adds-nothing x l g (Gives v) h k = no-end v _ k (omega arith)
-empty-adds-nothing x l (SoFar Nothing) (Ends Empty) h k = h
-empty-adds-nothing x l (SoFar (One v)) (Ends Empty) h k = h
-empty-adds-nothing x l (SoFar Many) (Ends Empty) h k = h
-empty-adds-nothing x l (Ended c) (Ends Empty) h k = h
-empty-adds-nothing x l g (Ends Conflict) h k = let none : ⊥ = omega (arith, k .is) in absurd none
-empty-adds-nothing x l g (Ends OutOfRange) h k = let none : ⊥ = omega (arith, k .is) in absurd none
+both-join : (x y : ℕ) (a b : Gathered) → x < emptyCell → y < emptyCell → Gathers x a → Gathers y b → Gathers (joinCell x y) (together a b)
+both-join x y (Ended c) b l m h k = no-ended c x h l
+both-join x y (SoFar j) (Ended c) l m h k = no-ended c y k m
+both-join x y (SoFar j) (SoFar i) l m h k = join-gathers j i x y h k
 
-pub end-ends : (x y : ℕ) → x < emptyCell → emptyCell < y → OnBoth x y y
-unfolding cellOf gatheredCell
-end-ends x y l m g (Gives v) h k = no-end v y k (omega arith)
-end-ends x y l m g (Ends Empty) h k = not-empty y (λ e. omega arith) k
-end-ends x y l m (SoFar j) (Ends Conflict) h k = record { is = k .is; fits = zero-fits }
-end-ends x y l m (SoFar j) (Ends OutOfRange) h k = record { is = k .is; fits = zero-fits }
-end-ends x y l m (Ended c) (Ends Conflict) h k = no-ended c x h l
-end-ends x y l m (Ended c) (Ends OutOfRange) h k = no-ended c x h l
+module _ (x y z : ℕ) (l : x < emptyCell) (f : OnFound y z) where
+  pub one-ends : emptyCell ≤ z → OnBoth x y z
+  one-ends m g o h k = end-ends x z g (found o) l m h (f o k)
 
--- a cell that is no end's, as the code found it
-value-found : {A : Type 0} (y : ℕ) → y ≤ emptyCell → (y ≡ emptyCell → ⊥) → (c : Cause) → Codes y (Ends c) → A
-value-found y l n Empty k = not-empty y n k
-value-found y l n Conflict k = no-value Conflict y k (omega (arith, n))
-value-found y l n OutOfRange k = no-value OutOfRange y k (omega (arith, n))
-
-pub first-value : (y : ℕ) → y ≤ emptyCell → (y ≡ emptyCell → ⊥) → OnBoth 0 y y
-unfolding cellOf gatheredCell
-first-value y l n g (Ends c) h k = value-found y l n c k
-first-value y l n (SoFar Nothing) (Gives v) h k = record { is = k .is; fits = k .fits }
-first-value y l n (SoFar (One u)) (Gives v) h k = let b = value-high u in let none : ⊥ = omega (arith, h .is) in absurd none
-first-value y l n (SoFar Many) (Gives v) h k = let none : ⊥ = omega (arith, h .is) in absurd none
-first-value y l n (Ended c) (Gives v) h k = no-ended c 0 h (omega arith)
-
-pub second-value : (x y : ℕ) → x < emptyCell → (x ≡ 0 → ⊥) → y ≤ emptyCell → (y ≡ emptyCell → ⊥) → OnBoth x y manyCell
-unfolding cellOf gatheredCell
-second-value x y m z l n g (Ends c) h k = value-found y l n c k
-second-value x y m z l n (SoFar Nothing) (Gives v) h k = absurd (z (h .is))
-second-value x y m z l n (SoFar (One u)) (Gives v) h k = record { is = refl; fits = zero-fits }
-second-value x y m z l n (SoFar Many) (Gives v) h k = record { is = refl; fits = zero-fits }
-second-value x y m z l n (Ended c) (Gives v) h k = no-ended c x h m
+  pub one-joins : z < emptyCell → OnBoth x y (joinCell x z)
+  one-joins m g o h k = both-join x z g (found o) l m h (f o k)
 
 -- "two or more that are not empty give conflict"
 pub settled-many : (g : Gathered) (rest : Outcome) → Gathers manyCell g → Codes conflictCell (settle g rest)

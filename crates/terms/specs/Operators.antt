@@ -3,7 +3,7 @@ use Prim.Native.Nat.{ℕ}
 use mathlib.Core.Bool.{cond}
 use lib.Dec.{eqb}
 use Rattle.calculus.specs.Outcomes.{unaryOn, binaryOn}
-use Rattle.calculus.specs.Defaults.{gather}
+use Rattle.calculus.specs.Defaults.{found, gather}
 use Rattle.calculus.specs.declared.Outcome.{Outcome}
 use Rattle.calculus.specs.declared.Unary.{Unary}
 use Rattle.calculus.specs.declared.Binary.{Binary}
@@ -20,6 +20,10 @@ OnOne op x r = (a : Outcome) → Codes x a → Codes r (unaryOn op a)
 
 abbrev pub OnTwo : Binary → ℕ → ℕ → ℕ → Type 0
 OnTwo op x y r = (a b : Outcome) → Codes x a → Codes y b → Codes r (binaryOn op a b)
+
+-- what one exception comes to
+abbrev pub OnFound : ℕ → ℕ → Type 0
+OnFound x r = (o : Outcome) → Codes x o → Gathers r (found o)
 
 -- the exceptions so far, and one more
 abbrev pub OnBoth : ℕ → ℕ → ℕ → Type 0

@@ -8,6 +8,7 @@ use cells::NOTHING;
 use cells::OUT_OF_RANGE;
 use cells::YES;
 use cells::ZERO;
+use cells::join;
 use integers::bits_of;
 use integers::number_at;
 use integers::number_of;
@@ -30,7 +31,7 @@ ghost use Rattle.calculus.specs.Values.{ranged as Values·ranged};
 ghost use Rattle.calculus.specs.declared.Value.the-variants.{Number};
 ghost use Rattle.calculus.specs.declared.Unary.the-variants.{Not, Negate};
 ghost use Rattle.cells.specs.Codec.{truthCell, valueCell, payload, heldCell, Codes};
-ghost use Rattle.terms.specs.Operators.{operator, OnOne, OnTwo, OnBoth};
+ghost use Rattle.terms.specs.Operators.{operator, OnOne, OnTwo, OnFound, OnBoth};
 ghost use Rattle.terms.specs.Outcomes.{outcomeIn, isLeaf, Readable, ReadableLeaf, CodesLeaf, ReadableInner, ReadableDefault, ReadableException, GathersIn};
 ghost use Rattle.terms.specs.Clauses.{restIn, ReadableClause};
 
@@ -111,20 +112,25 @@ fn binary(kind: u8, x: u64, y: u64) -> u64
     }
 }
 
-// The exceptions so far, and one more.
+// What one exception comes to: an empty one to nothing.
+fn found(o: u64) -> u64
+    ensures { λ r. ⌜ OnFound o r ⌝ }
+{
+    if o == EMPTY { NOTHING } else { o }
+}
+
+// The exceptions so far, and one more; the first end stays.
 pub fn gather(g: u64, o: u64) -> u64
     ensures { λ r. ⌜ OnBoth g o r ⌝ }
 {
     if EMPTY <= g {
         return g;
     }
-    if o == EMPTY {
-        return g;
+    let more = found(o);
+    if EMPTY <= more {
+        return more;
     }
-    if EMPTY < o {
-        return o;
-    }
-    if g == NOTHING { o } else { MANY }
+    join(g, more)
 }
 
 // A variable's cell where it is read. One that is not set would hold no, but no step of an accepted book reads one.

@@ -4,7 +4,7 @@ use mathlib.Core.Path.{refl}
 use Rattle.record.specs.Kinds.{kinds, shapesOf, shapeIn}
 use Rattle.machine.specs.Instructions.{instructionOf}
 use Rattle.machine.specs.Machine.{effect}
-use Rattle.instructions.specs.Views.{entryOf}
+use Rattle.cells.specs.Joining.{joinedOf}
 use Rattle.instructions.proofs.Steps.{pass-at, pass-try, pass-jump, pass-stuck, none-of}
 use borrow.Author.Needs.{needs}
 use Rattle.instructions.proofs.control.Statement.{statement}
@@ -174,7 +174,7 @@ same-length-14 : tie.Need-same-length-14
 same-length-14 c = search needs
 
 returns-16 : tie.Need-returns-16
-unfolding effect instructionOf shapeIn shapesOf kinds entryOf
+unfolding effect instructionOf shapeIn shapesOf kinds joinedOf
 returns-16 c = pass-at (c .before .before .before .before .match .keys16) (λ env m. c .before .before .push .ensures _ m (c .before .before .before .before .before .before .before .before .pre .0))
 
 same-length-15 : tie.Need-same-length-15

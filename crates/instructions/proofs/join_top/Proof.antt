@@ -23,8 +23,8 @@ mul-b c = search needs
 slice-read-b : tie.Need-slice-read-b
 slice-read-b c = search needs
 
-joined-requires : tie.Need-joined-requires
-joined-requires c κs = search needs
+join-requires : tie.Need-join-requires
+join-requires c κs = search needs
 
 mul-st : tie.Need-mul-st
 mul-st c = search needs
@@ -39,7 +39,7 @@ same-length : tie.Need-same-length
 same-length c = search needs
 
 returns-2 : tie.Need-returns-2
-returns-2 c = λ env tr m left p. join-go env left m _ _ _ _ (c .before .before .before .if1 .left) (c .before .before .before .before .before .pre) (c .joined .ensures) tr p
+returns-2 c = λ env tr m left p. join-go env left m _ _ _ _ (c .before .before .before .if1 .left) (c .before .before .before .before .before .pre) (c .join .ensures) tr p
 
 pub join-top-spec : {M : Type 1} → statement M
 join-top-spec =
@@ -51,7 +51,7 @@ join-top-spec =
     sub-b
     mul-b
     slice-read-b
-    joined-requires
+    join-requires
     mul-st
     slice-write-st
     sub-t7

@@ -1,7 +1,6 @@
 -- `instructions::value_cell` meets its contract.
 -- Assumes nothing.
-use Rattle.instructions.proofs.Stack.{value-entry}
-use Rattle.instructions.proofs.Memory.{cell-zero, cell-high}
+use Rattle.instructions.proofs.Memory.{cell-zero, cell-value, cell-high}
 use borrow.Author.Needs.{needs}
 use Rattle.instructions.proofs.value_cell.Statement.{statement}
 use Rattle.instructions.proofs.value_cell.Tie as tie
@@ -10,7 +9,7 @@ returns : tie.Need-returns
 returns c = cell-zero (c .if1 .taken)
 
 returns-2 : tie.Need-returns-2
-returns-2 c = value-entry _ (c .before .if1 .left) (c .if2 .taken)
+returns-2 c = cell-value _ (c .before .if1 .left) (c .if2 .taken)
 
 add-result : tie.Need-add-result
 add-result c = search needs
