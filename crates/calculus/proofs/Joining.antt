@@ -2,7 +2,7 @@
 --     joins, joins-only                       the nine cases give what the words of kind 39 give, and nothing else
 --     join-nothing-left .. join-assoc         the laws of the join
 -- Assumes nothing.
-use mathlib.Core.Path.{_≡_, refl, sym}
+use mathlib.Core.Path.{_≡_, refl}
 use Rattle.calculus.specs.Joining.{join, Joins, nothing-with, with-nothing, two-values, many-with, with-many}
 use Rattle.calculus.specs.declared.Joined.{Joined}
 use Rattle.calculus.specs.declared.Joined.the-variants.{Nothing, One, Many}

@@ -4,7 +4,6 @@ use Rattle.answers.specs.declared.Cause.{Cause}
 use Rattle.answers.specs.declared.Cause.the-variants.{Empty, Conflict, OutOfRange}
 use Rattle.calculus.specs.declared.Outcome.{Outcome}
 use Rattle.calculus.specs.declared.Outcome.the-variants.{Gives, Ends}
-use Rattle.calculus.specs.declared.Joined.{Joined}
 use Rattle.calculus.specs.declared.Joined.the-variants.{Nothing, One, Many}
 use Rattle.calculus.specs.declared.Gathered.{Gathered}
 use Rattle.calculus.specs.declared.Gathered.the-variants.{SoFar, Ended}

@@ -5,14 +5,13 @@
 --     join-gathers         the same of exceptions so far
 -- Assumes nothing.
 use Prim.Native.Nat.{ℕ}
-use mathlib.Core.Path.{_≡_, refl, sym, ap, subst, _∙_}
-use mathlib.Core.Bool.{Bool, true, false, cond, false≢true}
+use mathlib.Core.Path.{_≡_, refl, sym, ap, _∙_}
+use mathlib.Core.Bool.{Bool, true, false, cond}
 use native.Mathlib.Omega.{arith}
 use lib.Dec.{eqb, ltb}
 use borrow.Author.Tests.{lt-ltb, ne-eqb}
 use Rattle.calculus.specs.Joining.{join}
 use Rattle.calculus.proofs.Numbers.{zero-fits}
-use Rattle.calculus.specs.declared.Value.{Value}
 use Rattle.calculus.specs.declared.Joined.{Joined}
 use Rattle.calculus.specs.declared.Joined.the-variants.{Nothing, One, Many}
 use Rattle.calculus.specs.declared.Gathered.the-variants.{SoFar}

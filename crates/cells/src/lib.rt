@@ -62,7 +62,7 @@ pub fn value_in(c: u64) -> Value
 }
 
 // What a variable's cell holds.
-pub fn given_of(c: u64) -> Given
+fn given_of(c: u64) -> Given
     ensures { λ r. ⌜ r ≡ givenOf c ⌝ }
 {
     if c == NOTHING {
