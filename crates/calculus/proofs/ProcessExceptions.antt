@@ -12,17 +12,15 @@ use mathlib.Core.Logic.{_↔_}
 use mathlib.Core.Option.{Option, some}
 use mathlib.Core.Option as option
 use mathlib.Core.List.{List, [], _∷_}
-use Rattle.calculus.specs.Outcomes.{choose}
 use Rattle.calculus.specs.Joining.{join}
 use Rattle.calculus.specs.Defaults.{settle}
-use Rattle.calculus.specs.Terms.{Term, default, none}
+use Rattle.calculus.specs.Terms.{Term, error, choice, default, none}
 use Rattle.calculus.specs.Evaluation.{Env, eval, exceptions}
 use Rattle.calculus.specs.Reduction.{behind}
 use Rattle.calculus.specs.ProcessExceptions.{Processed, returns, raises, figure10, following, foldFrom, processExceptions, afterwards, optional, asJoined}
 use Rattle.calculus.specs.declared.Value.{Value}
 use Rattle.answers.specs.declared.Cause.the-variants.{Empty}
 use Rattle.calculus.specs.declared.Outcome.{Outcome}
-use Rattle.calculus.specs.declared.Outcome.the-variants.{Ends}
 use Rattle.calculus.specs.declared.Joined.{Joined}
 use Rattle.calculus.specs.declared.Joined.the-variants.{Nothing, One, Many}
 use Rattle.calculus.specs.declared.Gathered.the-variants.{SoFar}
@@ -102,6 +100,6 @@ settled (returns (some v)) rest = refl
 settled raises rest = refl
 
 pub default-processed : (e : Env) (vs : List (Option Value)) (j c : Term)
-    → eval e (default (behind vs none) j c) ≡ afterwards (processExceptions vs) (choose (eval e j) (eval e c) (Ends Empty))
+    → eval e (default (behind vs none) j c) ≡ afterwards (processExceptions vs) (eval e (choice j c (error Empty)))
 unfolding eval
-default-processed e vs j c = rw (exceptions-processed e vs) (settled (processExceptions vs) (choose (eval e j) (eval e c) (Ends Empty)))
+default-processed e vs j c = rw (exceptions-processed e vs) (settled (processExceptions vs) (eval e (choice j c (error Empty))))

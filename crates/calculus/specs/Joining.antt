@@ -8,9 +8,10 @@ abbrev pub join : Joined → Joined → Joined
 join Nothing Nothing = Nothing
 join Nothing (One v) = One v
 join (One u) Nothing = One u
+-- "two values give many where figure 10 raises" (paper 02, No. 2): the raise waits until every exception is evaluated, since "Where its text of 4.1
+-- and its figure 10 differ, 4.1 decides" (paper 01)
 join (One u) (One v) = Many
--- "'many' is ours": where figure 10 of the source paper raises, it waits until every exception is evaluated, since "Where its text of 4.1 and its
--- figure 10 differ, 4.1 decides" (paper 01)
+-- figure 10 of the source paper has no more cases: "'many' is ours" (paper 02, No. 2)
 join Nothing Many = Many
 join (One u) Many = Many
 join Many Nothing = Many

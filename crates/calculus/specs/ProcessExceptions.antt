@@ -1,6 +1,7 @@
 -- Processing exceptions: figure 10 of the source paper, `process_exceptions`, and what figure 9 makes of it.
 -- An exception is here what the figure's line "let e' : τ = try Some (e'()) with ∅ → None in" makes of it: a value, or none. One that raises anything
--- but ∅ is not caught there and ends the whole; it comes to no join, and nothing here speaks of it.
+-- but ∅ is not caught there and, where it is reached, ends the whole; it comes to no join, and nothing here speaks of it. Behind two values the figure
+-- does not reach it, evaluation does: strip i.
 use mathlib.Core.Option.{Option, none, some}
 use mathlib.Core.List.{List, [], _∷_}
 use Rattle.calculus.specs.declared.Value.{Value}
@@ -42,6 +43,7 @@ processExceptions es = foldFrom es none
 abbrev pub afterwards : Processed → Outcome → Outcome
 afterwards (returns none) rest = rest
 afterwards (returns (some v)) rest = Gives v
+-- a raise in "let r_exceptions = process_exceptions .. in" is that of the whole, and ⊗ is conflict
 afterwards raises rest = Ends Conflict
 
 -- Beside the join

@@ -7,7 +7,7 @@ use Rattle.calculus.specs.declared.Joined.{Joined}
 use Rattle.calculus.specs.declared.Joined.the-variants.{Nothing, One, Many}
 use Rattle.cells.specs.Codec.{manyCell, valueOf}
 
--- nothing, a value, or many; a cell above that of many, as an end's, counts as many
+-- nothing, a value, or many; any other cell below that of many counts as a value, one above it, as an end's, as many
 unfoldable pub joinedOf : ℕ → Joined
 joinedOf c = cond (eqb c 0) Nothing (cond (ltb c manyCell) (One (valueOf c)) Many)
 

@@ -105,7 +105,8 @@ pub fn joined_of(c: u64) -> Joined
     Joined::Many
 }
 
-// What two found exceptions come to together, the left one found first: the nine cases of nothing, a value and many on each side.
+// What two found exceptions come to together, the left one found first: the nine cases of nothing, a value and many on each side, by the left
+// side. The definition `join` has those without many first.
 pub fn join(a: u64, b: u64) -> u64
     ensures { λ r. ⌜ r ≡ joinCell a b ⌝ }
 {
