@@ -92,7 +92,7 @@ module _ (earlier : List Block) (b : Block) where
   fits-read (binary Less) k h = refl
   fits-read (raise Empty) k h = refl
   fits-read (raise Conflict) k h = refl
-  fits-read (raise OutOfRange) k h = refl
+  fits-read (raise (OutOfRange s)) k h = refl
   fits-read (jump d) k h = rw (distance-back d k (h .0)) (h .1)
   fits-read (jumpIfNo d) k h = rw (distance-back d k (h .0)) (h .1)
   fits-read (beginTry d) k h = rw (distance-back d k (h .0)) (h .1)

@@ -57,7 +57,7 @@ module _ (env : Surroundings) (m : Memory) (k : List ℕ) (st : List Joined) (ts
   pub error-runs : (c : Cause) → SayableCause c → exec env (raiseKind c ∷ k) 0 st ts m ≡ raiseAt env c k st ts m
   error-runs Empty s = step-raise-empty env m k st ts
   error-runs Conflict s = step-raise-conflict env m k st ts
-  error-runs OutOfRange s = absurd s
+  error-runs (OutOfRange i) s = absurd s
 
   unary-step : (op : Unary) (st₁ : List Joined)
       → exec env (unaryKind op ∷ k) 0 st₁ ts m ≡ follow (effect env (instruction.unary op) (length k) st₁ ts m) (exec env k)

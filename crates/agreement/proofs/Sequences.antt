@@ -75,7 +75,7 @@ written-whole (binary Equal) = record { staged = refl; full = refl; valid = λ k
 written-whole (binary Less) = record { staged = refl; full = refl; valid = λ k. refl }
 written-whole (raise Empty) = record { staged = refl; full = refl; valid = λ k. refl }
 written-whole (raise Conflict) = record { staged = refl; full = refl; valid = λ k. refl }
-written-whole (raise OutOfRange) = record { staged = refl; full = refl; valid = λ k. refl }
+written-whole (raise (OutOfRange s)) = record { staged = refl; full = refl; valid = λ k. refl }
 written-whole (jump d) = record { staged = refl; full = refl; valid = λ k. refl }
 written-whole (jumpIfNo d) = record { staged = refl; full = refl; valid = λ k. refl }
 written-whole (beginTry d) = record { staged = refl; full = refl; valid = λ k. refl }

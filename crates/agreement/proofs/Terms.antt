@@ -4,14 +4,13 @@
 -- Assumes nothing.
 use Prim.Native.Nat.{ℕ, suc, _+_, _-_, _≤_, _<_}
 use mathlib.Core.Path.{_≡_, refl, ap, _∙_}
-use mathlib.Core.Bool.{Bool, true, false, cond, _||_, false≢true}
+use mathlib.Core.Bool.{true, false, false≢true}
 use mathlib.Core.List.{List, [], _∷_}
 use native.Mathlib.Omega.{arith}
 use lib.ListN.{length}
 use lib.IntN.{ℤ, negℤ, _+ℤ_, _-ℤ_}
-use lib.Signed.{ltZ}
 use Rattle.slices.specs.Bytes.{bytesOf}
-use Rattle.calculus.specs.Values.{numberOf, lowest, highest, ranged}
+use Rattle.calculus.specs.Values.{numberOf, ranged}
 use Rattle.calculus.specs.Operators.{unaryOf, binaryOf}
 use Rattle.calculus.specs.Outcomes.{unaryOn, binaryOn, choose}
 use Rattle.calculus.specs.Joining.{join}
@@ -33,6 +32,7 @@ use Rattle.calculus.specs.declared.Unary.the-variants.{Not, Negate}
 use Rattle.calculus.specs.declared.Binary.{Binary}
 use Rattle.calculus.specs.declared.Binary.the-variants.{And, Add, Subtract, Equal, Less}
 use Rattle.calculus.proofs.Exceptions.{exceptions-ended}
+use Rattle.calculus.proofs.Sides.{ranged-cases}
 use Rattle.book.specs.Syntax.{sameType}
 use Rattle.book.specs.Typing.{unaryType, operandType}
 use Rattle.book.specs.declared.ValueType.{ValueType}
@@ -103,13 +103,7 @@ module _ (env : Surroundings) (m : Memory) where
     -- Operators
 
     ranged-answers : (z : ℤ) → follow (answered (ranged z) st ts m) (exec env k) ≡ resume (ranged z) k st ts
-    ranged-answers z = go (ltZ z lowest || ltZ highest z)
-      where
-        go : (b : Bool)
-            → follow (answered (cond b (Ends OutOfRange) (Gives (Number z))) st ts m) (exec env k)
-            ≡ resume (cond b (Ends OutOfRange) (Gives (Number z))) k st ts
-        go true = refl
-        go false = refl
+    ranged-answers z = ranged-cases z (λ o. follow (answered o st ts m) (exec env k) ≡ resume o k st ts) (λ s. refl) refl
 
     unary-answers : (op : Unary) (v : Value) → follow (answered (unaryOf op v) st ts m) (exec env k) ≡ resume (unaryOf op v) k st ts
     unary-answers Not v = refl
@@ -190,7 +184,7 @@ module _ (env : Surroundings) (m : Memory) where
       ∙ step-join env st ts m a Nothing zs
       ∙ f (join a Nothing))
   exception-case e es k zs st ts a (Ends Conflict) r f = rw (exceptions-ended e Conflict es)
-  exception-case e es k zs st ts a (Ends OutOfRange) r f = rw (exceptions-ended e OutOfRange es)
+  exception-case e es k zs st ts a (Ends (OutOfRange s)) r f = rw (exceptions-ended e (OutOfRange s) es)
 
   -- a try lands where the exception's code and its closing have been passed
   lands-at : (t : Term) (zs : List ℕ) → length (code t (closing zs)) - (size t + 4) ≡ length (landing zs)
@@ -304,7 +298,7 @@ unfolding raised
 no-tries env (Gives v) k m = refl
 no-tries env (Ends Empty) k m = refl
 no-tries env (Ends Conflict) k m = refl
-no-tries env (Ends OutOfRange) k m = refl
+no-tries env (Ends (OutOfRange s)) k m = refl
 
 pub run-tree : (env : Surroundings) (e : Env) (m : Memory) (t : Term) (u : ValueType) (k : List ℕ) → Typed (OwnMeets e m) (CalledMeets e m) t u
     → Runnable t → exec env (code t k) 0 [] [] m ≡ after env (eval e t) k m

@@ -1,5 +1,6 @@
 -- "Where an answer is an enum, a definition sets out this paper's number and values for each of its cases".
 use Prim.Native.Nat.{ℕ}
+use Rattle.answers.specs.declared.Side.the-variants.{Above, Below}
 use Rattle.answers.specs.declared.Cause.{Cause}
 use Rattle.answers.specs.declared.Cause.the-variants.{Empty, Conflict, OutOfRange}
 use Rattle.answers.specs.declared.Fault.{Fault}
@@ -39,11 +40,13 @@ refusalNumber Stuck = 17
 -- the first change request: "Turned away: 18"
 refusalNumber BadChoice = 18
 
--- the number of an outcome without values, as in the first change request: "one byte of outcome (0 values, 1 empty, 2 conflict, 3 out of range)"
+-- the number of an outcome without values, as in the first change request: "one byte of outcome (0 values, 1 empty, 2 conflict, 3 out of range)";
+-- since the third: "On the sheet, byte 3 is above and 4 below"
 abbrev pub causeNumber : Cause → ℕ
 causeNumber Empty = 1
 causeNumber Conflict = 2
-causeNumber OutOfRange = 3
+causeNumber (OutOfRange Above) = 3
+causeNumber (OutOfRange Below) = 4
 
 -- what a service hands back, in numbers; refusal 0 where nothing is refused. That what it does not hand back is 0 is the project's own
 pub record Numbers : Type 0 where

@@ -1,10 +1,16 @@
 // What the services answer.
 
+// The side of the range on which a number lies that is out of it: "An operator who sees "range" must know if the speed ran high or low".
+pub enum Side {
+    Above,
+    Below,
+}
+
 // Why a run ends without a value.
 pub enum Cause {
     Empty,
     Conflict,
-    OutOfRange,
+    OutOfRange(Side),
 }
 
 // Why a book is refused.

@@ -248,7 +248,7 @@ module _ (earlier : List Block) (b : Block) (env : Surroundings) (A : Type 0) (w
       raising-good : (c : Cause) (st : List Joined) (ts : List Try) (m : Memory) → TriesGood ts → MemGood m → NextGood (raising c (length after) st ts m)
       raising-good Empty st ts m t g = raised-good (length after) st ts m t g back
       raising-good Conflict st ts m t g = let c = g .counted in omega arith
-      raising-good OutOfRange st ts m t g = let c = g .counted in omega arith
+      raising-good (OutOfRange s) st ts m t g = let c = g .counted in omega arith
 
       pub effect-good : (i : Instruction) (st : List Joined) (ts : List Try) (m : Memory) → fits earlier b i after ≡ true → TriesGood ts → MemGood m
           → NextGood (effect env i (length after) st ts m)

@@ -7,3 +7,4 @@ mod ReductionHalts
 pub mod Reduction
 pub mod ProcessExceptions
 pub mod Overriding
+pub mod Sides

@@ -1,7 +1,7 @@
 -- Whole numbers within their bounds. Assumes nothing.
 use mathlib.Core.Path.{_≡_, refl}
 use mathlib.Core.List.{List}
-use mathlib.Core.Bool.{Bool, true, false, cond, _||_}
+use mathlib.Core.Bool.{Bool, true, false, cond}
 use Prim.Native.Nat.{ℕ, zero, suc, _+_, _-_, _<_, _≤_, _^_}
 use native.Mathlib.Omega.{arith}
 use borrow.Author.Needs.{needs}
@@ -17,6 +17,7 @@ use denote.Laws.{Is}
 use Rattle.calculus.specs.Values.{numberOf, lowest, highest, ranged, equalNumbers}
 use Rattle.calculus.specs.declared.Value.{Value}
 use Rattle.calculus.specs.declared.Value.the-variants.{Truth, Number}
+use Rattle.answers.specs.declared.Side.the-variants.{Above, Below}
 use Rattle.answers.specs.declared.Cause.the-variants.{OutOfRange}
 use Rattle.calculus.specs.declared.Outcome.the-variants.{Gives, Ends}
 use Rattle.calculus.proofs.Value.{the-type}
@@ -70,7 +71,7 @@ difference-fits {x} {y} p q =
 
 -- the two tests of the range, as they are made on 64 bits
 pub ranged-by : (z : ℤ) {a b : Bool} → SFits w64 z → ltZ (toZ w64 (ofZ w64 z)) lowest ≡ a →
-    ltZ highest (toZ w64 (ofZ w64 z)) ≡ b → ranged z ≡ cond (a || b) (Ends OutOfRange) (Gives (Number z))
+    ltZ highest (toZ w64 (ofZ w64 z)) ≡ b → ranged z ≡ cond a (Ends (OutOfRange Below)) (cond b (Ends (OutOfRange Above)) (Gives (Number z)))
 ranged-by z {a} {b} p e f =
     let low : ltZ z lowest ≡ a = rw (toZ-ofZ p) at e in
     let high : ltZ highest z ≡ b = rw (toZ-ofZ p) at f in

@@ -96,7 +96,7 @@ module _ (e : Env) where
     unfolding seen
     fatal-ends Empty p = absurd (false≢true p)
     fatal-ends Conflict p = rw (exceptions-ended e Conflict es)
-    fatal-ends OutOfRange p = rw (exceptions-ended e OutOfRange es)
+    fatal-ends (OutOfRange s) p = rw (exceptions-ended e (OutOfRange s) es)
 
   one-gives : (m n : ℕ) (v : Value) (j c : Term) → eval e (default (empties m (also (literal v) (empties n none))) j c) ≡ Gives v
   unfolding eval

@@ -55,7 +55,7 @@ module _ (e : Env) where
     evaluated (Gives v) = goes (some v)
     evaluated (Ends Empty) = goes option.none
     evaluated (Ends Conflict) = step (exception-error vs Conflict es j c refl) (value (Ends Conflict))
-    evaluated (Ends OutOfRange) = step (exception-error vs OutOfRange es j c refl) (value (Ends OutOfRange))
+    evaluated (Ends (OutOfRange s)) = step (exception-error vs (OutOfRange s) es j c refl) (value (Ends (OutOfRange s)))
 
     through-exception : {a : Term} → Halts a → Halts (default (behind vs (also a es)) j c)
     through-exception = through fatal (λ x. default (behind vs (also x es)) j c) (λ _ _. in-exception vs es j c) evaluated

@@ -12,7 +12,7 @@ use Rattle.calculus.specs.declared.Gathered.the-variants.{SoFar, Ended}
 abbrev pub caught : Cause → Gathered
 caught Empty = SoFar Nothing
 caught Conflict = Ended Conflict
-caught OutOfRange = Ended OutOfRange
+caught (OutOfRange s) = Ended (OutOfRange s)
 
 -- what one exception comes to
 abbrev pub found : Outcome → Gathered

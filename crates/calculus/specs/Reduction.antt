@@ -7,11 +7,11 @@
 --     2  An empty exception stays in its place. The figures have no rule for it, so that strip g would be stuck; but "such an ∅-error can be caught,
 --        as long as it appears in the exception list of an enclosing default expression".
 --     3  The values in contexts are not errors: an error that is there propagates like one just raised. With the errors among the values strip h
---        would be out of range; but of ⊗ "the reduction aborts, under any context", and ∅ is caught by an exception list alone (2).
+--        would be above; but of ⊗ "the reduction aborts, under any context", and ∅ is caught by an exception list alone (2).
 --     4  Conflict waits until every exception is a value: "Each of the exceptions .. is evaluated; if two or more are valid .., a conflict error .. is raised".
 --     5  Justification and consequence are reduced only once every exception is empty: "With none, the justification is evaluated" (paper 01), and
 --        where one is valid "we evaluate neither the justification or the consequence".
--- Out of range is ours, a third error: it is like conflict. A number where a yes/no should stand counts as no, where the figures are stuck: no term of an
+-- Out of range is ours, with its side (paper 02): two more errors, each like conflict. A number where a yes/no should stand counts as no, where the figures are stuck: no term of an
 -- accepted book has one.
 use Prim.Native.Nat.{ℕ, zero, suc}
 use mathlib.Core.Path.{_≡_}
@@ -47,11 +47,11 @@ isError which (binary op a b) = false
 isError which (choice c a b) = false
 isError which (default es j c) = false
 
--- a cause that ends a default wherever it arises: conflict, and out of range like it
+-- a cause that ends a default wherever it arises: conflict, and out of range on either side like it
 abbrev pub fatal : Cause → Bool
 fatal Empty = false
 fatal Conflict = true
-fatal OutOfRange = true
+fatal (OutOfRange s) = true
 
 -- a regular context whose hole has become t: D-CONTEXTCONFLICTERROR and D-CONTEXTEMPTYERROR where t is an error, else D-CONTEXT
 abbrev pub regular : (Term → Term) → Term → Term

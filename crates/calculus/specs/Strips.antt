@@ -8,6 +8,7 @@ use Rattle.calculus.specs.Values.{lowest}
 use Rattle.calculus.specs.Terms.{Term, Terms, literal, error, unary, binary, default, none, also}
 use Rattle.calculus.specs.Evaluation.{Env, eval, exceptions, step}
 use Rattle.calculus.specs.declared.Value.the-variants.{Truth, Number}
+use Rattle.answers.specs.declared.Side.the-variants.{Above}
 use Rattle.answers.specs.declared.Cause.the-variants.{Empty, Conflict, OutOfRange}
 use Rattle.calculus.specs.declared.Outcome.{Outcome}
 use Rattle.calculus.specs.declared.Outcome.the-variants.{Gives, Ends}
@@ -76,14 +77,14 @@ strips =
     ∷ row (eval nothing (default (one (default none no′ (num 1))) yes′ (num 2))) (value 2)
     -- h [conflict, big+1 | yes : 5] conflict
     ∷ row (eval nothing (default (two conflict past) yes′ (num 5))) (Ends Conflict)
-    -- i [1, 2, big+1 | yes : 5] out of range
-    ∷ row (eval nothing (default (three (num 1) (num 2) past) yes′ (num 5))) (Ends OutOfRange)
+    -- i [1, 2, big+1 | yes : 5] out of range; "strips i and l read above"
+    ∷ row (eval nothing (default (three (num 1) (num 2) past) yes′ (num 5))) (Ends (OutOfRange Above))
     -- j empty + conflict is empty
     ∷ row (eval nothing (binary Add empty conflict)) (Ends Empty)
     -- k conflict + empty is conflict
     ∷ row (eval nothing (binary Add conflict empty)) (Ends Conflict)
-    -- l negate −2,147,483,648 is out of range, (big−1)+1 is big
-    ∷ row (eval nothing (unary Negate (literal (Number lowest)))) (Ends OutOfRange)
+    -- l negate −2,147,483,648 is out of range, (big−1)+1 is big; "Negating −2,147,483,648 is above"
+    ∷ row (eval nothing (unary Negate (literal (Number lowest)))) (Ends (OutOfRange Above))
     -- l (big−1)+1
     ∷ row (eval nothing (binary Add (num (big - 1)) (num 1))) (value big)
     -- m given 9 where the definition is conflict: 9

@@ -1,7 +1,7 @@
 -- The codec.
 --     value-decoded, outcome-decoded   a cell that was made of a value or an outcome holds it
 --     value-high, value-low            a value's cell stands above nothing and below many
---     below, above                     a value's cell stands below every end, an end's does not
+--     value-before-ends, end-high      a value's cell stands below every end, an end's does not
 --     no-end, no-value                 what the code found by one comparison
 --     is-yes, is-number, are-same      a value by its cell
 -- Assumes nothing.
@@ -19,6 +19,7 @@ use Rattle.calculus.proofs.Numbers.{equal-bits}
 use Rattle.calculus.specs.declared.Value.{Value}
 use Rattle.calculus.specs.declared.Value.the-variants.{Truth, Number}
 use Rattle.answers.specs.declared.Cause.{Cause}
+use Rattle.answers.specs.declared.Side.the-variants.{Above, Below}
 use Rattle.answers.specs.declared.Cause.the-variants.{Empty, Conflict, OutOfRange}
 use Rattle.calculus.specs.declared.Outcome.{Outcome}
 use Rattle.calculus.specs.declared.Outcome.the-variants.{Gives, Ends}
@@ -49,34 +50,36 @@ value-low (Truth false) f = lit< tt
 value-low (Truth true) f = lit< tt
 value-low (Number z) f = omega (arith, fits-ofZ f .fits)
 
-pub below : (v : Value) → SFits w32 (numberOf v) → valueCell v < emptyCell
-below v f = let l = value-low v f in omega arith
+pub value-before-ends : (v : Value) → SFits w32 (numberOf v) → valueCell v < emptyCell
+value-before-ends v f = let l = value-low v f in omega arith
 
-pub above : (c : Cause) → emptyCell ≤ causeCell c
-above Empty = omega arith
-above Conflict = omega arith
-above OutOfRange = omega arith
+pub end-high : (c : Cause) → emptyCell ≤ causeCell c
+end-high Empty = omega arith
+end-high Conflict = omega arith
+end-high (OutOfRange Above) = omega arith
+end-high (OutOfRange Below) = omega arith
 
 pub cause-decoded : (c : Cause) → causeOf (causeCell c) ≡ c
 unfolding causeOf
 cause-decoded Empty = refl
 cause-decoded Conflict = refl
-cause-decoded OutOfRange = refl
+cause-decoded (OutOfRange Above) = refl
+cause-decoded (OutOfRange Below) = refl
 
 pub outcome-decoded : (o : Outcome) → (c : ℕ) → Codes c o → outcomeOf c ≡ o
 unfolding outcomeOf cellOf
-outcome-decoded (Gives v) c h = rw (h .is, lt-ltb (valueCell v) emptyCell (below v (h .fits))) (ap Gives (value-decoded v (h .fits)))
-outcome-decoded (Ends k) c h = rw (h .is, le-ltb (causeCell k) emptyCell (above k)) (ap Ends (cause-decoded k))
+outcome-decoded (Gives v) c h = rw (h .is, lt-ltb (valueCell v) emptyCell (value-before-ends v (h .fits))) (ap Gives (value-decoded v (h .fits)))
+outcome-decoded (Ends k) c h = rw (h .is, le-ltb (causeCell k) emptyCell (end-high k)) (ap Ends (cause-decoded k))
 
 -- What the code found by one comparison
 
 pub no-end : {A : Type 0} (v : Value) (x : ℕ) → Codes x (Gives v) → emptyCell ≤ x → A
 unfolding cellOf
-no-end v x h l = let b = below v (h .fits) in let none : ⊥ = omega (arith, h .is) in absurd none
+no-end v x h l = let b = value-before-ends v (h .fits) in let none : ⊥ = omega (arith, h .is) in absurd none
 
 pub no-value : {A : Type 0} (k : Cause) (x : ℕ) → Codes x (Ends k) → x < emptyCell → A
 unfolding cellOf
-no-value k x h l = let b = above k in let none : ⊥ = omega (arith, h .is) in absurd none
+no-value k x h l = let b = end-high k in let none : ⊥ = omega (arith, h .is) in absurd none
 
 -- A value by its cell
 

@@ -1,6 +1,6 @@
 -- A variable, a joined value and an outcome as one number, a cell: a tag times 2 ^ 32, and a payload below 2 ^ 32. The tags, in their order:
 --     0 nothing   1 no   2 yes   3 a number, its bits   (4, 5: room for two more types of values)
---     6 many   7 empty   8 conflict   9 out of range   (10: room for one more cause)
+--     6 many   7 empty   8 conflict   9 above   10 below
 -- so one comparison tells a value from an end. No and yes have the payload 0: the payload of every value is the bits of its number.
 use Prim.Native.Nat.{ℕ, _+_, _*_, _%_}
 use mathlib.Core.Path.{_≡_}
@@ -14,6 +14,8 @@ use mir.Val.{SFits, toZ, ofZ}
 use Rattle.calculus.specs.Values.{numberOf}
 use Rattle.calculus.specs.declared.Value.{Value}
 use Rattle.calculus.specs.declared.Value.the-variants.{Truth, Number}
+use Rattle.answers.specs.declared.Side.{Side}
+use Rattle.answers.specs.declared.Side.the-variants.{Above, Below}
 use Rattle.answers.specs.declared.Cause.{Cause}
 use Rattle.answers.specs.declared.Cause.the-variants.{Empty, Conflict, OutOfRange}
 use Rattle.calculus.specs.declared.Outcome.{Outcome}
@@ -44,8 +46,11 @@ emptyCell = tag 7
 abbrev pub conflictCell : ℕ
 conflictCell = tag 8
 
-abbrev pub rangeCell : ℕ
-rangeCell = tag 9
+abbrev pub aboveCell : ℕ
+aboveCell = tag 9
+
+abbrev pub belowCell : ℕ
+belowCell = tag 10
 
 -- Values and outcomes
 
@@ -57,10 +62,14 @@ unfoldable pub valueCell : Value → ℕ
 valueCell (Truth b) = truthCell b
 valueCell (Number z) = zeroCell + ofZ w32 z
 
+abbrev pub sideCell : Side → ℕ
+sideCell Above = aboveCell
+sideCell Below = belowCell
+
 abbrev pub causeCell : Cause → ℕ
 causeCell Empty = emptyCell
 causeCell Conflict = conflictCell
-causeCell OutOfRange = rangeCell
+causeCell (OutOfRange s) = sideCell s
 
 unfoldable pub cellOf : Outcome → ℕ
 cellOf (Gives v) = valueCell v
@@ -74,9 +83,13 @@ payload c = toZ w32 (c % 4294967296)
 unfoldable pub valueOf : ℕ → Value
 valueOf c = cond (ltb c zeroCell) (Truth (eqb c yesCell)) (Number (payload c))
 
+-- the side of a cell that is out of range
+abbrev pub sideOf : ℕ → Side
+sideOf c = cond (ltb c belowCell) Above Below
+
 -- the cause of a cell that is an end
 unfoldable pub causeOf : ℕ → Cause
-causeOf c = cond (ltb c conflictCell) Empty (cond (ltb c rangeCell) Conflict OutOfRange)
+causeOf c = cond (ltb c conflictCell) Empty (cond (ltb c aboveCell) Conflict (OutOfRange (sideOf c)))
 
 unfoldable pub outcomeOf : ℕ → Outcome
 outcomeOf c = cond (ltb c emptyCell) (Gives (valueOf c)) (Ends (causeOf c))

@@ -1,5 +1,6 @@
 // A variable, a joined value and an outcome as one number, a cell; slices of cells hold the variables of a scope.
 use answers::Cause;
+use answers::Side;
 use calculus::Given;
 use calculus::Joined;
 use calculus::Value;
@@ -26,7 +27,9 @@ pub const EMPTY: u64 = 30064771072;
 
 pub const CONFLICT: u64 = 34359738368;
 
-pub const OUT_OF_RANGE: u64 = 38654705664;
+pub const ABOVE: u64 = 38654705664;
+
+pub const BELOW: u64 = 42949672960;
 
 // The cell of a value.
 pub fn cell_of(v: Value) -> u64
@@ -45,10 +48,13 @@ pub fn cause_of(c: u64) -> Cause
     if c < CONFLICT {
         return Cause::Empty;
     }
-    if c < OUT_OF_RANGE {
+    if c < ABOVE {
         return Cause::Conflict;
     }
-    Cause::OutOfRange
+    if c < BELOW {
+        return Cause::OutOfRange(Side::Above);
+    }
+    Cause::OutOfRange(Side::Below)
 }
 
 // What a value's cell holds.

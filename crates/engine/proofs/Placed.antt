@@ -10,6 +10,7 @@ use native.Mathlib.Omega.{arith}
 use lib.ListN.{length}
 use Rattle.answers.specs.Numbers.{refusalNumber, causeNumber, refusedNumbers, judgedNumbers, producedNumbers, answerNumbers}
 use Rattle.answers.specs.declared.Cause.{Cause}
+use Rattle.answers.specs.declared.Side.the-variants.{Above, Below}
 use Rattle.answers.specs.declared.Cause.the-variants.{Empty, Conflict, OutOfRange}
 use Rattle.answers.specs.declared.Refusal.{Refusal}
 use Rattle.answers.specs.declared.Refusal.the-variants.{Book, NoSuchScope, BadInput, BufferTooSmall, BadCode, Stuck, BadChoice}
@@ -44,7 +45,8 @@ refusal-small BadChoice = omega arith
 cause-small : (c : Cause) → causeNumber c < 256
 cause-small Empty = omega arith
 cause-small Conflict = omega arith
-cause-small OutOfRange = omega arith
+cause-small (OutOfRange Above) = omega arith
+cause-small (OutOfRange Below) = omega arith
 
 refused-placed : (r : Refusal) → Placed (refusedNumbers r)
 refused-placed r = record { refusal = refusal-small r; outcome = omega arith; count = omega arith; length = omega arith }

@@ -6,6 +6,7 @@ pub use answers::Fault;
 pub use answers::Judged;
 pub use answers::Produced;
 pub use answers::Refusal;
+pub use answers::Side;
 pub use compiler::compile;
 pub use evaluator::evaluate;
 pub use judge::judge;

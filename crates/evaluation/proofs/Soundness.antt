@@ -10,14 +10,14 @@ use mathlib.Core.Bool.{Bool, true, false, cond, _||_, or-true}
 use mathlib.Core.List.{List, [], _∷_}
 use lib.ListN.{getD}
 use lib.IntN.{ℤ, negℤ, _+ℤ_, _-ℤ_}
-use lib.Signed.{ltZ}
 use borrow.Author.Tests.{eq-eqb}
-use Rattle.calculus.specs.Values.{truthOf, numberOf, lowest, highest, ranged}
+use Rattle.calculus.specs.Values.{truthOf, numberOf, ranged}
 use Rattle.calculus.specs.Operators.{unaryOf, binaryOf}
 use Rattle.calculus.specs.Outcomes.{bind, choose}
 use Rattle.calculus.specs.Joining.{join}
 use Rattle.calculus.specs.Defaults.{found, together, gather, settle}
 use Rattle.calculus.proofs.Joining.{join-nothing-left, join-many-left}
+use Rattle.calculus.proofs.Sides.{ranged-cases}
 use Rattle.calculus.specs.Terms.{Term, Terms, literal, own, called, error, unary, binary, choice, default, none, also}
 use Rattle.calculus.specs.Evaluation.{Env, eval, exceptions}
 use Rattle.calculus.specs.declared.Value.{Value}
@@ -105,11 +105,7 @@ GatheredFits t (SoFar j) = JoinedFits t j
 GatheredFits t (Ended c) = Unit {0}
 
 ranged-fits : (z : ℤ) → OutcomeFits Numeric (ranged z)
-ranged-fits z = go (ltZ z lowest || ltZ highest z)
-  where
-    go : (b : Bool) → OutcomeFits Numeric (cond b (Ends OutOfRange) (Gives (Number z)))
-    go true = tt
-    go false = refl
+ranged-fits z = ranged-cases z (OutcomeFits Numeric) (λ s. tt) refl
 
 unary-fits : (op : Unary) (y : Value) → OutcomeFits (unaryType op) (unaryOf op y)
 unary-fits Not y = refl
@@ -144,7 +140,7 @@ found-fits : (t : ValueType) (o : Outcome) → OutcomeFits t o → GatheredFits 
 found-fits t (Gives v) h = h
 found-fits t (Ends Empty) h = tt
 found-fits t (Ends Conflict) h = tt
-found-fits t (Ends OutOfRange) h = tt
+found-fits t (Ends (OutOfRange s)) h = tt
 
 together-fits : (t : ValueType) (a b : Gathered) → GatheredFits t a → GatheredFits t b → GatheredFits t (together a b)
 together-fits t (Ended c) b p q = tt

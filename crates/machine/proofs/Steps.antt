@@ -240,7 +240,7 @@ module _ (env : Surroundings) (m : Memory) where
       ∙ ap (λ (xs : List ℕ). exec env xs (length k - t .lands) cut ts m) p
       ∙ sym (raise-lands k st t ts (o .0) (o .1))
   raise-past Conflict n ys k st ts p l o = refl
-  raise-past OutOfRange n ys k st ts p l o = refl
+  raise-past (OutOfRange s) n ys k st ts p l o = refl
 
   pub raise-drops : (c : Cause) (k : List ℕ) (e : Joined) (st : List Joined) (ts : List Try) → Open (length k) (length st) ts
       → raiseAt env c k (e ∷ st) ts m ≡ raiseAt env c k st ts m
@@ -253,4 +253,4 @@ module _ (env : Surroundings) (m : Memory) where
       ∙ ap (λ (i : ℕ). exec env k (length k - t .lands) (drop i (e ∷ st)) ts m) l
       ∙ sym (raise-lands k st t ts (o .0) (o .1))
   raise-drops Conflict k e st ts o = refl
-  raise-drops OutOfRange k e st ts o = refl
+  raise-drops (OutOfRange s) k e st ts o = refl

@@ -105,7 +105,7 @@ raised left st (t ∷ ts) m =
 abbrev pub raising : Cause → ℕ → List Joined → List Try → Memory → Next
 raising Empty left st ts m = raised left st ts m
 raising Conflict left st ts m = ends Conflict m
-raising OutOfRange left st ts m = ends OutOfRange m
+raising (OutOfRange s) left st ts m = ends (OutOfRange s) m
 
 -- "512 open tries passed in one entry"
 abbrev pub tried : ℕ → List Joined → List Try → Memory → Next

@@ -5,6 +5,7 @@ use answers::Fault;
 use answers::Judged;
 use answers::Produced;
 use answers::Refusal;
+use answers::Side;
 ghost use mathlib.Core.Path.{_≡_};
 ghost use Rattle.answers.specs.Numbers.{faultNumber, refusalNumber, causeNumber, judgedNumbers, producedNumbers, answerNumbers};
 ghost use Rattle.numbers.specs.Packed.{packed, wrapped};
@@ -51,7 +52,10 @@ pub fn cause_number(c: Cause) -> u8
     match c {
         Cause::Empty => 1,
         Cause::Conflict => 2,
-        Cause::OutOfRange => 3,
+        Cause::OutOfRange(s) => match s {
+            Side::Above => 3,
+            Side::Below => 4,
+        },
     }
 }
 

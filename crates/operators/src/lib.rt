@@ -1,5 +1,6 @@
 // The operators on values. Each result equals a definition of the calculus.
 use answers::Cause;
+use answers::Side;
 use calculus::Binary;
 use calculus::Outcome;
 use calculus::Unary;
@@ -38,17 +39,18 @@ pub fn magnitude(n: i32) -> u64
     if z < 0 { (-z) as u64 } else { z as u64 }
 }
 
-// The number, or out of range.
+// The number, or the side on which it is out of range.
 fn in_range(z: i64) -> Outcome
     ensures { λ r. ⌜ r ≡ ranged z ⌝ }
 {
     if z < -2147483648 {
-        return Outcome::Ends(Cause::OutOfRange);
+        return Outcome::Ends(Cause::OutOfRange(Side::Below));
     }
     if 2147483647 < z {
-        return Outcome::Ends(Cause::OutOfRange);
+        return Outcome::Ends(Cause::OutOfRange(Side::Above));
     }
-    Outcome::Gives(Value::Number(z as i32))
+    let n = z as i32;
+    Outcome::Gives(Value::Number(n))
 }
 
 // An operator on values.

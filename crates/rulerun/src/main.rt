@@ -2,6 +2,7 @@
 // entered, then number and value of each variable.
 use engine::Answer;
 use engine::Cause;
+use engine::Side;
 use engine::evaluate;
 use engine::refusal_number;
 use integers::distance_at;
@@ -30,12 +31,15 @@ fn write_refused(number: u8) -> bool {
     write(b"refused ") & write_digits(number as u64) & write(b"\n")
 }
 
-// "Other first lines: `conflict N`, `range N`, `refused R`"
+// "Other first lines: `conflict N`, `range N`, `refused R`"; "the printed line, which becomes `above N` or `below N`"
 fn write_cause(c: Cause) -> bool {
     match c {
         Cause::Empty => write(b"empty "),
         Cause::Conflict => write(b"conflict "),
-        Cause::OutOfRange => write(b"range "),
+        Cause::OutOfRange(s) => match s {
+            Side::Above => write(b"above "),
+            Side::Below => write(b"below "),
+        },
     }
 }
 

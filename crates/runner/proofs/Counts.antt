@@ -165,7 +165,7 @@ module _ (env : Surroundings) (is : List ℕ) (w : ℕ → ℕ) (W : ℕ) where
   after-raise : (c : Cause) (left : ℕ) (st : List Joined) (ts : List Try) (m : Memory) → Owes m → After (raising c left st ts m)
   after-raise Empty left st ts m g = after-empty left st ts m g
   after-raise Conflict left st ts m g = g .some
-  after-raise OutOfRange left st ts m g = g .some
+  after-raise (OutOfRange s) left st ts m g = g .some
 
   at-end : (m : Memory) → Owes m → AtLeast (atEnd m) W
   at-end m g = on-whole (finalsOf (m .own)) (allEntered (m .callees)) refl

@@ -1,6 +1,7 @@
 // The trial strips a to m, each a book of one scope that the engine evaluates: a line each, its letter and what it gives.
 use engine::Answer;
 use engine::Cause;
+use engine::Side;
 use engine::evaluate;
 use engine::refusal_number;
 use integers::number_at;
@@ -142,7 +143,10 @@ fn write_cause(c: Cause) {
     match c {
         Cause::Empty => write(b"empty"),
         Cause::Conflict => write(b"conflict"),
-        Cause::OutOfRange => write(b"range"),
+        Cause::OutOfRange(s) => match s {
+            Side::Above => write(b"above"),
+            Side::Below => write(b"below"),
+        },
     }
 }
 

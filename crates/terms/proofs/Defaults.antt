@@ -9,6 +9,7 @@ use native.Mathlib.Omega.{arith}
 use Rattle.calculus.specs.Defaults.{found, together, settle}
 use Rattle.calculus.proofs.Numbers.{zero-fits}
 use Rattle.answers.specs.declared.Cause.{Cause}
+use Rattle.answers.specs.declared.Side.the-variants.{Above, Below}
 use Rattle.answers.specs.declared.Cause.the-variants.{Empty, Conflict, OutOfRange}
 use Rattle.calculus.specs.declared.Outcome.{Outcome}
 use Rattle.calculus.specs.declared.Outcome.the-variants.{Gives, Ends}
@@ -18,7 +19,7 @@ use Rattle.calculus.specs.declared.Gathered.{Gathered}
 use Rattle.calculus.specs.declared.Gathered.the-variants.{SoFar, Ended}
 use Rattle.cells.specs.Codec.{conflictCell, emptyCell, manyCell, cellOf, gatheredCell, Codes, Gathers}
 use Rattle.cells.specs.Joining.{joinCell}
-use Rattle.cells.proofs.Codec.{value-high, value-low, above, no-end}
+use Rattle.cells.proofs.Codec.{value-high, value-low, end-high, no-end}
 use Rattle.cells.proofs.Joining.{join-gathers}
 use Rattle.terms.specs.Operators.{OnFound, OnBoth}
 
@@ -34,7 +35,7 @@ no-so-far j x h l = let b = so-far-low j x h in let none : ⊥ = omega arith in 
 
 pub no-ended : {A : Type 0} (k : Cause) (x : ℕ) → Gathers x (Ended k) → x < emptyCell → A
 unfolding gatheredCell
-no-ended k x h l = let b = above k in let none : ⊥ = omega (arith, h .is) in absurd none
+no-ended k x h l = let b = end-high k in let none : ⊥ = omega (arith, h .is) in absurd none
 
 -- An empty exception comes to nothing, every other to itself.
 pub found-empty : (x : ℕ) → x ≡ emptyCell → OnFound x 0
@@ -42,14 +43,15 @@ unfolding cellOf gatheredCell
 found-empty x e (Gives v) k = no-end v x k (omega arith)
 found-empty x e (Ends Empty) k = record { is = refl; fits = zero-fits }
 found-empty x e (Ends Conflict) k = let none : ⊥ = omega (arith, k .is) in absurd none
-found-empty x e (Ends OutOfRange) k = let none : ⊥ = omega (arith, k .is) in absurd none
+found-empty x e (Ends (OutOfRange Above)) k = let none : ⊥ = omega (arith, k .is) in absurd none
+found-empty x e (Ends (OutOfRange Below)) k = let none : ⊥ = omega (arith, k .is) in absurd none
 
 pub found-other : (x : ℕ) → (x ≡ emptyCell → ⊥) → OnFound x x
 unfolding cellOf gatheredCell
 found-other x n (Gives v) k = record { is = k .is; fits = k .fits }
 found-other x n (Ends Empty) k = absurd (n (k .is))
 found-other x n (Ends Conflict) k = record { is = k .is; fits = zero-fits }
-found-other x n (Ends OutOfRange) k = record { is = k .is; fits = zero-fits }
+found-other x n (Ends (OutOfRange s)) k = record { is = k .is; fits = zero-fits }
 
 -- "The first that is conflict or out of range is the result"
 pub ended-stays : (x y : ℕ) → emptyCell ≤ x → OnBoth x y x

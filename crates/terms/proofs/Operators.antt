@@ -17,13 +17,14 @@ use Rattle.calculus.specs.Operators.{unaryOf, binaryOf}
 use Rattle.calculus.proofs.Numbers.{zero-fits}
 use Rattle.calculus.specs.declared.Value.{Value}
 use Rattle.calculus.specs.declared.Value.the-variants.{Truth, Number}
+use Rattle.answers.specs.declared.Side.{Side}
 use Rattle.answers.specs.declared.Cause.the-variants.{OutOfRange}
 use Rattle.calculus.specs.declared.Outcome.the-variants.{Gives, Ends}
 use Rattle.calculus.specs.declared.Unary.{Unary}
 use Rattle.calculus.specs.declared.Unary.the-variants.{Not, Negate}
 use Rattle.calculus.specs.declared.Binary.{Binary}
 use Rattle.calculus.specs.declared.Binary.the-variants.{And, Add, Subtract, Equal, Less}
-use Rattle.cells.specs.Codec.{emptyCell, rangeCell, yesCell, truthCell, valueCell, cellOf, payload, Codes}
+use Rattle.cells.specs.Codec.{emptyCell, sideCell, yesCell, truthCell, valueCell, cellOf, payload, Codes}
 use Rattle.cells.proofs.Codec.{no-end, no-value, is-yes, is-number, are-same}
 use Rattle.terms.specs.Operators.{OnOne, OnTwo}
 
@@ -58,9 +59,9 @@ pub number-codes : (r : ℕ) (z : ℤ) → SFits w32 z → r ≡ valueCell (Numb
 unfolding cellOf
 number-codes r z f e = record { is = e; fits = f }
 
-pub range-codes : Codes rangeCell (Ends OutOfRange)
+pub side-codes : (s : Side) → Codes (sideCell s) (Ends (OutOfRange s))
 unfolding cellOf
-range-codes = record { is = refl; fits = zero-fits }
+side-codes s = record { is = refl; fits = zero-fits }
 
 pub payload-fits : (x : ℕ) → SFits w32 (payload x)
 payload-fits x = toZ-fits w32 (x % 4294967296) (record { fits = omega arith })

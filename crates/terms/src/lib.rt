@@ -1,11 +1,12 @@
 // The nodes of a scope, evaluated on demand over the cells of variables: one branch of an "if", a right operand where the left gave a value,
 // the justification where no exception gave one, the consequence where the justification is yes. An outcome is a cell.
+use cells::ABOVE;
+use cells::BELOW;
 use cells::CONFLICT;
 use cells::EMPTY;
 use cells::MANY;
 use cells::NO;
 use cells::NOTHING;
-use cells::OUT_OF_RANGE;
 use cells::YES;
 use cells::ZERO;
 use cells::join;
@@ -52,15 +53,15 @@ fn number(z: i32) -> u64
     ZERO + (bits_of(z) as u64)
 }
 
-// The cell of a number, or of out of range.
+// The cell of a number, or of the side on which it is out of range.
 fn ranged(z: i64) -> u64
     ensures { λ r. ⌜ Codes r (Values·ranged z) ⌝ }
 {
     if z < -2147483648 {
-        return OUT_OF_RANGE;
+        return BELOW;
     }
     if 2147483647 < z {
-        return OUT_OF_RANGE;
+        return ABOVE;
     }
     number(z as i32)
 }

@@ -30,7 +30,7 @@ binaryKind Less = 16
 abbrev pub raiseKind : Cause → ℕ
 raiseKind Empty = 32
 raiseKind Conflict = 33
-raiseKind OutOfRange = 33
+raiseKind (OutOfRange s) = 33
 
 -- "Kinds 4–7 push as in the book"
 abbrev pub literalCode : Value → List ℕ → List ℕ

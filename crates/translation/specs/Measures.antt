@@ -50,7 +50,7 @@ SayableValue (Number z) = SFits w32 z
 abbrev pub SayableCause : Cause → Type 0
 SayableCause Empty = Unit {0}
 SayableCause Conflict = Unit {0}
-SayableCause OutOfRange = ⊥
+SayableCause (OutOfRange s) = ⊥
 
 -- the code can say every literal and every error of the term
 unfoldable mutual

@@ -63,7 +63,7 @@ alone : (o : Outcome) → settle (gather (SoFar Nothing) o) (Ends Empty) ≡ o
 alone (Gives v) = refl
 alone (Ends Empty) = refl
 alone (Ends Conflict) = refl
-alone (Ends OutOfRange) = refl
+alone (Ends (OutOfRange s)) = refl
 
 without-rules : (e : Env) (ts : Terms) → eval e (withoutRules ts) ≡ settle (exceptions e (SoFar Nothing) ts) (Ends Empty)
 unfolding eval exceptions

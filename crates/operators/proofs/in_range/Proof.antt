@@ -18,8 +18,8 @@ returns c = sym (ranged-by (c .before .args .z) (c .before .fits .z) (c .if1 .ta
 returns-2 : tie.Need-returns-2
 returns-2 c = sym (ranged-by (c .before .before .args .z) (c .before .before .fits .z) (c .before .if1 .left) (c .if2 .taken))
 
-cast-t5 : tie.Need-cast-t5
-cast-t5 c = rw (toZ-ofZ (c .before .before .fits .z)) (narrow c)
+cast-n : tie.Need-cast-n
+cast-n c = rw (toZ-ofZ (c .before .before .fits .z)) (narrow c)
 
 returns-3 : tie.Need-returns-3
 returns-3 c =
@@ -27,4 +27,4 @@ returns-3 c =
     (sym (ranged-by (c .before .before .args .z) (c .before .before .fits .z) (c .before .if1 .left) (c .if2 .left)))
 
 pub in-range-spec : {M : Type 1} → statement M
-in-range-spec = tie.close (tie.spec returns returns-2 cast-t5 returns-3)
+in-range-spec = tie.close (tie.spec returns returns-2 cast-n returns-3)

@@ -4,8 +4,9 @@ use mathlib.Core.Path.{refl}
 use mir.Syntax.{w32}
 use mir.Val.{SFits}
 use mir.Facts.{toZ-ofZ}
+use Rattle.answers.specs.declared.Side.the-variants.{Above, Below}
 use Rattle.calculus.proofs.Numbers.{ranged-by, within-range}
-use Rattle.terms.proofs.Operators.{range-codes, number-codes}
+use Rattle.terms.proofs.Operators.{side-codes, number-codes}
 use borrow.Author.Needs.{needs}
 use Rattle.terms.proofs.ranged.Statement.{statement}
 use Rattle.terms.proofs.ranged.Tie as tie
@@ -16,10 +17,10 @@ narrow c =
     within-range (c .before .before .args .z) (rw (toZ-ofZ fits) at (c .before .if1 .left)) (rw (toZ-ofZ fits) at (c .if2 .left))
 
 returns : tie.Need-returns
-returns c = rw (ranged-by (c .before .args .z) (c .before .fits .z) (c .if1 .taken) refl) range-codes
+returns c = rw (ranged-by (c .before .args .z) (c .before .fits .z) (c .if1 .taken) refl) (side-codes Below)
 
 returns-2 : tie.Need-returns-2
-returns-2 c = rw (ranged-by (c .before .before .args .z) (c .before .before .fits .z) (c .before .if1 .left) (c .if2 .taken)) range-codes
+returns-2 c = rw (ranged-by (c .before .before .args .z) (c .before .before .fits .z) (c .before .if1 .left) (c .if2 .taken)) (side-codes Above)
 
 cast-number : tie.Need-cast-number
 cast-number c = rw (toZ-ofZ (c .before .before .fits .z)) (narrow c)
