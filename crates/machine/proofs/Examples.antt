@@ -6,7 +6,7 @@ use lib.ListN.{length}
 use Rattle.slices.specs.Bytes.{bigEndian, bytesOf, numberAt, numberBytes}
 use Rattle.record.specs.Kinds.{shapeIn, shapesOf, kinds}
 use Rattle.answers.specs.declared.Cause.{Cause}
-use Rattle.answers.specs.declared.Side.the-variants.{Above}
+use Rattle.answers.specs.declared.Side.the-variants.{Above, Below}
 use Rattle.answers.specs.declared.Cause.the-variants.{Empty, Conflict, OutOfRange}
 use Rattle.book.specs.Lists.{any}
 use Rattle.book.specs.Records.{follows, invalid}
@@ -74,8 +74,10 @@ runs =
     -- negate, add, less, not, and, equal
     ∷ row (asking (1 ∷ 0 ∷ 2 ∷ 1 ∷ 5 ∷ 0 ∷ 0 ∷ 0 ∷ 1 ∷ 11 ∷ 5 ∷ 0 ∷ 0 ∷ 0 ∷ 1 ∷ 13 ∷ 5 ∷ 0 ∷ 0 ∷ 0 ∷ 1 ∷ 16 ∷ 10 ∷ 4 ∷ 0 ∷ 12 ∷ 4 ∷ 0 ∷ 15
     ∷ 41 ∷ 0 ∷ []) 0 []) (gives 1 (1 ∷ 0 ∷ 1 ∷ []))
-    -- out of range ends the run
+    -- out of range ends the run: add above, subtract below, negate above
     ∷ row (asking (1 ∷ 0 ∷ 2 ∷ 2 ∷ 5 ∷ 127 ∷ 255 ∷ 255 ∷ 255 ∷ 5 ∷ 0 ∷ 0 ∷ 0 ∷ 1 ∷ 13 ∷ 41 ∷ 0 ∷ []) 0 []) (ends (OutOfRange Above) 1)
+    ∷ row (asking (1 ∷ 0 ∷ 2 ∷ 2 ∷ 5 ∷ 128 ∷ 0 ∷ 0 ∷ 0 ∷ 5 ∷ 0 ∷ 0 ∷ 0 ∷ 1 ∷ 14 ∷ 41 ∷ 0 ∷ []) 0 []) (ends (OutOfRange Below) 1)
+    ∷ row (asking (1 ∷ 0 ∷ 2 ∷ 2 ∷ 5 ∷ 128 ∷ 0 ∷ 0 ∷ 0 ∷ 11 ∷ 41 ∷ 0 ∷ []) 0 []) (ends (OutOfRange Above) 1)
     -- no jumps
     ∷ row (asking (1 ∷ 0 ∷ 2 ∷ 1 ∷ 4 ∷ 0 ∷ 35 ∷ 0 ∷ 5 ∷ 4 ∷ 1 ∷ 34 ∷ 0 ∷ 2 ∷ 4 ∷ 0 ∷ 41 ∷ 0 ∷ []) 0 []) (gives 1 (1 ∷ 0 ∷ 0 ∷ []))
     -- settle keeps a value and jumps
