@@ -1,6 +1,6 @@
 // What the services answer.
 
-// The side of the range on which a number lies that is out of it: "An operator who sees "range" must know if the speed ran high or low".
+// The side of the range on which an exact result lies that is out of it: "An operator who sees 'range' must know if the speed ran high or low".
 pub enum Side {
     Above,
     Below,

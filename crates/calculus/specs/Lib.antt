@@ -1,5 +1,6 @@
 pub mod Values
 pub mod Operators
+pub mod Sides
 pub mod Outcomes
 pub mod Joining
 pub mod Defaults

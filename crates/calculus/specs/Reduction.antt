@@ -11,8 +11,8 @@
 --     4  Conflict waits until every exception is a value: "Each of the exceptions .. is evaluated; if two or more are valid .., a conflict error .. is raised".
 --     5  Justification and consequence are reduced only once every exception is empty: "With none, the justification is evaluated" (paper 01), and
 --        where one is valid "we evaluate neither the justification or the consequence".
--- Out of range is ours, with its side (paper 02): two more errors, each like conflict. A number where a yes/no should stand counts as no, where the figures are stuck: no term of an
--- accepted book has one.
+-- Out of range is ours, with its side (paper 02): two more errors, each like conflict. A number where a yes/no should stand counts as no, where the
+-- figures are stuck: no term of an accepted book has one.
 use Prim.Native.Nat.{ℕ, zero, suc}
 use mathlib.Core.Path.{_≡_}
 use mathlib.Core.Bool.{Bool, true, false, cond}

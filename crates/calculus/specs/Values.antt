@@ -5,7 +5,6 @@ use lib.IntN.{ℤ, pos, negsuc}
 use lib.Signed.{ltZ}
 use Rattle.calculus.specs.declared.Value.{Value}
 use Rattle.calculus.specs.declared.Value.the-variants.{Truth, Number}
-use Rattle.answers.specs.declared.Side.{Side}
 use Rattle.answers.specs.declared.Side.the-variants.{Above, Below}
 use Rattle.answers.specs.declared.Cause.the-variants.{OutOfRange}
 use Rattle.calculus.specs.declared.Outcome.{Outcome}
@@ -28,15 +27,10 @@ lowest = negsuc 2147483647
 abbrev pub highest : ℤ
 highest = pos 2147483647
 
--- a number lies out of the range on this side
-abbrev pub beyond : Side → ℤ → Bool
-beyond Above z = ltZ highest z
-beyond Below z = ltZ z lowest
-
--- "Out of range (ours): add, subtract or negate leaving −2,147,483,648 to 2,147,483,647"; "Add, subtract and negate say above or below", by their
--- exact result
+-- what an exact result comes to: "Out of range (ours): add, subtract or negate leaving −2,147,483,648 to 2,147,483,647"; "Add, subtract and negate
+-- say above or below"
 abbrev pub ranged : ℤ → Outcome
-ranged z = cond (beyond Below z) (Ends (OutOfRange Below)) (cond (beyond Above z) (Ends (OutOfRange Above)) (Gives (Number z)))
+ranged z = cond (ltZ z lowest) (Ends (OutOfRange Below)) (cond (ltZ highest z) (Ends (OutOfRange Above)) (Gives (Number z)))
 
 abbrev pub equalNumbers : ℤ → ℤ → Bool
 equalNumbers (pos a) (pos b) = eqb a b

@@ -21,7 +21,7 @@ use Rattle.calculus.proofs.Sides.{ranged-cases}
 use Rattle.calculus.specs.Terms.{Term, Terms, literal, own, called, error, unary, binary, choice, default, none, also}
 use Rattle.calculus.specs.Evaluation.{Env, eval, exceptions}
 use Rattle.calculus.specs.declared.Value.{Value}
-use Rattle.calculus.specs.declared.Value.the-variants.{Truth, Number}
+use Rattle.calculus.specs.declared.Value.the-variants.{Truth}
 use Rattle.answers.specs.declared.Cause.the-variants.{Empty, Conflict, OutOfRange}
 use Rattle.calculus.specs.declared.Outcome.{Outcome}
 use Rattle.calculus.specs.declared.Outcome.the-variants.{Gives, Ends}

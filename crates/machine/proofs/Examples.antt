@@ -74,10 +74,17 @@ runs =
     -- negate, add, less, not, and, equal
     ∷ row (asking (1 ∷ 0 ∷ 2 ∷ 1 ∷ 5 ∷ 0 ∷ 0 ∷ 0 ∷ 1 ∷ 11 ∷ 5 ∷ 0 ∷ 0 ∷ 0 ∷ 1 ∷ 13 ∷ 5 ∷ 0 ∷ 0 ∷ 0 ∷ 1 ∷ 16 ∷ 10 ∷ 4 ∷ 0 ∷ 12 ∷ 4 ∷ 0 ∷ 15
     ∷ 41 ∷ 0 ∷ []) 0 []) (gives 1 (1 ∷ 0 ∷ 1 ∷ []))
-    -- out of range ends the run: add above, subtract below, negate above
+    -- out of range ends the run: add above and below, subtract above and below, negate above
     ∷ row (asking (1 ∷ 0 ∷ 2 ∷ 2 ∷ 5 ∷ 127 ∷ 255 ∷ 255 ∷ 255 ∷ 5 ∷ 0 ∷ 0 ∷ 0 ∷ 1 ∷ 13 ∷ 41 ∷ 0 ∷ []) 0 []) (ends (OutOfRange Above) 1)
+    ∷ row (asking (1 ∷ 0 ∷ 2 ∷ 2 ∷ 5 ∷ 128 ∷ 0 ∷ 0 ∷ 0 ∷ 5 ∷ 255 ∷ 255 ∷ 255 ∷ 255 ∷ 13 ∷ 41 ∷ 0 ∷ []) 0 []) (ends (OutOfRange Below) 1)
+    ∷ row (asking (1 ∷ 0 ∷ 2 ∷ 2 ∷ 5 ∷ 0 ∷ 0 ∷ 0 ∷ 0 ∷ 5 ∷ 128 ∷ 0 ∷ 0 ∷ 0 ∷ 14 ∷ 41 ∷ 0 ∷ []) 0 []) (ends (OutOfRange Above) 1)
     ∷ row (asking (1 ∷ 0 ∷ 2 ∷ 2 ∷ 5 ∷ 128 ∷ 0 ∷ 0 ∷ 0 ∷ 5 ∷ 0 ∷ 0 ∷ 0 ∷ 1 ∷ 14 ∷ 41 ∷ 0 ∷ []) 0 []) (ends (OutOfRange Below) 1)
     ∷ row (asking (1 ∷ 0 ∷ 2 ∷ 2 ∷ 5 ∷ 128 ∷ 0 ∷ 0 ∷ 0 ∷ 11 ∷ 41 ∷ 0 ∷ []) 0 []) (ends (OutOfRange Above) 1)
+    -- −2,147,483,648 itself is in range
+    ∷ row (asking (1 ∷ 0 ∷ 2 ∷ 2 ∷ 5 ∷ 128 ∷ 0 ∷ 0 ∷ 1 ∷ 5 ∷ 0 ∷ 0 ∷ 0 ∷ 1 ∷ 14 ∷ 41 ∷ 0 ∷ []) 0 []) (gives 1 (2 ∷ 0 ∷ 128 ∷ 0 ∷ 0 ∷ 0 ∷ []))
+    -- out of range passes an open try
+    ∷ row (asking (1 ∷ 0 ∷ 2 ∷ 2 ∷ 36 ∷ 0 ∷ 11 ∷ 5 ∷ 128 ∷ 0 ∷ 0 ∷ 0 ∷ 5 ∷ 0 ∷ 0 ∷ 0 ∷ 1 ∷ 14 ∷ 5 ∷ 0 ∷ 0 ∷ 0 ∷ 7 ∷ 41 ∷ 0 ∷ []) 0 [])
+    (ends (OutOfRange Below) 1)
     -- no jumps
     ∷ row (asking (1 ∷ 0 ∷ 2 ∷ 1 ∷ 4 ∷ 0 ∷ 35 ∷ 0 ∷ 5 ∷ 4 ∷ 1 ∷ 34 ∷ 0 ∷ 2 ∷ 4 ∷ 0 ∷ 41 ∷ 0 ∷ []) 0 []) (gives 1 (1 ∷ 0 ∷ 0 ∷ []))
     -- settle keeps a value and jumps

@@ -26,7 +26,7 @@ binaryKind Subtract = 14
 binaryKind Equal = 15
 binaryKind Less = 16
 
--- "8 and 9 become 32 and 33"; out of range is named by no book and has no code of its own
+-- "8 and 9 become 32 and 33"; out of range is named by no book and has no instruction: its 33 is there only to have a number
 abbrev pub raiseKind : Cause → ℕ
 raiseKind Empty = 32
 raiseKind Conflict = 33
