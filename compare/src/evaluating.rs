@@ -7,7 +7,7 @@ use crate::tally::{Done, Tally};
 use second::cases::{lend, Case};
 use second::Answer;
 
-pub const OUTCOMES: [&str; 4] = ["values", "empty", "conflict", "range"];
+pub const OUTCOMES: [&str; 5] = ["values", "empty", "conflict", "above", "below"];
 
 /// How an evaluation or a run ended.
 pub fn outcome(answer: Answer) -> &'static str {

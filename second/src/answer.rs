@@ -9,7 +9,8 @@ pub enum Outcome {
     Values = 0,
     Empty = 1,
     Conflict = 2,
-    OutOfRange = 3,
+    Above = 3,
+    Below = 4,
 }
 
 impl From<Failure> for Outcome {
@@ -17,7 +18,8 @@ impl From<Failure> for Outcome {
         match failure {
             Failure::Empty => Outcome::Empty,
             Failure::Conflict => Outcome::Conflict,
-            Failure::OutOfRange => Outcome::OutOfRange,
+            Failure::Above => Outcome::Above,
+            Failure::Below => Outcome::Below,
         }
     }
 }

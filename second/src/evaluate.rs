@@ -140,8 +140,8 @@ impl<'a> Evaluation<'a> {
     }
 
     /// "A default term evaluates every exception, left to right. The first that is
-    /// conflict or out of range is the result. Else two or more that are not empty
-    /// give conflict, equal values included; exactly one is the result."
+    /// conflict or out of range", on either side, "is the result. Else two or more that
+    /// are not empty give conflict, equal values included; exactly one is the result."
     fn term(&self, frame: Frame, term: Term) -> Evaluated {
         let mut found = None;
         let mut several = false;
@@ -199,8 +199,5 @@ impl<'a> Evaluation<'a> {
 
 /// Operands were typed when the book was accepted.
 fn operated(result: Result<Value, OperationError>) -> Evaluated {
-    result.map_err(|error| match error {
-        OperationError::OutOfRange => Failure::OutOfRange,
-        OperationError::WrongType => unreachable!("operands are typed"),
-    })
+    result.map_err(|error| error.failure().expect("operands are typed"))
 }

@@ -81,7 +81,7 @@ pub const READINGS: &[&str] = &[
     "run 010020010103002400022b00 1 - = empty 2 0",
     "run 01000401 0 - = value 1 0",
     "evaluate 010202090205800000000b0113ff00ffff0013ff00ffff02 0 - = conflict 1 0",
-    "evaluate 01020205800000000b00090213ff00ffff0113ff00ffff02 0 - = range 1 0",
+    "evaluate 01020205800000000b00090213ff00ffff0113ff00ffff02 0 - = above 1 0",
 ];
 
 /// The example lines of the readings of request 1 of the second paper, in their order.
@@ -99,6 +99,15 @@ pub const TABLES: &[&str] = &[
     "sheet 010201020102020600050000000713ff02ff0001 0 03 - = refused 18",
 ];
 
+/// The example lines of the readings of request 3, in their order.
+pub const SIDES: &[&str] = &[
+    "evaluate 010202057fffffff05000000010d000113ff00ffff02 0 - = above 1 0",
+    "evaluate 010202058000000005000000010e000113ff00ffff02 0 - = below 1 0",
+    "evaluate 010202058000000005000000010e0001057fffffff05000000010d030413ff00ffff0213ff00ffff05 0 - = below 1 0",
+    "evaluate 01020205800000000b0013ff00ffff01 0 - = above 1 0",
+    "sheet 01020102020600057fffffff05000000010d0102058000000005000000010e04051100030613ff01ffff07 0 00 - = ok 20 0400000000000000000003000000000000000000",
+];
+
 /// The paper's trial terms a to m, each the one definition of a number variable.
 pub const TRIALS: &[(&str, &str)] = &[
     ("a", "evaluate 0102020401050000000512ffffff000113ff00ffff02 0 - = value 1 6 020000000005"),
@@ -109,10 +118,10 @@ pub const TRIALS: &[(&str, &str)] = &[
     ("f", "evaluate 0102020802080105000000051200ffff010213ff00ffff03 0 - = empty 1 0"),
     ("g", "evaluate 0102020400050000000112ffffff0001040105000000021202ffff030413ff00ffff05 0 - = value 1 6 020000000002"),
     ("h", "evaluate 0102020902057fffffff05000000010d010204010500000005120003ff040513ff00ffff06 0 - = conflict 1 0"),
-    ("i", "evaluate 01020205000000010500000002057fffffff05000000010d02030401050000000512000104050613ff00ffff07 0 - = range 1 0"),
+    ("i", "evaluate 01020205000000010500000002057fffffff05000000010d02030401050000000512000104050613ff00ffff07 0 - = above 1 0"),
     ("j", "evaluate 010202080209020d000113ff00ffff02 0 - = empty 1 0"),
     ("k", "evaluate 010202090208020d000113ff00ffff02 0 - = conflict 1 0"),
-    ("l, negate", "evaluate 01020205800000000b0013ff00ffff01 0 - = range 1 0"),
+    ("l, negate", "evaluate 01020205800000000b0013ff00ffff01 0 - = above 1 0"),
     ("l, add", "evaluate 010202057fffffff05000000010e000105000000010d020313ff00ffff04 0 - = value 1 6 02007fffffff"),
     ("m", "evaluate 010202090213ff00ffff00 0 020000000009 = value 1 6 020000000009"),
 ];
@@ -140,7 +149,15 @@ pub const RULERUN: &[(&str, &str)] = &[
         "refused 14\n",
     ),
     ("000b010201090113ff00ffff0000", "conflict 1\n"),
-    ("001001020205800000000b0013ff00ffff0100", "range 1\n"),
+    ("001001020205800000000b0013ff00ffff0100", "above 1\n"),
+    (
+        "0016010202057fffffff05000000010d000113ff00ffff0200",
+        "above 1\n",
+    ),
+    (
+        "0016010202058000000005000000010e000113ff00ffff0200",
+        "below 1\n",
+    ),
     ("000e01020205fffffffb13ff00ffff0000", "value 1\n0 -5\n"),
     ("000b010201040013ff00ffff0000", "value 1\n0 no\n"),
 ];
@@ -173,7 +190,8 @@ fn shown(answer: Result<Answer, u8>, results: &[u8]) -> String {
         Outcome::Values => "value",
         Outcome::Empty => "empty",
         Outcome::Conflict => "conflict",
-        Outcome::OutOfRange => "range",
+        Outcome::Above => "above",
+        Outcome::Below => "below",
     };
     let line = format!("{name} {} {}", answer.count, answer.length);
     match &results[..answer.length] {
@@ -244,17 +262,17 @@ fn wrong(line: &str) -> Option<String> {
 
 /// Everything that is wrong with the tables, and how many lines they have.
 pub fn check() -> (usize, Vec<String>) {
+    let readings = READINGS.iter().chain(TABLES).chain(SIDES).copied();
     let trials = TRIALS.iter().map(|&(_, line)| line);
-    let lines = READINGS.iter().chain(TABLES).copied().chain(trials);
-    let mut faults: Vec<String> = lines.filter_map(wrong).collect();
+    let lines: Vec<&str> = readings.chain(trials).collect();
+    let mut faults: Vec<String> = lines.iter().copied().filter_map(wrong).collect();
     for (input, expected) in RULERUN {
         let printed = rulerun(&hex(input));
         if printed != *expected {
             faults.push(format!("rulerun {input}: got {printed:?}"));
         }
     }
-    let lines = READINGS.len() + TABLES.len() + TRIALS.len() + RULERUN.len();
-    (lines, faults)
+    (lines.len() + RULERUN.len(), faults)
 }
 
 /// Prints what is wrong; hands back how many passed and failed.

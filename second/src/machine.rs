@@ -292,10 +292,10 @@ impl<'a, O: Observer> Machine<'a, O> {
     }
 
     fn result(&mut self, result: Result<Value, OperationError>) -> Result<(), Halt> {
-        match result {
+        match result.map_err(OperationError::failure) {
             Ok(value) => self.push(Entry::Value(value)),
-            Err(OperationError::OutOfRange) => Err(Halt::Failed(Failure::OutOfRange)),
-            Err(OperationError::WrongType) => self.stuck(StuckCause::OtherEntry),
+            Err(Some(failure)) => Err(Halt::Failed(failure)),
+            Err(None) => self.stuck(StuckCause::OtherEntry),
         }
     }
 

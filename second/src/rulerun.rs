@@ -21,7 +21,8 @@ pub fn rulerun(bytes: &[u8]) -> String {
                 Outcome::Values => "value",
                 Outcome::Empty => "empty",
                 Outcome::Conflict => "conflict",
-                Outcome::OutOfRange => "range",
+                Outcome::Above => "above",
+                Outcome::Below => "below",
             };
             let values = value_lines(&results[..answer.length]);
             format!("{name} {}\n{values}", answer.count)

@@ -62,8 +62,9 @@ fn assign(chosen: &[usize], number: usize, slots: &mut [Option<Value>]) {
     }
 }
 
-/// "Each line holds one byte of outcome (0 values, 1 empty, 2 conflict, 3 out of range)
-/// and the results, or as many zero bytes where there are no values."
+/// "Each line holds one byte of outcome (0 values, 1 empty, 2 conflict" and, since
+/// request 3, "byte 3 is above and 4 below") "and the results, or as many zero bytes where
+/// there are no values."
 fn write_row(ended: Result<(), Failure>, slots: &[Option<Value>], row: &mut [u8]) {
     let (first, results) = row.split_at_mut(1);
     let outcome = match ended {

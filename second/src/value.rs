@@ -54,25 +54,43 @@ pub fn number(body: &[u8]) -> i32 {
 pub enum Failure {
     Empty,
     Conflict,
-    OutOfRange,
+    Above,
+    Below,
 }
 
 /// Why an operation gives no value.
 #[derive(Clone, Copy, Debug, PartialEq, Eq)]
 pub enum OperationError {
     WrongType,
-    OutOfRange,
+    Above,
+    Below,
 }
 
-fn in_range(sum: Option<i32>) -> Result<Value, OperationError> {
-    sum.map(Value::Number).ok_or(OperationError::OutOfRange)
+impl OperationError {
+    /// What a term over the operation comes to; nothing for operands of a wrong type.
+    pub fn failure(self) -> Option<Failure> {
+        match self {
+            OperationError::WrongType => None,
+            OperationError::Above => Some(Failure::Above),
+            OperationError::Below => Some(Failure::Below),
+        }
+    }
+}
+
+/// "Add, subtract and negate say above or below": on which side the exact result is.
+fn in_range(exact: i64) -> Result<Value, OperationError> {
+    let side = match exact.is_positive() {
+        true => OperationError::Above,
+        false => OperationError::Below,
+    };
+    i32::try_from(exact).map(Value::Number).map_err(|_| side)
 }
 
 /// Kinds 10 and 11.
 pub fn unary(kind: u8, operand: Value) -> Result<Value, OperationError> {
     match (kind, operand) {
         (kind::NOT, Value::YesNo(a)) => Ok(Value::YesNo(!a)),
-        (kind::NEGATE, Value::Number(a)) => in_range(a.checked_neg()),
+        (kind::NEGATE, Value::Number(a)) => in_range(-i64::from(a)),
         _ => Err(OperationError::WrongType),
     }
 }
@@ -82,8 +100,8 @@ pub fn binary(kind: u8, left: Value, right: Value) -> Result<Value, OperationErr
     use Value::{Number, YesNo};
     match (kind, left, right) {
         (kind::AND, YesNo(a), YesNo(b)) => Ok(YesNo(a && b)),
-        (kind::ADD, Number(a), Number(b)) => in_range(a.checked_add(b)),
-        (kind::SUBTRACT, Number(a), Number(b)) => in_range(a.checked_sub(b)),
+        (kind::ADD, Number(a), Number(b)) => in_range(i64::from(a) + i64::from(b)),
+        (kind::SUBTRACT, Number(a), Number(b)) => in_range(i64::from(a) - i64::from(b)),
         (kind::EQUAL, YesNo(a), YesNo(b)) => Ok(YesNo(a == b)),
         (kind::EQUAL, Number(a), Number(b)) => Ok(YesNo(a == b)),
         (kind::LESS, Number(a), Number(b)) => Ok(YesNo(a < b)),

@@ -1,5 +1,5 @@
 //! Books whose outcome hangs on yes/no variables: a scope with many of them, and numbers
-//! that are a value, empty, conflict or out of range as these are no or yes.
+//! that are a value, empty, conflict, above or below as these are no or yes.
 
 use super::draft::{variables_of, Draft, DraftScope, NUMBER, YES_NO};
 use super::random::Random;

@@ -1,5 +1,5 @@
-//! Small terms over every combination of values, empty, conflict and out of range,
-//! with the outcome the paper gives them.
+//! Small terms over every combination of values, empty, conflict, above and below, with
+//! the outcome the paper gives them.
 
 use super::draft::{Draft, DraftScope, NUMBER, YES_NO};
 use super::random::Random;
@@ -9,11 +9,12 @@ use crate::answer::Outcome;
 /// What a part of a term comes to.
 pub type Sort = Outcome;
 
-pub const SORTS: [Sort; 4] = [
+pub const SORTS: [Sort; 5] = [
     Outcome::Values,
     Outcome::Empty,
     Outcome::Conflict,
-    Outcome::OutOfRange,
+    Outcome::Above,
+    Outcome::Below,
 ];
 
 /// A book of one scope with one variable, and the outcome of its evaluation.
@@ -26,17 +27,19 @@ fn part(scope: &mut DraftScope, of: u8, sort: Sort, yes: bool) -> u8 {
         (Outcome::Conflict, _) => scope.node(&[9, of]),
         (Outcome::Values, YES_NO) => scope.constant(yes),
         (Outcome::Values, _) => scope.number(7),
-        (Outcome::OutOfRange, YES_NO) => {
-            let (low, other) = (out_of_range(scope), scope.number(0));
-            over(scope, 16, &[low, other])
+        (_, YES_NO) => {
+            let (left, right) = (part(scope, NUMBER, sort, yes), scope.number(0));
+            over(scope, 16, &[left, right])
         }
-        (Outcome::OutOfRange, _) => out_of_range(scope),
+        (Outcome::Above, _) => {
+            let lowest = scope.number(i32::MIN);
+            over(scope, 11, &[lowest])
+        }
+        (Outcome::Below, _) => {
+            let (lowest, one) = (scope.number(i32::MIN), scope.number(1));
+            over(scope, 14, &[lowest, one])
+        }
     }
-}
-
-fn out_of_range(scope: &mut DraftScope) -> u8 {
-    let lowest = scope.number(i32::MIN);
-    over(scope, 11, &[lowest])
 }
 
 /// A scope with one variable that the last node defines.
@@ -54,9 +57,11 @@ fn defined(of: u8, build: impl FnOnce(&mut DraftScope) -> u8) -> Draft {
 
 /// All sequences of sorts of a length.
 fn sequences(length: usize) -> Vec<Vec<Sort>> {
-    let digit = |i: usize, place: usize| SORTS[i >> (2 * place) & 3];
-    let one = |i: usize| (0..length).map(|place| digit(i, place)).collect();
-    (0..1 << (2 * length)).map(one).collect()
+    let Some(shorter) = length.checked_sub(1) else {
+        return vec![Vec::new()];
+    };
+    let longer = |sorts: Vec<Sort>| SORTS.map(|sort| [&sorts[..], &[sort]].concat());
+    sequences(shorter).into_iter().flat_map(longer).collect()
 }
 
 /// Every operation on operands of every sort: the first that is no value decides.
@@ -120,10 +125,10 @@ fn justifications() -> Vec<Term> {
     terms
 }
 
-/// "The first that is conflict or out of range is the result. Else two or more that
-/// are not empty give conflict; exactly one is the result."
+/// "The first that is conflict or out of range", on either side, "is the result. Else two
+/// or more that are not empty give conflict; exactly one is the result."
 fn settled(exceptions: &[Sort], without: Outcome) -> Outcome {
-    let stops = |sort: &&Sort| matches!(sort, Outcome::Conflict | Outcome::OutOfRange);
+    let stops = |sort: &&Sort| !matches!(sort, Outcome::Values | Outcome::Empty);
     let values = exceptions.iter().filter(|&&s| s == Outcome::Values).count();
     match (exceptions.iter().find(stops), values) {
         (Some(&first), _) => first,
@@ -211,7 +216,7 @@ pub fn all() -> Vec<Term> {
 pub fn any(rng: &mut Random) -> Term {
     let chance = rng.pick(&[2, 10, 25]);
     let sort = |rng: &mut Random| match rng.percent(chance) {
-        true => rng.pick(&[Outcome::Conflict, Outcome::OutOfRange]),
+        true => rng.pick(&[Outcome::Conflict, Outcome::Above, Outcome::Below]),
         false => rng.pick(&[Outcome::Empty, Outcome::Empty, Outcome::Values]),
     };
     let sorts: Vec<Sort> = (0..rng.below(12)).map(|_| sort(rng)).collect();

@@ -102,15 +102,16 @@ fn clause(scope: &Scope, environment: &Environment, number: usize) -> Result {
     default(exceptions, condition, consequence)
 }
 
-/// "The first that is conflict or out of range is the result. Else two or more that
-/// are not empty give conflict; exactly one is the result. With none, the
+/// "The first that is conflict or out of range", on either side, "is the result. Else two
+/// or more that are not empty give conflict; exactly one is the result. With none, the
 /// justification is evaluated; yes evaluates the consequence, no gives empty."
 fn default(
     exceptions: Vec<Result>,
     justification: impl FnOnce() -> Result,
     consequence: impl FnOnce() -> Result,
 ) -> Result {
-    let stops = |one: &&Result| matches!(one, Err(Outcome::Conflict | Outcome::OutOfRange));
+    use Outcome::{Above, Below, Conflict};
+    let stops = |one: &&Result| matches!(one, Err(Conflict | Above | Below));
     if let Some(&first) = exceptions.iter().find(stops) {
         return first;
     }
@@ -125,8 +126,9 @@ fn default(
 
 fn in_range(n: i64) -> Result {
     match n {
-        -2_147_483_648..=2_147_483_647 => Ok(n),
-        _ => Err(Outcome::OutOfRange),
+        2_147_483_648.. => Err(Outcome::Above),
+        -2_147_483_648.. => Ok(n),
+        _ => Err(Outcome::Below),
     }
 }
 

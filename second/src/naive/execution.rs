@@ -225,10 +225,11 @@ impl Entered {
             (16, 2, 2) => (1, i64::from(left < right)),
             _ => return Err(End::Stuck),
         };
-        if !(-2_147_483_648..=2_147_483_647).contains(&value) {
-            return Err(End::Outcome(Outcome::OutOfRange));
+        match (value < -2_147_483_648, value > 2_147_483_647) {
+            (true, _) => Err(End::Outcome(Outcome::Below)),
+            (_, true) => Err(End::Outcome(Outcome::Above)),
+            _ => self.push(Entry::Value(of, value)),
         }
-        self.push(Entry::Value(of, value))
     }
 
     fn control(&mut self, start: usize, record: &[u8]) -> Step<()> {

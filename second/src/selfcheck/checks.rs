@@ -262,7 +262,7 @@ pub fn check_rulerun(bytes: &[u8], coverage: &mut Coverage) -> Check {
 }
 
 fn printed_answer(answer: Answer, results: &[u8]) -> String {
-    let word = ["value", "empty", "conflict", "range"][answer.outcome as usize];
+    let word = ["value", "empty", "conflict", "above", "below"][answer.outcome as usize];
     let mut text = format!("{word} {}\n", answer.count);
     // Results have the form of an input list of 32 variables or fewer.
     let kinds = result_kinds(results);

@@ -161,7 +161,7 @@ impl Coverage {
         for key in expected_code_faults() {
             all.push((format!("code fault {key:?}"), hits(&self.code_faults, &key)));
         }
-        for word in ["value", "empty", "conflict", "range", "refused"] {
+        for word in ["value", "empty", "conflict", "above", "below", "refused"] {
             let times = hits(&self.printed, &word.to_string());
             all.push((format!("rulerun {word}"), times));
         }
@@ -266,7 +266,8 @@ fn expected_outcomes() -> Vec<(Service, u8)> {
         Outcome::Values,
         Outcome::Empty,
         Outcome::Conflict,
-        Outcome::OutOfRange,
+        Outcome::Above,
+        Outcome::Below,
     ];
     let services = [Service::Evaluate, Service::Run, Service::Tabulate];
     let pairs = services
