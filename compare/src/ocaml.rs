@@ -20,7 +20,8 @@ use std::process::Command;
 /// here once every exception was evaluated, as 4.1 has it. Operands are taken left first.
 const PRELUDE: &str = "exception Empty
 exception Conflict
-exception Out_of_range
+exception Above
+exception Below
 
 let process_exceptions exceptions =
   let force (found, many) thunk =
@@ -32,7 +33,8 @@ let process_exceptions exceptions =
   | _, true -> raise Conflict
   | found, false -> found
 
-let in_range n = if n < -2147483648 || n > 2147483647 then raise Out_of_range else n
+let in_range n =
+  if n > 2147483647 then raise Above else if n < -2147483648 then raise Below else n
 let absent () = raise Empty
 let number variable n = Printf.printf \"%d %d\\n\" variable n
 let yes_no variable b = Printf.printf \"%d %s\\n\" variable (if b then \"yes\" else \"no\")
@@ -42,7 +44,7 @@ let yes_no variable b = Printf.printf \"%d %s\\n\" variable (if b then \"yes\" e
 /// in microseconds, the best of 300 rounds of about a millisecond.
 const MEASURE: &str = "
 let once () =
-  try ignore (Sys.opaque_identity (asked ())) with Empty | Conflict | Out_of_range -> ()
+  try ignore (Sys.opaque_identity (asked ())) with Empty | Conflict | Above | Below -> ()
 
 let seconds calls =
   let start = Sys.time () in
@@ -254,7 +256,8 @@ let show () =
   | {result} -> print_endline \"values\"; {printed}()
   | exception Empty -> print_endline \"empty\"
   | exception Conflict -> print_endline \"conflict\"
-  | exception Out_of_range -> print_endline \"range\"
+  | exception Above -> print_endline \"above\"
+  | exception Below -> print_endline \"below\"
 "
     )
 }
