@@ -9,7 +9,7 @@ use crate::refusal::Refusal;
 use crate::scope::{Node, Scope, Target};
 use crate::steps::Step;
 use crate::trees::{node_term, Part, Term, Trees};
-use crate::value::{binary, unary, Failure, OperationError, Value};
+use crate::value::{binary, unary, Failure, OperationError, Place, Value};
 
 /// Evaluates a scope: refusals 1 to 15, or the answer with its results written.
 pub fn evaluate(
@@ -18,11 +18,22 @@ pub fn evaluate(
     inputs: &[u8],
     results: &mut [u8],
 ) -> Result<Answer, u8> {
+    observed_evaluate(book, scope, inputs, results, |_, _| ())
+}
+
+/// The same, with every failure told to an observer in each place that it is met in.
+pub fn observed_evaluate(
+    book: &[u8],
+    scope: usize,
+    inputs: &[u8],
+    results: &mut [u8],
+    observer: impl Fn(Place, Failure),
+) -> Result<Answer, u8> {
     let book = Book::accept(book)?;
     let asked = book.scopes.get(scope).ok_or(Refusal::NoSuchScope)?;
     let mut slots = vec![None; asked.variables.len()];
     let length = prepare(&asked.variables, inputs, results.len(), &mut slots)?;
-    let mut run = Evaluation::new(&book, slots);
+    let mut run = Evaluation::new(&book, slots, observer);
     let ended = run.enter(scope, 0);
     let (outcome, length) = match ended {
         Ok(()) => {
@@ -48,17 +59,18 @@ struct Frame {
     subscopes: usize,
 }
 
-/// A book with what its runs need, and the slots of a run.
-pub(crate) struct Evaluation<'a> {
+/// A book with what its runs need, the slots of a run, and who is told of failures.
+pub(crate) struct Evaluation<'a, O> {
     book: &'a Book,
     trees: Vec<Trees>,
     layouts: Vec<Layout>,
     pub(crate) slots: Vec<Option<Value>>,
     count: usize,
+    observer: O,
 }
 
-impl<'a> Evaluation<'a> {
-    pub(crate) fn new(book: &'a Book, slots: Vec<Option<Value>>) -> Self {
+impl<'a, O: Fn(Place, Failure)> Evaluation<'a, O> {
+    pub(crate) fn new(book: &'a Book, slots: Vec<Option<Value>>, observer: O) -> Self {
         let layout = |scope: &Scope| {
             let called = scope.subscopes.iter().map(|&s| usize::from(s));
             Layout::of(called.map(|s| book.scopes[s].variables.len()))
@@ -69,7 +81,13 @@ impl<'a> Evaluation<'a> {
             layouts: book.scopes.iter().map(layout).collect(),
             slots,
             count: 0,
+            observer,
         }
+    }
+
+    /// Tells the observer of a failure met in a place.
+    fn met<T>(&self, place: Place, result: Result<T, Failure>) -> Result<T, Failure> {
+        result.inspect_err(|&failure| (self.observer)(place, failure))
     }
 
     /// Runs a scope whose variables stand from `own` on, given ones filled in.
@@ -116,10 +134,12 @@ impl<'a> Evaluation<'a> {
                 variable: variable as u8,
             };
             if let Some(tree) = self.trees[frame.scope].tree(scope, target) {
-                self.slots[own + variable] = Some(self.part(frame, tree)?);
+                let value = self.met(Place::Override, self.part(frame, tree))?;
+                self.slots[own + variable] = Some(value);
             }
         }
-        self.enter(callee, own)
+        let entered = self.enter(callee, own);
+        self.met(Place::Call, entered)
     }
 
     fn part(&self, frame: Frame, part: Part) -> Evaluated {
@@ -146,7 +166,11 @@ impl<'a> Evaluation<'a> {
         let mut found = None;
         let mut several = false;
         for exception in term.exceptions {
-            match self.part(frame, exception) {
+            let place = match exception {
+                Part::Node(_) => Place::NodeException,
+                _ => Place::ClauseException,
+            };
+            match self.met(place, self.part(frame, exception)) {
                 Ok(value) => several |= found.replace(value).is_some(),
                 Err(Failure::Empty) => {}
                 Err(failure) => return Err(failure),
@@ -173,10 +197,11 @@ impl<'a> Evaluation<'a> {
             &Node::Subscope(k, v) => self.read(k, frame, v),
             Node::Empty(_) => Err(Failure::Empty),
             Node::Conflict(_) => Err(Failure::Conflict),
-            &Node::Unary(kind, a) => operated(unary(kind, self.node(frame, a)?)),
+            &Node::Unary(kind, a) => self.operated(kind, unary(kind, self.node(frame, a)?)),
             &Node::Binary(kind, a, b) => {
                 let left = self.node(frame, a)?;
-                operated(binary(kind, left, self.node(frame, b)?))
+                let result = binary(kind, left, self.node(frame, b)?);
+                self.operated(kind, result)
             }
             &Node::If(condition, then, other) => {
                 let yes = self.node(frame, condition)? == Value::YesNo(true);
@@ -195,9 +220,10 @@ impl<'a> Evaluation<'a> {
         let value = self.slots[first + usize::from(variable)];
         Ok(value.expect("the order of steps puts a value before its reads"))
     }
-}
 
-/// Operands were typed when the book was accepted.
-fn operated(result: Result<Value, OperationError>) -> Evaluated {
-    result.map_err(|error| error.failure().expect("operands are typed"))
+    /// Operands were typed when the book was accepted.
+    fn operated(&self, kind: u8, result: Result<Value, OperationError>) -> Evaluated {
+        let result = result.map_err(|error| error.failure().expect("operands are typed"));
+        self.met(Place::operator(kind), result)
+    }
 }

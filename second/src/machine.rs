@@ -2,7 +2,7 @@
 
 use crate::code::{landing, Block, Code};
 use crate::kind;
-use crate::value::{binary, number, unary, Failure, OperationError, Value};
+use crate::value::{binary, number, unary, Failure, OperationError, Place, Value};
 
 pub const MAX_STACK: usize = 1_024;
 pub const MAX_TRIES: usize = 512;
@@ -57,16 +57,19 @@ pub fn join_cases() -> impl Iterator<Item = (Side, Side)> {
         .flat_map(move |left| sides.map(|right| (left, right)))
 }
 
-/// Told of every instruction before it is done, and of the case of every join.
+/// Told of every instruction before it is done, of the case of every join, and of every
+/// operator that leaves the range, in an entered sub-scope as a call too.
 pub trait Observer {
     fn executes(&mut self, kind: u8);
     fn joins(&mut self, case: (Side, Side));
+    fn leaves(&mut self, place: Place, failure: Failure);
 }
 
 /// Observes nothing.
 impl Observer for () {
     fn executes(&mut self, _kind: u8) {}
     fn joins(&mut self, _case: (Side, Side)) {}
+    fn leaves(&mut self, _place: Place, _failure: Failure) {}
 }
 
 /// An entry of the stack.
@@ -294,9 +297,17 @@ impl<'a, O: Observer> Machine<'a, O> {
     fn result(&mut self, result: Result<Value, OperationError>) -> Result<(), Halt> {
         match result.map_err(OperationError::failure) {
             Ok(value) => self.push(Entry::Value(value)),
-            Err(Some(failure)) => Err(Halt::Failed(failure)),
+            Err(Some(failure)) => self.leave(failure),
             Err(None) => self.stuck(StuckCause::OtherEntry),
         }
+    }
+
+    fn leave(&mut self, failure: Failure) -> Result<(), Halt> {
+        self.observer.leaves(Place::operator(self.kind), failure);
+        if !self.callers.is_empty() {
+            self.observer.leaves(Place::Call, failure);
+        }
+        Err(Halt::Failed(failure))
     }
 
     fn unary(&mut self, kind: u8) -> Result<(), Halt> {

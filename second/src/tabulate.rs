@@ -27,7 +27,7 @@ pub fn tabulate(
     let row_length = 1 + results_length(&asked.variables);
     let length = row_length << chosen.len();
     let table = table.get_mut(..length).ok_or(Refusal::BufferTooSmall)?;
-    let mut run = Evaluation::new(&book, Vec::new());
+    let mut run = Evaluation::new(&book, Vec::new(), |_, _| ());
     for (number, row) in table.chunks_exact_mut(row_length).enumerate() {
         run.slots.clear();
         run.slots.extend_from_slice(&fixed);

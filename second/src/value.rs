@@ -50,12 +50,36 @@ pub fn number(body: &[u8]) -> i32 {
 }
 
 /// Why a term has no value.
-#[derive(Clone, Copy, Debug, PartialEq, Eq)]
+#[derive(Clone, Copy, Debug, PartialEq, Eq, PartialOrd, Ord)]
 pub enum Failure {
     Empty,
     Conflict,
     Above,
     Below,
+}
+
+/// Where a failure is met on its way out: at the operator that gives it, or at an
+/// exception, an override or a call that comes to it.
+#[derive(Clone, Copy, Debug, PartialEq, Eq, PartialOrd, Ord)]
+pub enum Place {
+    Negate,
+    Add,
+    Subtract,
+    ClauseException,
+    NodeException,
+    Override,
+    Call,
+}
+
+impl Place {
+    /// The operator of a kind that may leave the range.
+    pub fn operator(kind: u8) -> Place {
+        match kind {
+            kind::NEGATE => Place::Negate,
+            kind::ADD => Place::Add,
+            _ => Place::Subtract,
+        }
+    }
 }
 
 /// Why an operation gives no value.

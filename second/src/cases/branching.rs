@@ -3,6 +3,7 @@
 
 use super::draft::{variables_of, Draft, DraftScope, NUMBER, YES_NO};
 use super::random::Random;
+use super::sides;
 
 /// A book, and the scope to ask for: the last.
 pub struct Branching {
@@ -80,15 +81,12 @@ fn depend(rng: &mut Random, scope: &mut DraftScope, switches: &[u8]) {
     }
 }
 
-/// A small number mostly; else empty, conflict, or one too many.
+/// A small number mostly; else empty, conflict, or out of range on either side.
 fn leaf(rng: &mut Random, scope: &mut DraftScope) -> u8 {
     match rng.below(7) {
         0 => scope.node(&[8, NUMBER]),
         1 => scope.node(&[9, NUMBER]),
-        2 => {
-            let (big, one) = (scope.number(i32::MAX), scope.number(1));
-            scope.node(&[13, big, one])
-        }
+        2 => sides::any(rng, scope),
         _ => scope.number(rng.number(10)),
     }
 }

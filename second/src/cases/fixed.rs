@@ -1,12 +1,13 @@
 //! The fixed cases: every limit met and passed, extreme shapes, every way of each
-//! fault, the tables of directed code, and every case of the join.
+//! fault, the tables of directed code, every case of the join, and every way to leave the
+//! range.
 
 use super::books::{book, Plan};
 use super::draft::{results_length, Draft, DraftScope, CLAUSES, NODES, NUMBER, YES_NO};
 use super::faults::{fault, two_faults, WAYS};
 use super::mix::{evaluate_term, run_directed};
 use super::random::Random;
-use super::{badcode, deepest, heavy, inputs, joins, shapes, stuck, terms};
+use super::{badcode, deepest, heavy, inputs, joins, shapes, sides, stuck, terms};
 use super::{Case, Expected, Service};
 use crate::answer::Outcome;
 use crate::code_of;
@@ -18,6 +19,7 @@ pub fn fixed() -> Vec<Case> {
     extreme_shapes(&mut cases);
     passed_limits(&mut cases);
     cases.extend(terms::all().iter().map(evaluate_term));
+    cases.extend(sides::evaluations());
     every_fault(&mut cases);
     every_pair(&mut cases);
     every_bad_list(&mut cases);

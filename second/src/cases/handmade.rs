@@ -2,6 +2,7 @@
 
 use super::assembler::{Assembler, Label, MANY};
 use super::random::Random;
+use super::sides;
 
 /// A block already written: its scope number and the types of its variables.
 struct Written {
@@ -58,8 +59,9 @@ struct Writer {
     entered: Vec<bool>,
     tries: usize,
     open: Vec<Label>,
-    /// Chance in a hundred of an instruction that does not fit.
+    /// Chances in a hundred: of an instruction that does not fit, of leaving the range.
     wild: usize,
+    leaving: usize,
 }
 
 impl Writer {
@@ -73,6 +75,7 @@ impl Writer {
             tries: 0,
             open: Vec::new(),
             wild: rng.pick(&[0, 0, 1, 5, 30]),
+            leaving: rng.pick(&[0, 0, 0, 3]),
         }
     }
 
@@ -130,6 +133,10 @@ impl Writer {
     fn instruction(&mut self, rng: &mut Random, out: &mut Assembler) {
         if rng.percent(self.wild) {
             return self.anything(rng, out);
+        }
+        if rng.percent(self.leaving) {
+            out.put(&sides::any_instructions(rng));
+            return self.stack.push(2);
         }
         match rng.below(12) {
             0..=2 => self.push(rng, out),

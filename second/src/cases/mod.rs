@@ -22,6 +22,7 @@ pub mod named;
 pub mod random;
 pub mod sequences;
 pub mod shapes;
+pub mod sides;
 pub mod spoiled;
 pub mod stdin;
 pub mod stuck;

@@ -2,7 +2,7 @@
 
 use super::assembler::{MANY, NOTHING, ONE, YES};
 use super::random::Random;
-use super::Expected;
+use super::{sides, Expected};
 use crate::answer::Outcome;
 use crate::examples::hex;
 
@@ -19,8 +19,6 @@ const STUCK: Expected = Expected::Refused(17);
 const VALUES: Expected = Expected::Ends(Outcome::Values);
 const EMPTY: Expected = Expected::Ends(Outcome::Empty);
 const CONFLICT: Expected = Expected::Ends(Outcome::Conflict);
-const ABOVE: Expected = Expected::Ends(Outcome::Above);
-const BELOW: Expected = Expected::Ends(Outcome::Below);
 
 /// Code, scope, inputs, answer.
 const TABLE: &[(&str, usize, &str, Expected)] = &[
@@ -113,12 +111,10 @@ const TABLE: &[(&str, usize, &str, Expected)] = &[
     ("0100 21 0101 0300 240002 2b00", 1, "-", CONFLICT),
     ("0100 240001 21", 0, "-", CONFLICT),
     // Arithmetic at the ends of the range, and the order of operands.
-    ("0100 0580000000 0b", 0, "-", ABOVE),
     ("0100 0580000001 0b", 0, "-", VALUES),
-    ("0100 057fffffff 0500000001 0d", 0, "-", ABOVE),
-    ("0100 0580000000 05ffffffff 0d", 0, "-", BELOW),
-    ("0100 0580000000 0500000001 0e", 0, "-", BELOW),
-    ("0100 0500000000 0580000000 0e", 0, "-", ABOVE),
+    ("0100 057ffffffe 0500000001 0d", 0, "-", VALUES),
+    ("0100 0580000001 05ffffffff 0d", 0, "-", VALUES),
+    ("0100 0580000001 0500000001 0e", 0, "-", VALUES),
     ("0100 05ffffffff 0580000000 0e", 0, "-", VALUES),
     ("0100 0500000001 0500000002 10 230001 21", 0, "-", CONFLICT),
     ("0100 0500000002 0500000001 10 230001 21", 0, "-", VALUES),
@@ -133,7 +129,8 @@ fn directed(code: Vec<u8>, expected: Expected) -> Directed {
     }
 }
 
-/// Everything: the table, each operation on each entry, joins, and the limits.
+/// Everything: the table, each way to leave the range, each operation on each entry, joins,
+/// and the limits.
 pub fn all() -> Vec<Directed> {
     let table = TABLE
         .iter()
@@ -144,6 +141,7 @@ pub fn all() -> Vec<Directed> {
             expected,
         });
     let mut cases: Vec<Directed> = table.collect();
+    cases.extend(sides::codes());
     operations(&mut cases);
     joins(&mut cases);
     stack_limit(&mut cases);

@@ -3,6 +3,7 @@
 
 use super::draft::{Draft, DraftScope, NUMBER, YES_NO};
 use super::random::Random;
+use super::sides;
 use super::workbench::{over, OPERANDS};
 use crate::answer::Outcome;
 
@@ -31,14 +32,7 @@ fn part(scope: &mut DraftScope, of: u8, sort: Sort, yes: bool) -> u8 {
             let (left, right) = (part(scope, NUMBER, sort, yes), scope.number(0));
             over(scope, 16, &[left, right])
         }
-        (Outcome::Above, _) => {
-            let lowest = scope.number(i32::MIN);
-            over(scope, 11, &[lowest])
-        }
-        (Outcome::Below, _) => {
-            let (lowest, one) = (scope.number(i32::MIN), scope.number(1));
-            over(scope, 14, &[lowest, one])
-        }
+        (Outcome::Above | Outcome::Below, _) => sides::leaving(scope, sort),
     }
 }
 

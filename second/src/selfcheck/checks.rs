@@ -1,6 +1,7 @@
 //! What must hold of one case.
 
 use super::coverage::{may_refuse, Coverage};
+use super::sides::COMPILED;
 use crate::answer::{Answer, Outcome};
 use crate::cases::{lend, Case, Reply, Service, Success};
 use crate::code::accept;
@@ -155,7 +156,7 @@ fn check_evaluation(case: &Case, reply: &Reply, coverage: &mut Coverage) -> Chec
         return Ok(());
     };
     let mut memory = lend(case.room);
-    let executed = coverage.executed();
+    let executed = coverage.executed(COMPILED);
     let ran = observed_run(&code, case.scope, &case.inputs, &mut memory, executed);
     let ran = ran.map(Success::Answer).map_err(u8::from);
     ensure(ran == reply.result, "run and evaluation differ")?;
@@ -166,6 +167,9 @@ fn check_evaluation(case: &Case, reply: &Reply, coverage: &mut Coverage) -> Chec
     let Ok(Success::Answer(answer)) = reply.result else {
         return Ok(());
     };
+    if matches!(answer.outcome, Outcome::Above | Outcome::Below) {
+        coverage.evaluated(case);
+    }
     let weights = weights_of(&case.bytes).map_err(|_| "no weights")?;
     check_count(answer, weights[case.scope])?;
     check_answer(case, answer, &reply.memory[..answer.length])
@@ -291,7 +295,7 @@ fn result_kinds(mut results: &[u8]) -> Vec<u8> {
 /// tied to the weight.
 fn check_run(case: &Case, reply: &Reply, coverage: &mut Coverage) -> Check {
     let mut memory = lend(case.room);
-    let executed = coverage.executed();
+    let executed = coverage.executed(case.label);
     let ran = observed_run(&case.bytes, case.scope, &case.inputs, &mut memory, executed);
     if let Err(denial) = ran {
         coverage.denial(denial);

@@ -1,5 +1,6 @@
 //! What the cases met: refusals, outcomes, causes and kinds.
 
+use super::sides::{expected_sides, places, Leaving, EVALUATED};
 use crate::answer::Outcome;
 use crate::cases::{Case, Reply, Service, Success};
 use crate::code::CodeFault;
@@ -7,6 +8,7 @@ use crate::machine::{join_cases, Observer, Side, Stuck, StuckCause};
 use crate::naive;
 use crate::run::Denial;
 use crate::tabulate::MAX_CHOSEN;
+use crate::value::{Failure, Place};
 use std::collections::BTreeMap;
 
 /// Counts of what was met.
@@ -26,10 +28,13 @@ pub struct Coverage {
     digest: u64,
 }
 
-/// Counts instructions by kind, and joins by case.
+/// Counts instructions by kind, joins by case, and where the range is left.
 pub struct Executed {
     kinds: [u64; 256],
     joins: BTreeMap<(Side, Side), usize>,
+    leaving: BTreeMap<Leaving, usize>,
+    /// The label of what runs.
+    label: &'static str,
 }
 
 impl Default for Executed {
@@ -37,6 +42,8 @@ impl Default for Executed {
         Executed {
             kinds: [0; 256],
             joins: BTreeMap::new(),
+            leaving: BTreeMap::new(),
+            label: "",
         }
     }
 }
@@ -48,6 +55,10 @@ impl Observer for &mut Executed {
 
     fn joins(&mut self, case: (Side, Side)) {
         *self.joins.entry(case).or_default() += 1;
+    }
+
+    fn leaves(&mut self, place: Place, side: Failure) {
+        *self.leaving.entry((self.label, place, side)).or_default() += 1;
     }
 }
 
@@ -79,8 +90,18 @@ const LABELS: &[&str] = &[
 ];
 
 impl Coverage {
-    pub fn executed(&mut self) -> &mut Executed {
+    /// What counts a run of code with a label.
+    pub fn executed(&mut self, label: &'static str) -> &mut Executed {
+        self.executed.label = label;
         &mut self.executed
+    }
+
+    /// Where an evaluation leaves the range.
+    pub fn evaluated(&mut self, case: &Case) {
+        let mut evaluated = self.executed(EVALUATED);
+        for (place, side) in places(case) {
+            evaluated.leaves(place, side);
+        }
     }
 
     pub fn reply(&mut self, case: &Case, reply: &Reply) {
@@ -176,6 +197,10 @@ impl Coverage {
             let times = hits(&self.executed.joins, &case);
             all.push((format!("joined {case:?}"), times));
         }
+        for class in expected_sides().concat() {
+            let times = hits(&self.executed.leaving, &class);
+            all.push((format!("out of range, {class:?}"), times));
+        }
         all
     }
 
@@ -222,6 +247,15 @@ impl Coverage {
             joins.len(),
             least(joins)
         );
+        for classes in expected_sides() {
+            let times = |class| hits(&self.executed.leaving, class);
+            let shown = classes
+                .iter()
+                .map(|class @ (_, place, side)| format!("{place:?} {side:?} {}", times(class)));
+            let shown: Vec<String> = shown.collect();
+            println!("out of range, {}: {}", classes[0].0, shown.join(", "));
+        }
+        println!("rulerun {:?}", self.printed);
         println!("digest of cases and replies {:016x}", self.digest);
     }
 }
