@@ -10,7 +10,9 @@ use second::cases::random::Random;
 use second::cases::{self, damage, inputs, lend, mix, Case, Expected, Service, Success};
 use second::machine::{join_cases, Observer, Side};
 use second::run::{observed_run, Denial};
-use second::selfcheck::{expected_code_faults, expected_stuck};
+use second::selfcheck::{expected_code_faults, expected_sides, expected_stuck};
+use second::selfcheck::{places, Leaving, COMPILED, EVALUATED};
+use second::value::{Failure, Place};
 use second::Answer;
 use std::collections::BTreeSet;
 
@@ -40,15 +42,22 @@ fn described(case: &Case, label: &str) -> String {
     format!("{label}, scope {scope}, inputs {inputs:02x?}, room {room}, {all} bytes: {code:02x?}")
 }
 
-/// The cases of the join that a run met.
+/// The cases of the join that a run met, and where it left the range.
 #[derive(Default)]
-struct Joins(BTreeSet<(Side, Side)>);
+struct Met {
+    joins: BTreeSet<(Side, Side)>,
+    leaving: Vec<(Place, Failure)>,
+}
 
-impl Observer for &mut Joins {
+impl Observer for &mut Met {
     fn executes(&mut self, _kind: u8) {}
 
     fn joins(&mut self, case: (Side, Side)) {
-        self.0.insert(case);
+        self.joins.insert(case);
+    }
+
+    fn leaves(&mut self, place: Place, side: Failure) {
+        self.leaving.push((place, side));
     }
 }
 
@@ -56,13 +65,28 @@ fn joined((left, right): (Side, Side)) -> String {
     format!("joined, {left:?} with {right:?}")
 }
 
+fn left((label, place, side): Leaving) -> String {
+    format!("out of range, {label}: {place:?} {side:?}")
+}
+
+/// Notes where an evaluation, or the run of code with a label, left the range.
+fn note_leaving(tally: &mut Tally, label: &'static str, leaving: Vec<(Place, Failure)>) {
+    for (place, side) in leaving {
+        tally.meet(&left((label, place, side)));
+    }
+}
+
 /// One run by both; what the engine did, and why the second program refused.
 fn compare(tally: &mut Tally, case: &Case, label: &str) -> (Ran, Option<Denial>) {
     let ours = done(engine::run, case);
     let mut memory = lend(case.room);
-    let mut joins = Joins::default();
-    let ran = observed_run(&case.bytes, case.scope, &case.inputs, &mut memory, &mut joins);
-    joins.0.into_iter().for_each(|case| tally.meet(&joined(case)));
+    let mut met = Met::default();
+    let (code, scope, inputs) = (&case.bytes, case.scope, &case.inputs);
+    let ran = observed_run(code, scope, inputs, &mut memory, &mut met);
+    met.joins
+        .into_iter()
+        .for_each(|case| tally.meet(&joined(case)));
+    note_leaving(tally, case.label, met.leaving);
     let theirs = Done {
         answer: ran.map_err(u8::from),
         memory,
@@ -72,9 +96,9 @@ fn compare(tally: &mut Tally, case: &Case, label: &str) -> (Ran, Option<Denial>)
     (ours, ran.err())
 }
 
-fn run_of(bytes: Vec<u8>) -> Case {
+fn run_of(label: &'static str, bytes: Vec<u8>) -> Case {
     Case {
-        label: "",
+        label,
         service: Service::Run,
         bytes,
         scope: 0,
@@ -106,8 +130,8 @@ struct Pair<'a> {
 impl Pair<'_> {
     fn of<'a>(tally: &mut Tally, book: &[u8], label: &'a str) -> Pair<'a> {
         Pair {
-            book: run_of(book.to_vec()),
-            code: run_of(compiled(tally, book, label)),
+            book: run_of(EVALUATED, book.to_vec()),
+            code: run_of(COMPILED, compiled(tally, book, label)),
             label,
         }
     }
@@ -127,6 +151,12 @@ impl Pair<'_> {
         };
         let agreed = (ran == evaluated).then_some(()).ok_or_else(difference);
         tally.count("as evaluated", agreed);
+        if ran
+            .answer
+            .is_ok_and(|answer| answer.outcome.is_out_of_range())
+        {
+            note_leaving(tally, EVALUATED, places(&self.book));
+        }
     }
 }
 
@@ -166,7 +196,7 @@ fn compare_fixed(tally: &mut Tally, case: &Case) {
 
 /// Code with a name: refused by both, for the cause that the name says.
 fn compare_named(tally: &mut Tally, named: cases::named::Named) {
-    let mut case = run_of(named.code);
+    let mut case = run_of(named.name, named.code);
     (case.scope, case.inputs, case.room) = (named.scope, named.inputs, 200);
     let (_, denial) = compare(tally, &case, named.name);
     let other = || format!("{}: {denial:?}, not {:?}", named.name, named.denial);
@@ -186,7 +216,8 @@ fn compare_long(tally: &mut Tally, case: &Case) {
 }
 
 /// All fixed and named cases, a megabyte of code, `random` generated codes that no
-/// compiler wrote and a fifth as many books; each answer and each cause must be met.
+/// compiler wrote and a fifth as many books; each answer, each cause, each case of the join
+/// and each side of the range in each place must be met.
 pub fn run(random: u64) -> bool {
     let mut tally = Tally::default();
     cases::named()
@@ -208,6 +239,9 @@ pub fn run(random: u64) -> bool {
         .for_each(|outcome| tally.expect_met(outcome));
     (13..=15).for_each(|refusal| tally.expect_met(&format!("refused {refusal}")));
     join_cases().for_each(|case| tally.expect_met(&joined(case)));
+    for class in expected_sides().concat() {
+        tally.expect_met(&left(class));
+    }
     let faults = expected_code_faults().into_iter().map(Denial::BadCode);
     let stuck = expected_stuck().into_iter().map(Denial::Stuck);
     faults

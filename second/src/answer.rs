@@ -13,6 +13,12 @@ pub enum Outcome {
     Below = 4,
 }
 
+impl Outcome {
+    pub fn is_out_of_range(self) -> bool {
+        matches!(self, Outcome::Above | Outcome::Below)
+    }
+}
+
 impl From<Failure> for Outcome {
     fn from(failure: Failure) -> Outcome {
         match failure {

@@ -83,10 +83,10 @@ fn depend(rng: &mut Random, scope: &mut DraftScope, switches: &[u8]) {
 
 /// A small number mostly; else empty, conflict, or out of range on either side.
 fn leaf(rng: &mut Random, scope: &mut DraftScope) -> u8 {
-    match rng.below(7) {
+    match rng.below(8) {
         0 => scope.node(&[8, NUMBER]),
         1 => scope.node(&[9, NUMBER]),
-        2 => sides::any(rng, scope),
+        2 | 3 => sides::any(rng, scope),
         _ => scope.number(rng.number(10)),
     }
 }

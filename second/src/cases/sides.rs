@@ -2,12 +2,12 @@
 //! exception of a clause or of a default node, an override and a callee; and in code.
 
 use super::draft::{Draft, DraftScope, NUMBER, YES_NO};
+use super::fixed::lone;
 use super::random::Random;
 use super::stuck::Directed;
 use super::workbench::over;
 use super::{Case, Expected, Service};
 use crate::answer::Outcome::{self, Above, Below};
-use crate::code_of;
 use crate::value::Place;
 
 /// An operator, operands whose exact result is out of range, and the side of it.
@@ -108,40 +108,37 @@ fn called(place: Option<Place>, pair: [Way; 2]) -> Draft {
     }
 }
 
-/// A book for each way in each place, the last scope to be asked for.
-fn books() -> Vec<Draft> {
-    let pairs = || {
-        let below = ways(Below).cycle();
-        ways(Above).zip(below).map(|(a, b)| [a, b])
-    };
-    let mut books = Vec::new();
-    for place in [
-        None,
-        Some(Place::ClauseException),
-        Some(Place::NodeException),
-    ] {
-        books.extend(pairs().map(|pair| Draft {
-            scopes: vec![defined(place, pair)],
-        }));
+/// Where the range is left: in a definition, or in one of the places that trees show.
+const PLACES: [Option<Place>; 5] = [
+    None,
+    Some(Place::ClauseException),
+    Some(Place::NodeException),
+    Some(Place::Override),
+    Some(Place::Call),
+];
+
+/// The last scope is the one to ask for.
+fn book(place: Option<Place>, pair: [Way; 2]) -> Draft {
+    match place {
+        Some(Place::Override | Place::Call) => called(place, pair),
+        _ => lone(defined(place, pair)),
     }
-    for place in [Some(Place::Override), Some(Place::Call)] {
-        books.extend(pairs().map(|pair| called(place, pair)));
-    }
-    books
 }
 
-/// Each book evaluated, and its code run, with the switch at no and at yes.
+/// A book for each way in each place.
+fn books() -> impl Iterator<Item = Draft> {
+    let pairs = ways(Above).zip(ways(Below).cycle());
+    pairs.flat_map(|(above, below)| PLACES.map(|place| book(place, [above, below])))
+}
+
+/// Each book evaluated with the switch at no and at yes.
 pub fn evaluations() -> Vec<Case> {
     let mut cases = Vec::new();
     for draft in books() {
-        let book = draft.bytes();
-        let code = code_of(&book).unwrap_or_default();
-        for (service, bytes) in [(Service::Evaluate, book), (Service::Run, code)] {
-            for (yes, side) in [(0, Below), (1, Above)] {
-                let case = Case::new("out of range", service, bytes.clone());
-                let case = case.asking(draft.scopes.len() - 1, vec![1, 0, yes], RESULTS);
-                cases.push(case.expecting(Expected::Ends(side)));
-            }
+        for (yes, side) in [(0, Below), (1, Above)] {
+            let case = Case::new("out of range", Service::Evaluate, draft.bytes());
+            let case = case.asking(draft.scopes.len() - 1, vec![1, 0, yes], RESULTS);
+            cases.push(case.expecting(Expected::Ends(side)));
         }
     }
     cases
@@ -154,7 +151,7 @@ pub fn tables() -> Vec<Case> {
         let case = case.asking(draft.scopes.len() - 1, Vec::new(), 2 * (1 + RESULTS));
         case.choosing(vec![0]).expecting(Expected::Accepted)
     };
-    books().into_iter().map(table).collect()
+    books().map(table).collect()
 }
 
 /// Code that leaves the range in each way: alone, under an open try, before an override,

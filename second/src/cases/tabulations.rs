@@ -240,6 +240,6 @@ mod tests {
         let with = |count: usize| met.iter().filter(|of| of.len() >= count).count();
         assert!(with(1) > 2_000, "{} tables", with(1));
         assert!(with(2) > 500, "{} with two outcomes", with(2));
-        assert!(with(4) > 10, "{} with all outcomes", with(4));
+        assert!(with(5) > 10, "{} with all outcomes", with(5));
     }
 }

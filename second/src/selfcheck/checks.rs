@@ -167,7 +167,7 @@ fn check_evaluation(case: &Case, reply: &Reply, coverage: &mut Coverage) -> Chec
     let Ok(Success::Answer(answer)) = reply.result else {
         return Ok(());
     };
-    if matches!(answer.outcome, Outcome::Above | Outcome::Below) {
+    if answer.outcome.is_out_of_range() {
         coverage.evaluated(case);
     }
     let weights = weights_of(&case.bytes).map_err(|_| "no weights")?;

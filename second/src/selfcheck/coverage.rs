@@ -1,4 +1,4 @@
-//! What the cases met: refusals, outcomes, causes and kinds.
+//! What the cases met: refusals, outcomes, causes, kinds and sides of the range.
 
 use super::sides::{expected_sides, places, Leaving, EVALUATED};
 use crate::answer::Outcome;
@@ -186,6 +186,13 @@ impl Coverage {
             let times = hits(&self.printed, &word.to_string());
             all.push((format!("rulerun {word}"), times));
         }
+        all.extend(self.classes_within());
+        all
+    }
+
+    /// Those of what stands in books and of what is done within a run.
+    fn classes_within(&self) -> Vec<(String, usize)> {
+        let mut all = Vec::new();
         for kind in 1..=20 {
             all.push((format!("book kind {kind}"), hits(&self.book_kinds, &kind)));
         }
@@ -205,6 +212,13 @@ impl Coverage {
     }
 
     pub fn print(&self) {
+        self.print_services();
+        self.print_causes();
+        self.print_executed();
+        println!("digest of cases and replies {:016x}", self.digest);
+    }
+
+    fn print_services(&self) {
         for service in SERVICES {
             let of = |counts: &BTreeMap<(Service, u8), usize>| {
                 let own = counts.iter().filter(|((s, _), _)| *s == service);
@@ -216,6 +230,10 @@ impl Coverage {
                 println!("{service:?} outcomes {{{}}}", of(&self.outcomes));
             }
         }
+        println!("rulerun {:?}", self.printed);
+    }
+
+    fn print_causes(&self) {
         println!(
             "{} causes of 17, least met {}",
             self.stuck.len(),
@@ -231,6 +249,9 @@ impl Coverage {
             self.book_kinds.len(),
             least(&self.book_kinds)
         );
+    }
+
+    fn print_executed(&self) {
         let kinds = self
             .executed
             .kinds
@@ -255,8 +276,6 @@ impl Coverage {
             let shown: Vec<String> = shown.collect();
             println!("out of range, {}: {}", classes[0].0, shown.join(", "));
         }
-        println!("rulerun {:?}", self.printed);
-        println!("digest of cases and replies {:016x}", self.digest);
     }
 }
 
