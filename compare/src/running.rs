@@ -10,7 +10,7 @@ use second::cases::random::Random;
 use second::cases::{self, damage, inputs, lend, mix, Case, Expected, Service, Success};
 use second::machine::{join_cases, Observer, Side};
 use second::run::{observed_run, Denial};
-use second::selfcheck::{expected_code_faults, expected_sides, expected_stuck};
+use second::selfcheck::{expected_code_faults, expected_leaving, expected_stuck};
 use second::selfcheck::{places, Leaving, COMPILED, EVALUATED};
 use second::value::{Failure, Place};
 use second::Answer;
@@ -239,7 +239,7 @@ pub fn run(random: u64) -> bool {
         .for_each(|outcome| tally.expect_met(outcome));
     (13..=15).for_each(|refusal| tally.expect_met(&format!("refused {refusal}")));
     join_cases().for_each(|case| tally.expect_met(&joined(case)));
-    for class in expected_sides().concat() {
+    for class in expected_leaving().concat() {
         tally.expect_met(&left(class));
     }
     let faults = expected_code_faults().into_iter().map(Denial::BadCode);

@@ -1,7 +1,7 @@
 //! What must hold of one case.
 
 use super::coverage::{may_refuse, Coverage};
-use super::sides::COMPILED;
+use super::leaving::COMPILED;
 use crate::answer::{Answer, Outcome};
 use crate::cases::{lend, Case, Reply, Service, Success};
 use crate::code::accept;

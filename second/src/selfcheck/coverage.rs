@@ -1,6 +1,6 @@
 //! What the cases met: refusals, outcomes, causes, kinds and sides of the range.
 
-use super::sides::{expected_sides, places, Leaving, EVALUATED};
+use super::leaving::{expected_leaving, places, Leaving, EVALUATED};
 use crate::answer::Outcome;
 use crate::cases::{Case, Reply, Service, Success};
 use crate::code::CodeFault;
@@ -204,7 +204,7 @@ impl Coverage {
             let times = hits(&self.executed.joins, &case);
             all.push((format!("joined {case:?}"), times));
         }
-        for class in expected_sides().concat() {
+        for class in expected_leaving().concat() {
             let times = hits(&self.executed.leaving, &class);
             all.push((format!("out of range, {class:?}"), times));
         }
@@ -268,7 +268,7 @@ impl Coverage {
             joins.len(),
             least(joins)
         );
-        for classes in expected_sides() {
+        for classes in expected_leaving() {
             let times = |class| hits(&self.executed.leaving, class);
             let shown = classes
                 .iter()

@@ -3,14 +3,14 @@
 
 mod checks;
 mod coverage;
-mod sides;
+mod leaving;
 
 use crate::cases::{case, fixed, foreign_code, standard_input, tables, tabulation, Case};
 use coverage::Coverage;
 use std::panic::{catch_unwind, AssertUnwindSafe};
 
 pub use coverage::{expected_code_faults, expected_stuck};
-pub use sides::{expected_sides, places, Leaving, COMPILED, EVALUATED};
+pub use leaving::{expected_leaving, places, Leaving, COMPILED, EVALUATED};
 
 /// Most failures that are printed in full.
 const SHOWN: usize = 20;

@@ -24,7 +24,7 @@ const IN_TREES: [Place; 3] = [
 
 /// Each place with each side that it has: "Negating −2,147,483,648 is above", and no
 /// negating is below.
-fn sides(of: &'static str, places: &[Place]) -> Vec<Leaving> {
+fn each(of: &'static str, places: &[Place]) -> Vec<Leaving> {
     let both = [Failure::Above, Failure::Below];
     let all = places
         .iter()
@@ -34,10 +34,10 @@ fn sides(of: &'static str, places: &[Place]) -> Vec<Leaving> {
 }
 
 /// All that must be met, by what leaves the range.
-pub fn expected_sides() -> Vec<Vec<Leaving>> {
+pub fn expected_leaving() -> Vec<Vec<Leaving>> {
     let everywhere = [&IN_CODE[..], &IN_TREES].concat();
-    let mut all = vec![sides(EVALUATED, &everywhere), sides(COMPILED, &IN_CODE)];
-    all.extend(FOREIGN.map(|label| sides(label, &IN_CODE)));
+    let mut all = vec![each(EVALUATED, &everywhere), each(COMPILED, &IN_CODE)];
+    all.extend(FOREIGN.map(|label| each(label, &IN_CODE)));
     all
 }
 
