@@ -23,7 +23,7 @@
 extern "C" {
 #endif
 
-#define ENGINE_VERSION "1.1.1"
+#define ENGINE_VERSION "2.0.0"
 
 /*
  * The most bytes of a book that is not refused, of its code and of the results of a scope: memory of such a length is never too short. The code of a
@@ -108,7 +108,13 @@ enum {
 };
 
 /* The outcomes of an evaluation or a run that is not refused, and of a row. */
-enum { ENGINE_VALUES = 0, ENGINE_EMPTY = 1, ENGINE_CONFLICT = 2, ENGINE_OUT_OF_RANGE = 3 };
+enum {
+    ENGINE_VALUES = 0,
+    ENGINE_EMPTY = 1,
+    ENGINE_CONFLICT = 2,
+    ENGINE_ABOVE = 3, /* a sum, difference or negation is above 2,147,483,647 */
+    ENGINE_BELOW = 4  /* a sum or difference is below -2,147,483,648 */
+};
 
 /* The number of the refusal; 0 if nothing is refused. */
 static inline unsigned engine_refusal(uint64_t answer)
@@ -116,7 +122,7 @@ static inline unsigned engine_refusal(uint64_t answer)
     return (unsigned)(answer >> 56);
 }
 
-/* The outcome of an evaluation or a run: 0 values, 1 empty, 2 conflict, 3 out of range. A refused answer has 0, too: ask engine_refusal first. */
+/* The outcome of an evaluation or a run. A refused answer has 0, too: ask engine_refusal first. */
 static inline unsigned engine_outcome(uint64_t answer)
 {
     return (unsigned)(answer >> 48 & 0xff);

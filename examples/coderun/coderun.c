@@ -44,7 +44,10 @@ static void show(const uint8_t *results, size_t length)
 
 int main(void)
 {
-    static const char *const outcomes[] = { "value", "empty", "conflict", "range" };
+    static const char *const outcomes[] = {
+        [ENGINE_VALUES] = "value", [ENGINE_EMPTY] = "empty", [ENGINE_CONFLICT] = "conflict",
+        [ENGINE_ABOVE] = "above",  [ENGINE_BELOW] = "below",
+    };
     uint8_t results[RESULT_ROOM] = { 0 };
     size_t have = fread(input, 1, sizeof input, stdin);
     size_t length = have < 2 ? 0 : (size_t)input[0] * 256 + input[1];

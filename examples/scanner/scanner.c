@@ -36,7 +36,10 @@ static void show_values(const uint8_t *results, size_t length)
 
 static void show(uint64_t answer, const uint8_t *results)
 {
-    static const char *const outcomes[] = { "values", "empty", "conflict", "out of range" };
+    static const char *const outcomes[] = {
+        [ENGINE_VALUES] = "values",         [ENGINE_EMPTY] = "empty",           [ENGINE_CONFLICT] = "conflict",
+        [ENGINE_ABOVE] = "above the range", [ENGINE_BELOW] = "below the range",
+    };
     if (engine_has_values(answer)) {
         show_values(results, engine_length(answer));
     } else if (engine_refusal(answer) != ENGINE_NOT_REFUSED) {

@@ -26,7 +26,8 @@ mod engine {
         Values(usize),
         Empty,
         Conflict,
-        OutOfRange,
+        Above,
+        Below,
     }
 
     /// The number of scopes, or the refusal.
@@ -53,7 +54,8 @@ mod engine {
             0 => Outcome::Values((answer & 0xffff_ffff) as usize),
             1 => Outcome::Empty,
             2 => Outcome::Conflict,
-            _ => Outcome::OutOfRange,
+            3 => Outcome::Above,
+            _ => Outcome::Below,
         })
     }
 

@@ -38,7 +38,10 @@ static const char *yes_no(int yes)
 /* What a row says of the speed, which is the first of the results. */
 static void show_speed(const uint8_t *row, size_t length)
 {
-    static const char *const outcomes[] = { "values", "empty", "conflict", "out of range" };
+    static const char *const outcomes[] = {
+        [ENGINE_VALUES] = "values",         [ENGINE_EMPTY] = "empty",           [ENGINE_CONFLICT] = "conflict",
+        [ENGINE_ABOVE] = "above the range", [ENGINE_BELOW] = "below the range",
+    };
     struct engine_value speed;
     if (row[0] != ENGINE_VALUES) {
         printf("%s\n", outcomes[row[0]]);
