@@ -70,7 +70,8 @@ pub fn outcome_by(
         }
         "empty" => Ok(Err(Failure::Empty)),
         "conflict" => Ok(Err(Failure::Conflict)),
-        "range" => Ok(Err(Failure::OutOfRange)),
+        "above" => Ok(Err(Failure::Above)),
+        "below" => Ok(Err(Failure::Below)),
         _ => Err(strange()),
     }
 }

@@ -173,7 +173,8 @@ impl Explanation<'_> {
             }
             (Ok(value), _) => format!("{name} = {}, since no rule held", words::value(value)),
             (Err(failure), _) => {
-                let why = self.why_none(&tree.bases);
+                let why = self.why_beyond(&tree.bases);
+                let why = why.unwrap_or_else(|| self.why_none(&tree.bases));
                 let over = self.passed_over(&tree.bases);
                 format!("{name} is {}: {why}{over}", words::failure(failure))
             }

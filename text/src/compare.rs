@@ -155,7 +155,8 @@ fn expected(bytes: &[u8], scope: usize, types: &[Type], given: &Given) -> Result
         }
         answer::Outcome::Empty => Err(Failure::Empty),
         answer::Outcome::Conflict => Err(Failure::Conflict),
-        answer::Outcome::OutOfRange => Err(Failure::OutOfRange),
+        answer::Outcome::Above => Err(Failure::Above),
+        answer::Outcome::Below => Err(Failure::Below),
     })
 }
 

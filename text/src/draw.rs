@@ -366,6 +366,20 @@ mod tests {
     }
 
     #[test]
+    fn a_clause_above_or_below_the_range_is_marked_as_an_end() {
+        let text = TEXT.replace("as 2", "as frames + 2147483628");
+        let text = text.replace("as 3", "as -frames - 2147483618");
+        let book = to_rulebook(&text).expect("a sound text");
+        let drawing = Drawing::of(&book, "f", 0, "speed").expect("a target");
+        for (frames, side) in [(20, "above"), (31, "below")] {
+            let svg = drawing.with(vec![None, Some(Value::Number(frames))]);
+            let title = format!("given frames = {frames}: speed is {side} the range<");
+            assert!(svg.contains(&title), "{svg}");
+            assert_eq!(svg.matches("stroke=\"#9c1c1c\"").count(), 1);
+        }
+    }
+
+    #[test]
     fn what_is_not_overridden_is_decided_by_the_scope_that_is_called() {
         let text = "scope s variable m : number sub-scope k : t define k.n as 1
             scope t variable n : number variable y : yes/no define n as 2 rule y";

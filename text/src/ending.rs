@@ -15,7 +15,7 @@ pub enum Cause {
     Empty(u8, u8),
     /// A variable that nothing gives or defines.
     NotGiven(u8),
-    /// A clause is in conflict or out of range by itself.
+    /// A clause is in conflict, above or below the range by itself.
     Clause(u8, &'static str),
 }
 

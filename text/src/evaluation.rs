@@ -1,10 +1,11 @@
 //! Evaluating a scope with a record of what became of every clause.
 
 use crate::rulebook::Rulebook;
+use crate::terms::Terms;
 use second::kind::NONE;
-use second::scope::{Clause, Consequence, Node, Scope, Target};
+use second::scope::{Clause, Consequence, Scope, Target};
 use second::steps::{step_order, Step};
-use second::value::{binary, unary, Failure, OperationError, Value};
+use second::value::{Failure, Value};
 
 pub type Evaluated = Result<Value, Failure>;
 
@@ -30,7 +31,7 @@ pub struct Trial {
 }
 
 /// Clauses that are the exceptions of one term, as tried. Those after one that ended
-/// in conflict or out of range are not tried.
+/// in conflict, above or below the range are not tried.
 #[derive(Debug)]
 pub struct Row {
     pub trials: Vec<Trial>,
@@ -45,7 +46,7 @@ pub enum Joined {
     One(usize),
     /// The first two that have a value.
     Clash(usize, usize),
-    /// The one that is conflict or out of range.
+    /// The one that is in conflict, above or below the range.
     Ended(usize),
 }
 
@@ -210,7 +211,7 @@ impl Run<'_> {
         }
     }
 
-    /// Tries clauses in number order, up to one that is conflict or out of range.
+    /// Tries clauses in number order, up to one that ends the row.
     fn row(&self, wanted: impl Fn(&Clause) -> bool) -> Row {
         let mut trials = Vec::new();
         for (number, clause) in (0u8..).zip(&self.scope.clauses) {
@@ -267,59 +268,17 @@ impl Run<'_> {
     }
 
     fn node(&self, number: u8) -> Evaluated {
-        match self.scope.nodes[usize::from(number)] {
-            Node::Constant(yes) => Ok(Value::YesNo(yes)),
-            Node::Number(n) => Ok(Value::Number(n)),
-            Node::Own(variable) => self.read(NONE, variable),
-            Node::Subscope(subscope, variable) => self.read(subscope, variable),
-            Node::Empty(_) => Err(Failure::Empty),
-            Node::Conflict(_) => Err(Failure::Conflict),
-            Node::Unary(kind, a) => operated(unary(kind, self.node(a)?)),
-            Node::Binary(kind, a, b) => {
-                let left = self.node(a)?;
-                operated(binary(kind, left, self.node(b)?))
-            }
-            Node::If(condition, then, other) => match self.node(condition)? {
-                Value::YesNo(true) => self.node(then),
-                _ => self.node(other),
-            },
-            Node::Default(exceptions, justification, consequence) => {
-                self.default_term(exceptions, justification, consequence)
-            }
-        }
-    }
-
-    fn default_term(&self, exceptions: [u8; 3], j: u8, c: u8) -> Evaluated {
-        let mut found = Vec::new();
-        for exception in exceptions.into_iter().filter(|&e| e != NONE) {
-            match self.node(exception) {
-                Ok(value) => found.push(value),
-                Err(Failure::Empty) => {}
-                Err(failure) => return Err(failure),
-            }
-        }
-        match found[..] {
-            [] if self.node(j)? == Value::YesNo(true) => self.node(c),
-            [] => Err(Failure::Empty),
-            [value] => Ok(value),
-            _ => Err(Failure::Conflict),
-        }
-    }
-
-    /// The order of steps puts a value before its reads.
-    fn read(&self, subscope: u8, variable: u8) -> Evaluated {
-        self.entry.value(subscope, variable).ok_or(Failure::Empty)
+        let terms = Terms {
+            nodes: &self.scope.nodes,
+            entry: &self.entry,
+        };
+        terms.node(number)
     }
 }
 
-/// Operands were typed when the book was read.
-fn operated(result: Result<Value, OperationError>) -> Evaluated {
-    result.map_err(|_| Failure::OutOfRange)
-}
-
-/// Conflict and out of range end a row.
+/// Conflict, above and below end a row; empty does not.
 fn ends(result: Evaluated) -> bool {
-    matches!(result, Err(Failure::Conflict | Failure::OutOfRange))
+    matches!(result, Err(failure) if failure != Failure::Empty)
 }
 
 /// What comes of a row of exceptions.

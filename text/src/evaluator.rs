@@ -131,7 +131,8 @@ fn read_row(types: &[Type], row: &[u8]) -> Option<Outcome> {
         }
         1 => Some(Err(Failure::Empty)),
         2 => Some(Err(Failure::Conflict)),
-        3 => Some(Err(Failure::OutOfRange)),
+        3 => Some(Err(Failure::Above)),
+        4 => Some(Err(Failure::Below)),
         _ => None,
     }
 }

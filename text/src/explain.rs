@@ -5,6 +5,7 @@ use crate::evaluation::{enter, Entry, Fate, Joined, Row, Taken, Tree, Trial};
 use crate::inputs::{given_words, Given};
 use crate::printer::Expressions;
 use crate::rulebook::Rulebook;
+use crate::terms::Terms;
 use crate::words;
 use second::kind::NONE;
 use second::scope::{Clause, Consequence, Node, Target};
@@ -42,8 +43,7 @@ pub fn explain(book: &Rulebook, file: &str, scope: usize, given: Given) -> Strin
 pub(crate) fn ending(failure: Failure) -> &'static str {
     match failure {
         Failure::Empty => "empty: something needed has no value",
-        Failure::Conflict => "in conflict",
-        Failure::OutOfRange => "out of range",
+        failure => words::failure(failure),
     }
 }
 
@@ -217,11 +217,24 @@ impl Explanation<'_> {
 
     /// A clause whose condition or consequence has no value.
     fn failed(&self, node: u8, failure: Failure) -> String {
-        let is = self.is(node, words::failure(failure));
-        match failure {
-            Failure::Empty => format!("passed over, {is}"),
-            failure => format!("{}, {is}", words::failure(failure)),
+        let word = words::failure(failure);
+        let is = self.is(node, word);
+        match (failure, self.beyond(node, failure)) {
+            (Failure::Empty, _) => format!("passed over, {is}"),
+            (_, Some(beyond)) => format!("{word}, {beyond}"),
+            _ => format!("{word}, {is}"),
         }
+    }
+
+    /// The operation in an expression whose result is above or below the range, and the
+    /// bound that it passes: `'a + 1' is above 2147483647`.
+    pub(crate) fn beyond(&self, node: u8, failure: Failure) -> Option<String> {
+        let bound = words::bound(failure)?;
+        let terms = Terms {
+            nodes: &self.book.scopes[self.entry.scope].nodes,
+            entry: self.entry,
+        };
+        Some(self.is(terms.origin(node, failure), &bound))
     }
 
     pub(crate) fn is(&self, node: u8, value: &str) -> String {

@@ -7,7 +7,7 @@
 //!   `names`, `typing`, `numbering` and `cycles` make it a `rulebook`; `writer` gives
 //!   the bytes
 //! - book to text: `printer`, and `records` for books that the judge refuses
-//! - `explain`, `brief` and `reason` with `evaluation`; `draw` and `map` with `shape`; `report`, `html`
+//! - `explain`, `brief` and `reason` with `evaluation` and `terms`; `draw` and `map` with `shape`; `report`, `html`
 //! - `table` of `cases`, which the `evaluator` gives to the proved `library` or program
 //! - `warnings` from a `search` over `choices` of inputs, with `thresholds`, `ending`
 //!   and `conditions`
@@ -61,6 +61,7 @@ pub mod shape;
 pub mod syntax;
 pub mod table;
 pub mod tally;
+pub mod terms;
 pub mod thresholds;
 pub mod typing;
 pub mod usage;

@@ -1,6 +1,6 @@
 //! Why a run has no values, in one line.
 
-use crate::evaluation::{Entry, Joined, Row, Taken, Tree};
+use crate::evaluation::{Entry, Fate, Joined, Row, Taken, Tree, Trial};
 use crate::explain::Explanation;
 use crate::rulebook::Rulebook;
 use crate::words;
@@ -37,24 +37,37 @@ impl Explanation<'_> {
             Joined::Nothing if tree.bases.trials.is_empty() => {
                 "it is not given and nothing defines it".to_string()
             }
-            Joined::Ended(_) => match self.source(&tree.bases) {
-                Some(clause) => format!("{} is {failure}", self.clause_name(clause)),
-                None => self.why_none(&tree.bases),
+            Joined::Ended(_) => match (self.why_beyond(&tree.bases), source(&tree.bases)) {
+                (Some(beyond), _) => beyond,
+                (None, Some(trial)) => format!("{} is {failure}", self.clause_name(trial.clause)),
+                (None, None) => self.why_none(&tree.bases),
             },
             _ => self.why_none(&tree.bases),
         };
         format!("{name}, since {why}")
     }
 
-    /// The clause in which the end of a row began, where it is one.
-    fn source(&self, row: &Row) -> Option<u8> {
-        let Joined::Ended(place) = row.joined else {
-            return None;
+    /// The clause and the operation by which a row is above or below the range.
+    pub(crate) fn why_beyond(&self, row: &Row) -> Option<String> {
+        let trial = source(row)?;
+        let clause = &self.book.scopes[self.entry.scope].clauses[usize::from(trial.clause)];
+        let beyond = match trial.fate? {
+            Fate::ConditionFailed(failure) => self.beyond(clause.condition, failure)?,
+            Fate::ConsequenceFailed(node, failure) => self.beyond(node, failure)?,
+            Fate::Held | Fate::ConditionNo => return None,
         };
-        let trial = &row.trials[place];
-        match trial.fate {
-            Some(_) => Some(trial.clause),
-            None => self.source(&trial.exceptions),
-        }
+        Some(format!("in {} {beyond}", self.clause_name(trial.clause)))
+    }
+}
+
+/// The trial of the clause in which the end of a row began, where it is one.
+fn source(row: &Row) -> Option<&Trial> {
+    let Joined::Ended(place) = row.joined else {
+        return None;
+    };
+    let trial = &row.trials[place];
+    match trial.fate {
+        Some(_) => Some(trial),
+        None => source(&trial.exceptions),
     }
 }

@@ -31,9 +31,15 @@ fn read_run<'a>(book: &Rulebook, line: &'a str) -> Result<Run<'a>, String> {
     let mut words = asked.split_whitespace();
     let scope = find_scope(book, words.next().ok_or_else(missing)?)?;
     let words: Vec<&str> = words.collect();
+    let given = read_inputs(book, scope, &words)?;
+    let first = expected.split_whitespace().next();
+    if first == Some(FORMER) && variable_named(book, scope, FORMER).is_err() {
+        let message = "is now 'above' or 'below': write the side on which the result lies";
+        return Err(format!("'{FORMER}' {message}"));
+    }
     Ok(Run {
         scope,
-        given: read_inputs(book, scope, &words)?,
+        given,
         asked: asked.trim(),
         expected: expected.trim(),
     })
@@ -46,7 +52,10 @@ struct Said<'a> {
     values: Vec<(&'a str, &'a str)>,
 }
 
-const OUTCOMES: [&str; 5] = ["value", "empty", "conflict", "range", "refused"];
+/// The outcome that was both above and below.
+const FORMER: &str = "range";
+
+const OUTCOMES: [&str; 6] = ["value", "empty", "conflict", "above", "below", "refused"];
 
 impl<'a> Said<'a> {
     /// Reads parts such as `value 1` and `speed 4559808`.

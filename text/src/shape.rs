@@ -21,7 +21,7 @@ pub enum Mark {
     Plain,
     /// It gave the value.
     Held,
-    /// It ended in conflict or out of range, or met another one.
+    /// It ended in conflict, above or below the range, or met another one.
     Ended,
     /// It was passed over, or not tried.
     Passed,

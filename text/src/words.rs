@@ -65,16 +65,25 @@ pub fn failure(failure: Failure) -> &'static str {
     match failure {
         Failure::Empty => "empty",
         Failure::Conflict => "in conflict",
-        Failure::OutOfRange => "out of range",
+        Failure::Above => "above the range",
+        Failure::Below => "below the range",
     }
 }
 
 /// What an evaluation without values ended in.
-pub fn outcome(failure: Failure) -> &'static str {
-    match failure {
-        Failure::Empty => "empty",
+pub fn outcome(ended: Failure) -> &'static str {
+    match ended {
         Failure::Conflict => "conflict",
-        Failure::OutOfRange => "out of range",
+        ended => failure(ended),
+    }
+}
+
+/// The number that a result above or below the range passes.
+pub fn bound(side: Failure) -> Option<String> {
+    match side {
+        Failure::Above => Some(format!("above {}", i32::MAX)),
+        Failure::Below => Some(format!("below {}", i32::MIN)),
+        Failure::Empty | Failure::Conflict => None,
     }
 }
 

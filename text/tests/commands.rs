@@ -161,11 +161,26 @@ fn evaluate_says_why_there_are_no_values() {
     let ran = text("evaluate none.rules film shrunken=yes");
     let expected = "empty: nitrate, since it is not given and nothing defines it\n";
     assert_eq!((ran.status, ran.out.as_str()), (1, expected));
-    let nested = "scope s variable n : number sub-scope k : t define n as k.m
+}
+
+#[test]
+fn evaluate_says_which_operation_is_above_or_below() {
+    let called = "scope s variable n : number sub-scope k : t define n as k.m
         scope t variable m : number define m under condition yes as 2147483647 + 1";
-    let ran = text_reading("evaluate - s", nested.as_bytes());
-    let expected =
-        "out of range: k.m, since the definition at standard input:2:37 is out of range\n";
+    let ran = text_reading("evaluate - s", called.as_bytes());
+    let expected = "above the range: k.m, since in the definition at standard input:2:37 \
+                    '2147483647 + 1' is above 2147483647\n";
+    assert_eq!((ran.status, ran.out.as_str()), (1, expected));
+    let overridden = "scope s variable n : number sub-scope k : t
+        define k.m under condition 0 < n - 9 - 2147483647 as 1
+        scope t variable m : number";
+    let ran = text_reading("evaluate - s n=-1", overridden.as_bytes());
+    let expected = "below the range: k.m, since in the definition at standard input:2:9 \
+                    'n - 9 - 2147483647' is below -2147483648 (n = -1)\n";
+    assert_eq!((ran.status, ran.out.as_str()), (1, expected));
+    let conflict = "scope s variable n : number define n as conflict";
+    let ran = text_reading("evaluate - s", conflict.as_bytes());
+    let expected = "conflict: n, since the definition at standard input:1:29 is in conflict\n";
     assert_eq!((ran.status, ran.out.as_str()), (1, expected));
 }
 

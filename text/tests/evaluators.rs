@@ -75,10 +75,10 @@ fn rows_stand_in_the_order_of_the_names() {
     };
     let expected = "\
 abroad,nitrate,outcome,fee,insured
-no,no,out of range,,
+no,no,above the range,,
 no,yes,values,7,yes
-yes,no,out of range,,
-yes,yes,out of range,,
+yes,no,above the range,,
+yes,yes,above the range,,
 ";
     assert_eq!(named(&["abroad", "nitrate", "days=648"]), expected);
     let expected = "\
@@ -89,6 +89,12 @@ yes,no,empty,
 yes,yes,empty,
 ";
     assert_eq!(named(&["insured", "nitrate", "days=1"]), expected);
+    let sides = "scope s variable high : yes/no variable n : number variable x : number
+  define x as if high then n + 2 else -n - 3";
+    let sides = to_rulebook(sides).expect("a sound text");
+    let cases = || Cases::named(&sides, 0, &["n=2147483646"]).expect("cases");
+    let expected = "high,outcome,x\nno,below the range,\nyes,above the range,\n";
+    assert_eq!(one_table(&sides, 0, cases), expected);
     let expected = "outcome,fee,insured\nvalues,2147483031,yes\n";
     let inputs = ["nitrate=no", "abroad=no", "days=31"];
     assert_eq!(named(&inputs), expected);

@@ -88,12 +88,34 @@ rule z";
 scope s, nothing given
 y = no, since no rule held
   the rule at f:2:1: passed over, empty yes/no is empty
-z is out of range: so is the rule at f:3:1
-  the rule at f:3:1: out of range, '0 < --2147483648' is out of range
+z is above the range: so is the rule at f:3:1
+  the rule at f:3:1: above the range, '--2147483648' is above 2147483647
   the rule at f:4:1: not tried, the one before ended the search
-the run ends out of range; scopes entered: 1
+the run ends above the range; scopes entered: 1
 ";
     assert_eq!(explained(text, &[]), expected);
+}
+
+#[test]
+fn an_exception_below_the_range_ends_its_clause() {
+    let text = "scope s variable n : number variable x : number
+define x as 1
+exception define x under condition n < 0 as if n < -5 then n - 2147483647 - 9 else 0";
+    let expected = "\
+scope s, given n = -6
+n = -6, given
+x is below the range: so is the exception at f:3:1
+  the definition at f:2:1: below the range, so is its exception at f:3:1
+    the exception at f:3:1: below the range, 'n - 2147483647' is below -2147483648 (n = -6)
+the run ends below the range; scopes entered: 1
+";
+    assert_eq!(explained(text, &["n=-6"]), expected);
+    let expected = "\
+f: scope s, given n = -6
+x is below the range: in the exception at 3:1 'n - 2147483647' is below -2147483648 (n = -6)
+the run ends below the range; scopes entered: 1
+";
+    assert_eq!(briefly(text, &["n=-6"]), expected);
 }
 
 #[test]

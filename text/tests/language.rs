@@ -47,10 +47,10 @@ fn the_trial_strips() {
         ("default [empty | empty : 5]", "empty 1"),
         ("default [default [ | no : 1] | yes : 2]", "value 1 / 0 2"),
         ("default [conflict, 2147483647 + 1 | yes : 5]", "conflict 1"),
-        ("default [1, 2, 2147483647 + 1 | yes : 5]", "range 1"),
+        ("default [1, 2, 2147483647 + 1 | yes : 5]", "above 1"),
         ("empty + conflict", "empty 1"),
         ("conflict + empty", "conflict 1"),
-        ("-(-2147483648)", "range 1"),
+        ("-(-2147483648)", "above 1"),
         ("(2147483647 - 1) + 1", "value 1 / 0 2147483647"),
         ("default [none, 7 | yes : 5]", "value 1 / 0 7"),
     ];

@@ -4,11 +4,16 @@ mod common;
 
 use common::{folder, stand_ins, text, SPEED};
 
-/// A folder with one book and its runs, run by the stand-in.
+/// A folder with the tour's book and its runs, run by the stand-in.
 fn ran(name: &str, runs: Option<&str>) -> common::Ran {
+    ran_of(name, SPEED, runs)
+}
+
+/// The same with any book.
+fn ran_of(name: &str, rules: &str, runs: Option<&str>) -> common::Ran {
     let inside = folder().join(name);
     std::fs::create_dir_all(&inside).expect("a folder");
-    std::fs::write(inside.join("speed.rules"), SPEED).expect("a file");
+    std::fs::write(inside.join("speed.rules"), rules).expect("a file");
     if let Some(runs) = runs {
         std::fs::write(inside.join("speed.runs"), runs).expect("a file");
     }
@@ -51,6 +56,32 @@ failed: wrong/speed.runs:5: a run is 'scope inputs = answer'
 1 passed, 5 failed
 ";
     assert_eq!((ran.status, ran.out.as_str()), (1, expected));
+}
+
+#[test]
+fn the_former_outcome_is_told_with_what_to_write() {
+    let runs = "film shrunken=no nitrate=no = range 1
+film shrunken=no nitrate=no = range
+film shrunken=no nitrate=no = above
+film shrunken=no nitrate=no = below 1
+";
+    let ran = ran("former", Some(runs));
+    let expected = "\
+failed: former/speed.runs:1: 'range' is now 'above' or 'below': write the side on which the result lies
+failed: former/speed.runs:2: 'range' is now 'above' or 'below': write the side on which the result lies
+failed: former/speed.runs:3: film shrunken=no nitrate=no: the outcome: above expected, value found
+failed: former/speed.runs:4: film shrunken=no nitrate=no: the outcome: below 1 expected, value 1 found
+0 passed, 4 failed
+";
+    assert_eq!((ran.status, ran.out.as_str()), (1, expected));
+}
+
+#[test]
+fn a_variable_may_have_the_name_of_an_outcome() {
+    let rules = "scope s variable range : number variable above : yes/no define range as 7";
+    let runs = "s above=no = range 7\ns above=yes = value / above yes\n";
+    let ran = ran_of("named", rules, Some(runs));
+    assert_eq!((ran.status, ran.out.as_str()), (0, "2 passed, 0 failed\n"));
 }
 
 #[test]

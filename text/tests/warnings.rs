@@ -85,6 +85,13 @@ fn what_can_be_empty() {
         &format!("define x under condition n < 5 as default [1, if a then 2 else empty | yes : 3]\ndefine x under condition not n < 5 as n{USE}"),
         &["f:2:1: x can be in conflict: so is this definition by itself, for instance with n=0 a=yes b=no"],
     );
+    warns(
+        &format!("define x under condition n < 5 as if a then 2147483647 + 1 else -2147483648 - 1\ndefine x under condition not n < 5 as n{USE}"),
+        &[
+            "f:2:1: x can be above the range: so is this definition by itself, for instance with n=0 a=yes b=no",
+            "f:2:1: x can be below the range: so is this definition by itself, for instance with n=0 a=no b=no",
+        ],
+    );
 }
 
 /// A caller that overrides what the called scope computes can make its rules meet.
