@@ -11,7 +11,7 @@ use crate::printer::to_text;
 use crate::programs::find;
 use crate::reading::to_rulebook;
 use crate::rulebook::Rulebook;
-use crate::tally::Tally;
+use crate::tally::{Met, Tally};
 use crate::words;
 use second::answer;
 use second::cases::books::{book, Plan};
@@ -32,6 +32,7 @@ const FEWEST: usize = 1;
 /// as many by the engine's library.
 pub fn compare(count: u64) -> Tally {
     let mut tally = Tally::default();
+    let (mut evaluations, mut rows) = (Met::default(), Met::default());
     let library = TABULATE.map(Evaluator::Library);
     if library.is_none() {
         let remedy = "run 'rt staticlib capi', then build text again";
@@ -41,12 +42,16 @@ pub fn compare(count: u64) -> Tally {
     for seed in 0..count {
         tally.count(compare_judging(&cases::case(seed).bytes));
         let rng = &mut Random::new(seed);
-        tally.count(compare_evaluating(&evaluation(rng)));
+        tally.count(compare_evaluating(&evaluation(rng), &mut evaluations));
         if let Some(library) = &library {
             let few = rng.range(0, FEW);
             let most = if seed % FULL == 0 { MOST } else { few };
-            tally.count(compare_table(library, most, rng));
+            tally.count(compare_table(library, most, rng, &mut rows));
         }
+    }
+    tally.met("evaluations", &evaluations);
+    if library.is_some() {
+        tally.met("rows of tables", &rows);
     }
     tally
 }
@@ -69,14 +74,16 @@ fn begins(answer: &Answer, good: bool, expected: &str) -> Result<(), String> {
 }
 
 /// Values are the second program's, each under its name; so is the failure.
-fn compare_evaluating(case: &Case) -> Result<(), String> {
+fn compare_evaluating(case: &Case, met: &mut Met) -> Result<(), String> {
     let (book, scope) = (rulebook(&case.bytes)?, case.scope);
     let Some(types) = book.scopes.get(scope).map(|scope| &scope.variables) else {
         return Ok(());
     };
     let given = read(types, &case.inputs)?;
     let answer = evaluate(&book, "book", scope, given.clone())?;
-    match expected(&case.bytes, scope, types, &given)? {
+    let expected = expected(&case.bytes, scope, types, &given)?;
+    met.add(named(&expected));
+    match expected {
         Ok(values) => begins(&answer, true, &lines(&values)),
         Err(failure) => begins(&answer, false, &format!("{}: ", words::outcome(failure))),
     }
@@ -84,7 +91,12 @@ fn compare_evaluating(case: &Case) -> Result<(), String> {
 
 /// Every row of a table is the second program's evaluation of its choice, whatever order the
 /// variables are named in.
-fn compare_table(library: &Evaluator, most: usize, rng: &mut Random) -> Result<(), String> {
+fn compare_table(
+    library: &Evaluator,
+    most: usize,
+    rng: &mut Random,
+    met: &mut Met,
+) -> Result<(), String> {
     let plan = Plan {
         variables: MAX_VARIABLES,
         ..Plan::tiny(rng)
@@ -98,6 +110,7 @@ fn compare_table(library: &Evaluator, most: usize, rng: &mut Random) -> Result<(
     let found = library.outcomes(&book, scope, &cases)?;
     for (row, found) in cases.rows.iter().zip(&found) {
         let expected = expected(&bytes, scope, types, row)?;
+        met.add(named(&expected));
         if *found != expected {
             return Err(format!("{row:?}: {expected:?} expected, found {found:?}"));
         }
@@ -158,6 +171,14 @@ fn expected(bytes: &[u8], scope: usize, types: &[Type], given: &Given) -> Result
         answer::Outcome::Above => Err(Failure::Above),
         answer::Outcome::Below => Err(Failure::Below),
     })
+}
+
+/// The second program's name of an outcome.
+fn named(outcome: &Outcome) -> answer::Outcome {
+    match outcome {
+        Ok(_) => answer::Outcome::Values,
+        Err(failure) => answer::Outcome::from(*failure),
+    }
 }
 
 /// `name = value` under the names that the printer makes.

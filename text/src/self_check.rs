@@ -14,12 +14,12 @@ use crate::printer::to_text;
 use crate::reading::{to_book, to_rulebook};
 use crate::roundtrip::{book_survives, fault_is_placed, text_survives};
 use crate::rulebook::Rulebook;
-use crate::tally::Tally;
+use crate::tally::{Met, Tally};
 use second::answer::Outcome;
 use second::cases::books::any_book;
 use second::cases::mix::evaluation;
 use second::cases::random::Random;
-use second::cases::{self, Case};
+use second::cases::{self, Case, Service};
 use second::decode::{decode, MAX_VARIABLES};
 use second::kind::NONE;
 use second::records::read_inputs;
@@ -33,18 +33,21 @@ struct Check {
     tally: Tally,
     /// How many books of each refusal went there and back; 0 for accepted ones.
     met: BTreeMap<u8, usize>,
+    /// How the evaluations that were explained ended.
+    ended: Met,
     /// Damaged texts that are books all the same, and those with faults.
     whole: usize,
     faulty: usize,
 }
 
 /// Round trips of `count` random books and `count` random cases, of all fixed cases and
-/// of the examples in a folder; `count` evaluations, explained and drawn, and `count`
-/// damaged texts.
+/// of the examples in a folder; `count` evaluations and those of the fixed cases, explained
+/// and drawn, and `count` damaged texts.
 pub fn self_check(count: u64, folder: &str) -> Result<Tally, String> {
     let mut check = Check {
         tally: run_examples(Program::Second, folder)?,
         met: BTreeMap::new(),
+        ended: Met::default(),
         whole: 0,
         faulty: 0,
     };
@@ -59,6 +62,9 @@ pub fn self_check(count: u64, folder: &str) -> Result<Tally, String> {
     }
     for case in cases::fixed() {
         check.book(&case.bytes);
+        if case.service == Service::Evaluate && case.reply().result.is_ok() {
+            check.evaluation(&case);
+        }
     }
     check.all_met();
     Ok(check.tally)
@@ -98,7 +104,12 @@ impl Check {
         match text.and_then(|text| to_rulebook(&text)) {
             Err(faults) => self.tally.count(Err(format!("{faults:?}"))),
             Ok(book) => {
-                self.tally.count(explained(&book, case));
+                let ended = explained(&book, case);
+                ended
+                    .iter()
+                    .flatten()
+                    .for_each(|&outcome| self.ended.add(outcome));
+                self.tally.count(ended.map(|_| ()));
                 self.tally.count(drawn(&book, case.scope));
                 self.tally.count(marked(&book, case));
             }
@@ -117,7 +128,7 @@ impl Check {
         self.tally.count(result.map(|_| ()));
     }
 
-    /// Accepted books and each refusal from 6 to 12 must have been met.
+    /// Accepted books, each refusal from 6 to 12 and each outcome must have been met.
     fn all_met(&mut self) {
         for refusal in std::iter::once(0).chain(6..=12) {
             let times = self.met.get(&refusal).copied().unwrap_or(0);
@@ -129,6 +140,7 @@ impl Check {
             self.tally
                 .count((times > 0).then_some(()).ok_or_else(wrong));
         }
+        self.tally.met("explained evaluations", &self.ended);
         self.tally.say(format!(
             "damaged texts: {} books, {} with faults",
             self.whole, self.faulty
@@ -173,10 +185,11 @@ fn marked(book: &Rulebook, case: &Case) -> Result<(), String> {
     Ok(())
 }
 
-/// Outcome, count and results of an explained evaluation are the second program's.
-fn explained(book: &Rulebook, case: &Case) -> Result<(), String> {
+/// Outcome, count and results of an explained evaluation are the second program's; the
+/// outcome, if the scope is there.
+fn explained(book: &Rulebook, case: &Case) -> Result<Option<Outcome>, String> {
     let Some(given) = given_in(book, case)? else {
-        return Ok(());
+        return Ok(None);
     };
     let words = explain(book, "book", case.scope, given.clone());
     let brief = explain_briefly(book, "book", case.scope, given.clone());
@@ -194,7 +207,7 @@ fn explained(book: &Rulebook, case: &Case) -> Result<(), String> {
         && words.ends_with(&format!("; scopes entered: {}\n", answer.count))
         && brief.lines().last() == words.lines().last();
     let wrong = || format!("{answer:?} and results {results:02x?}, explained as\n{words}");
-    same.then_some(()).ok_or_else(wrong)
+    same.then_some(Some(outcome)).ok_or_else(wrong)
 }
 
 /// The drawing of each own variable has a box for each of its clauses, and one more
