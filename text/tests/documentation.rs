@@ -7,9 +7,13 @@ use text::lexer::WORDS;
 use text::reading::to_rulebook;
 use text::usage::COMMANDS;
 
+fn read(path: &str) -> String {
+    let path = format!("{}/../{path}", env!("CARGO_MANIFEST_DIR"));
+    std::fs::read_to_string(path).expect("a file of the project")
+}
+
 fn document() -> String {
-    let path = concat!(env!("CARGO_MANIFEST_DIR"), "/../docs/LANGUAGE.md");
-    std::fs::read_to_string(path).expect("the language's description")
+    read("docs/LANGUAGE.md")
 }
 
 /// The indented block that begins with a line, without its indentation.
@@ -39,6 +43,20 @@ fn the_example_is_explained_as_printed() {
         "scope film, given shrunken = yes, polyester = no",
     );
     assert_eq!(explain(&book, "vault.rules", film, given), printed);
+}
+
+#[test]
+fn a_sum_above_the_range_is_explained_as_printed() {
+    let book = to_rulebook(&read("examples/loan.rules")).expect("a book");
+    let loan = find_scope(&book, "loan").expect("scope loan");
+    let inputs = "print_nitrate=no print_only_copy=no print_insured=no print_grade=1 festival=no";
+    let mut words: Vec<&str> = inputs.split(' ').collect();
+    words.push("renewals=2147483647");
+    let given = read_inputs(&book, loan, &words).expect("inputs");
+    let explained = explain_briefly(&book, "loan.rules", loan, given);
+    let line = explained.lines().find(|line| line.contains("above"));
+    let line = format!("`{}`", line.expect("a line"));
+    assert!(document().contains(&line), "{line}");
 }
 
 #[test]
