@@ -41,7 +41,7 @@ refusalNumber Stuck = 17
 refusalNumber BadChoice = 18
 
 -- the number of an outcome without values, as in the first change request: "one byte of outcome (0 values, 1 empty, 2 conflict, 3 out of range)";
--- since the third: "On the sheet, byte 3 is above and 4 below". That evaluating and running have these numbers, too, is the project's own
+-- for its 3, since the third: "On the sheet, byte 3 is above and 4 below". That evaluating and running have these numbers, too, is the project's own
 abbrev pub causeNumber : Cause → ℕ
 causeNumber Empty = 1
 causeNumber Conflict = 2

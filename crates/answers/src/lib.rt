@@ -1,6 +1,7 @@
 // What the services answer.
 
-// The side of the range on which an exact result lies that is out of it: "An operator who sees 'range' must know if the speed ran high or low".
+// On which side of the range an exact result lies that leaves it, above 2,147,483,647 or below −2,147,483,648: "An operator who sees 'range' must know
+// if the speed ran high or low" (paper 02, No. 3).
 pub enum Side {
     Above,
     Below,

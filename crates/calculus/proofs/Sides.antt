@@ -1,8 +1,8 @@
 -- The sides of the range.
 --     ranged-cases                             an exact result is out of range on some side, or given
---     add-told, subtract-told, negate-told     add, subtract and negate come to a side exactly where their exact result lies there, and give it
---                                              exactly where 32 bits hold it
---     negate-lowest                            of numbers of 32 bits −2,147,483,648 alone leaves the range when negated, and then above
+--     add-told, subtract-told, negate-told     add, subtract and negate come to a side exactly where their exact result lies out of the range on it,
+--                                              and to that result exactly where 32 bits hold it
+--     negate-lowest                            of numbers of 32 bits none but −2,147,483,648 leaves the range when negated, and then above
 -- Assumes nothing.
 use mathlib.Core.Path.{_≡_, refl, ap}
 use mathlib.Core.Bool.{Bool, true, false, cond, false≢true}
@@ -28,13 +28,13 @@ use Rattle.calculus.specs.declared.Unary.the-variants.{Negate}
 use Rattle.calculus.specs.declared.Binary.the-variants.{Add, Subtract}
 
 -- `ranged`, by what its two tests said
-abbrev told : Bool → Bool → ℤ → Outcome
-told low high z = cond low (Ends (OutOfRange Below)) (cond high (Ends (OutOfRange Above)) (Gives (Number z)))
+abbrev rangedBy : Bool → Bool → ℤ → Outcome
+rangedBy low high z = cond low (Ends (OutOfRange Below)) (cond high (Ends (OutOfRange Above)) (Gives (Number z)))
 
 pub ranged-cases : (z : ℤ) (P : Outcome → Type 0) → ((s : Side) → P (Ends (OutOfRange s))) → P (Gives (Number z)) → P (ranged z)
 ranged-cases z P out given = go (ltZ z lowest) (ltZ highest z)
   where
-    go : (low high : Bool) → P (told low high z)
+    go : (low high : Bool) → P (rangedBy low high z)
     go true high = out Below
     go false true = out Above
     go false false = given
@@ -73,7 +73,7 @@ is-on : (s : Side) → isOn s (Ends (OutOfRange s)) ≡ true
 is-on Above = refl
 is-on Below = refl
 
-side-only : (s : Side) (low high : Bool) (z : ℤ) → isOn s (told low high z) ≡ true → (beyond Below z ≡ low) → (beyond Above z ≡ high) → beyond s z ≡ true
+side-only : (s : Side) (low high : Bool) (z : ℤ) → isOn s (rangedBy low high z) ≡ true → (beyond Below z ≡ low) → (beyond Above z ≡ high) → beyond s z ≡ true
 side-only Above true high z k l h = absurd (false≢true k)
 side-only Above false true z k l h = h
 side-only Above false false z k l h = absurd (false≢true k)
@@ -81,7 +81,7 @@ side-only Below true high z k l h = l
 side-only Below false true z k l h = absurd (false≢true k)
 side-only Below false false z k l h = absurd (false≢true k)
 
-given-fits : (low high : Bool) (z : ℤ) → isGiven (told low high z) ≡ true → (ltZ z lowest ≡ low) → (ltZ highest z ≡ high) → SFits w32 z
+given-fits : (low high : Bool) (z : ℤ) → isGiven (rangedBy low high z) ≡ true → (ltZ z lowest ≡ low) → (ltZ highest z ≡ high) → SFits w32 z
 given-fits true high z k l h = absurd (false≢true k)
 given-fits false true z k l h = absurd (false≢true k)
 given-fits false false z k l h = within-range z l h
@@ -91,8 +91,8 @@ ranged-told z =
     record {
       side = λ s. side-told s z;
       sideOnly = λ s e. side-only s (ltZ z lowest) (ltZ highest z) z (rw e (is-on s)) refl refl;
-      given = λ f. rw (not-beyond Below z f, not-beyond Above z f);
-      givenOnly = λ v e. given-fits (ltZ z lowest) (ltZ highest z) z (ap isGiven e) refl refl;
+      number = λ f. rw (not-beyond Below z f, not-beyond Above z f);
+      numberOnly = λ v e. given-fits (ltZ z lowest) (ltZ highest z) z (ap isGiven e) refl refl;
     }
 
 pub add-told : (v w : Value) → ComesTo (numberOf v +ℤ numberOf w) (binaryOf Add v w)

@@ -8,7 +8,7 @@ use Rattle.calculus.specs.declared.Joined.the-variants.{Nothing, One, Ma
 use Rattle.calculus.specs.declared.Gathered.{Gathered}
 use Rattle.calculus.specs.declared.Gathered.the-variants.{SoFar, Ended}
 
--- what an exception without a value comes to: an empty one to nothing
+-- what an exception without a value comes to: an empty one to nothing, any other to its own cause
 abbrev pub caught : Cause → Gathered
 caught Empty = SoFar Nothing
 caught Conflict = Ended Conflict

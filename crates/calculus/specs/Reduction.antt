@@ -11,7 +11,7 @@
 --     4  Conflict waits until every exception is a value: "Each of the exceptions .. is evaluated; if two or more are valid .., a conflict error .. is raised".
 --     5  Justification and consequence are reduced only once every exception is empty: "With none, the justification is evaluated" (paper 01), and
 --        where one is valid "we evaluate neither the justification or the consequence".
--- Out of range is ours, with its side (paper 02): two more errors, each like conflict. A number where a yes/no should stand counts as no, where the
+-- Out of range is "ours" (paper 01), with a side (paper 02, No. 3): two more errors, each like conflict. A number where a yes/no should stand counts as no, where the
 -- figures are stuck: no term of an accepted book has one.
 use Prim.Native.Nat.{ℕ, zero, suc}
 use mathlib.Core.Path.{_≡_}

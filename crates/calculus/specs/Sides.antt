@@ -19,11 +19,11 @@ abbrev pub beyond : Side → ℤ → Bool
 beyond Above z = ltZ highest z
 beyond Below z = ltZ z lowest
 
--- "Add, subtract and negate say above or below": the outcome o of the exact result z
+-- "Add, subtract and negate say above or below" (paper 02, No. 3): the outcome o of the exact result z
 pub record ComesTo (z : ℤ) (o : Outcome) : Type 0 where
-  -- a side, exactly where the exact result lies there
+  -- a side, exactly where the exact result lies out of the range on it
   pub side : (s : Side) → beyond s z ≡ true → o ≡ Ends (OutOfRange s)
   pub sideOnly : (s : Side) → o ≡ Ends (OutOfRange s) → beyond s z ≡ true
   -- the number itself, exactly where 32 bits hold it
-  pub given : SFits w32 z → o ≡ Gives (Number z)
-  pub givenOnly : (v : Value) → o ≡ Gives v → SFits w32 z
+  pub number : SFits w32 z → o ≡ Gives (Number z)
+  pub numberOnly : (v : Value) → o ≡ Gives v → SFits w32 z

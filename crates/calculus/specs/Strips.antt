@@ -3,8 +3,7 @@ use mathlib.Core.Path.{_≡_, refl}
 use mathlib.Core.Bool.{true, false}
 use mathlib.Core.List.{List, [], _∷_}
 use Prim.Native.Nat.{ℕ, _-_}
-use lib.IntN.{pos}
-use Rattle.calculus.specs.Values.{lowest}
+use lib.IntN.{pos, negsuc}
 use Rattle.calculus.specs.Terms.{Term, Terms, literal, error, unary, binary, default, none, also}
 use Rattle.calculus.specs.Evaluation.{Env, eval, exceptions, step}
 use Rattle.calculus.specs.declared.Value.the-variants.{Truth, Number}
@@ -84,7 +83,7 @@ strips =
     -- k conflict + empty is conflict
     ∷ row (eval nothing (binary Add conflict empty)) (Ends Conflict)
     -- l negate −2,147,483,648 is out of range, (big−1)+1 is big; "Negating −2,147,483,648 is above"
-    ∷ row (eval nothing (unary Negate (literal (Number lowest)))) (Ends (OutOfRange Above))
+    ∷ row (eval nothing (unary Negate (literal (Number (negsuc 2147483647))))) (Ends (OutOfRange Above))
     -- l (big−1)+1
     ∷ row (eval nothing (binary Add (num (big - 1)) (num 1))) (value big)
     -- m given 9 where the definition is conflict: 9

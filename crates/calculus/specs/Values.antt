@@ -28,7 +28,7 @@ abbrev pub highest : ℤ
 highest = pos 2147483647
 
 -- what an exact result comes to: "Out of range (ours): add, subtract or negate leaving −2,147,483,648 to 2,147,483,647"; "Add, subtract and negate
--- say above or below"
+-- say above or below" (paper 02, No. 3)
 abbrev pub ranged : ℤ → Outcome
 ranged z = cond (ltZ z lowest) (Ends (OutOfRange Below)) (cond (ltZ highest z) (Ends (OutOfRange Above)) (Gives (Number z)))
 

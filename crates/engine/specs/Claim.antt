@@ -47,8 +47,8 @@ pub record Agreed (bytes code : List ℕ) (i : ℕ) (m : Memories) (r : Answers)
   -- running it is refused with neither 16 nor 17
   pub neverBad : r .ran ≡ Refused BadCode → ⊥
   pub neverStuck : r .ran ≡ Refused Stuck → ⊥
-  -- "Run and evaluation get the same scope number and input bytes and equal result memories": then they give the same answer, and so "Code and
-  -- evaluation name the same side", and leave the same bytes
+  -- "Run and evaluation get the same scope number and input bytes and equal result memories": then they give the same answer and leave the
+  -- same bytes. A side is part of the answer: "Code and evaluation name the same side"
   pub answers : m .ranBefore ≡ m .evaluatedBefore → r .ran ≡ r .evaluated
   pub memories : m .ranBefore ≡ m .evaluatedBefore → m .ranAfter ≡ m .evaluatedAfter
   -- neither counts more scopes entered than the scope's weight

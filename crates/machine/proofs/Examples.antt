@@ -80,8 +80,9 @@ runs =
     ∷ row (asking (1 ∷ 0 ∷ 2 ∷ 2 ∷ 5 ∷ 0 ∷ 0 ∷ 0 ∷ 0 ∷ 5 ∷ 128 ∷ 0 ∷ 0 ∷ 0 ∷ 14 ∷ 41 ∷ 0 ∷ []) 0 []) (ends (OutOfRange Above) 1)
     ∷ row (asking (1 ∷ 0 ∷ 2 ∷ 2 ∷ 5 ∷ 128 ∷ 0 ∷ 0 ∷ 0 ∷ 5 ∷ 0 ∷ 0 ∷ 0 ∷ 1 ∷ 14 ∷ 41 ∷ 0 ∷ []) 0 []) (ends (OutOfRange Below) 1)
     ∷ row (asking (1 ∷ 0 ∷ 2 ∷ 2 ∷ 5 ∷ 128 ∷ 0 ∷ 0 ∷ 0 ∷ 11 ∷ 41 ∷ 0 ∷ []) 0 []) (ends (OutOfRange Above) 1)
-    -- −2,147,483,648 itself is in range
+    -- −2,147,483,648 and 2,147,483,647 themselves are in range
     ∷ row (asking (1 ∷ 0 ∷ 2 ∷ 2 ∷ 5 ∷ 128 ∷ 0 ∷ 0 ∷ 1 ∷ 5 ∷ 0 ∷ 0 ∷ 0 ∷ 1 ∷ 14 ∷ 41 ∷ 0 ∷ []) 0 []) (gives 1 (2 ∷ 0 ∷ 128 ∷ 0 ∷ 0 ∷ 0 ∷ []))
+    ∷ row (asking (1 ∷ 0 ∷ 2 ∷ 2 ∷ 5 ∷ 127 ∷ 255 ∷ 255 ∷ 254 ∷ 5 ∷ 0 ∷ 0 ∷ 0 ∷ 1 ∷ 13 ∷ 41 ∷ 0 ∷ []) 0 []) (gives 1 (2 ∷ 0 ∷ 127 ∷ 255 ∷ 255 ∷ 255 ∷ []))
     -- out of range passes an open try
     ∷ row (asking (1 ∷ 0 ∷ 2 ∷ 2 ∷ 36 ∷ 0 ∷ 11 ∷ 5 ∷ 128 ∷ 0 ∷ 0 ∷ 0 ∷ 5 ∷ 0 ∷ 0 ∷ 0 ∷ 1 ∷ 14 ∷ 5 ∷ 0 ∷ 0 ∷ 0 ∷ 7 ∷ 41 ∷ 0 ∷ []) 0 [])
     (ends (OutOfRange Below) 1)

@@ -3,6 +3,7 @@
 --     row-run          and the row is that of this run
 --     row-answers      this evaluating is never refused; the row by what it replies
 --     row-length       a row is one byte longer than the results
+--     above-row, below-row    the row of a run that ends above or below the range
 --     rows-length, rows-at    rows of one length: how long they are, and which stands where
 --     table-length     2^k rows
 --     row-at           the n-th row is that of the n-th assignment
@@ -25,7 +26,9 @@ use Rattle.book.specs.References.{scopeAt}
 use Rattle.book.specs.Judge.{judge}
 use Rattle.book.specs.declared.Variable.{Variable}
 use Rattle.answers.specs.Numbers.{causeNumber}
+use Rattle.answers.specs.declared.Side.the-variants.{Above, Below}
 use Rattle.answers.specs.declared.Cause.{Cause}
+use Rattle.answers.specs.declared.Cause.the-variants.{OutOfRange}
 use Rattle.answers.specs.declared.Judged.the-variants as judged
 use Rattle.answers.specs.declared.Answer.the-variants.{Values}
 use Rattle.acceptance.proofs.Limits.{accepted-within}
@@ -47,11 +50,19 @@ use Rattle.tabulation.proofs.Widths.{results-narrow, rows-most}
 
 -- The row of a reply
 
-row-empty : (size : ℕ) (cause : Cause) (count : ℕ) → Rowed size (replyOf (ended cause count)) (rowOf size (replyOf (ended cause count)))
+end-row : (size : ℕ) (cause : Cause) (count : ℕ) → rowOf size (replyOf (ended cause count)) ≡ causeNumber cause ∷ replicate size 0
 unfolding rowOf
-row-empty size cause count =
-    let all : size ≡ size - 0 = omega arith in
-    subst (λ (k : ℕ). Rowed size (replyOf (ended cause count)) (causeNumber cause ∷ replicate k 0)) all (Rowed.inEnd cause count)
+end-row size cause count = let all : size - 0 ≡ size = omega arith in ap (λ (k : ℕ). causeNumber cause ∷ replicate k 0) all
+
+-- "On the sheet, byte 3 is above and 4 below"
+pub above-row : (size count : ℕ) → rowOf size (replyOf (ended (OutOfRange Above) count)) ≡ 3 ∷ replicate size 0
+above-row size count = end-row size (OutOfRange Above) count
+
+pub below-row : (size count : ℕ) → rowOf size (replyOf (ended (OutOfRange Below) count)) ≡ 4 ∷ replicate size 0
+below-row size count = end-row size (OutOfRange Below) count
+
+row-empty : (size : ℕ) (cause : Cause) (count : ℕ) → Rowed size (replyOf (ended cause count)) (rowOf size (replyOf (ended cause count)))
+row-empty size cause count = subst (Rowed size (replyOf (ended cause count))) (sym (end-row size cause count)) (Rowed.inEnd cause count)
 
 row-full : (size count : ℕ) (written : List ℕ) → length written ≡ size
     → Rowed size (record { answer = Values count (length written); written = written })

@@ -26,8 +26,8 @@ abbrev pub padded : ℕ → List ℕ → List ℕ
 padded size bytes = bytes ++ replicate (size - length bytes) 0
 
 -- "Each line holds one byte of outcome (0 values, 1 empty, 2 conflict, 3 out of range) and the results, or as many zero bytes where there are no
--- values"; "On the sheet, byte 3 is above and 4 below": the row of what evaluating replies, its results being of this length. A refused reply, which
--- has no outcome, would read as 0
+-- values"; for its 3, since No. 3: "On the sheet, byte 3 is above and 4 below". The row of what evaluating replies, its results being of this length;
+-- a refused reply, which has no outcome, would read as 0
 unfoldable pub rowOf : ℕ → Reply → List ℕ
 rowOf size reply = answerNumbers (reply .answer) .outcome ∷ padded size (reply .written)
 
