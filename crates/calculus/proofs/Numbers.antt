@@ -19,6 +19,7 @@ use Rattle.calculus.specs.declared.Value.{Value}
 use Rattle.calculus.specs.declared.Value.the-variants.{Truth, Number}
 use Rattle.answers.specs.declared.Side.the-variants.{Above, Below}
 use Rattle.answers.specs.declared.Cause.the-variants.{OutOfRange}
+use Rattle.calculus.specs.declared.Outcome.{Outcome}
 use Rattle.calculus.specs.declared.Outcome.the-variants.{Gives, Ends}
 use Rattle.calculus.proofs.Value.{the-type}
 
@@ -69,18 +70,25 @@ difference-fits {x} {y} p q =
       );
     }
 
--- the two tests of the range, as they are made on 64 bits
-pub ranged-by : (z : ℤ) {a b : Bool} → SFits w64 z → ltZ (toZ w64 (ofZ w64 z)) lowest ≡ a →
-    ltZ highest (toZ w64 (ofZ w64 z)) ≡ b → ranged z ≡ cond a (Ends (OutOfRange Below)) (cond b (Ends (OutOfRange Above)) (Gives (Number z)))
-ranged-by z {a} {b} p e f =
-    let low : ltZ z lowest ≡ a = rw (toZ-ofZ p) at e in
-    let high : ltZ highest z ≡ b = rw (toZ-ofZ p) at f in
-    rw (low, high)
+-- `ranged`, by what its two tests said
+abbrev pub rangedBy : Bool → Bool → ℤ → Outcome
+rangedBy low high z = cond low (Ends (OutOfRange Below)) (cond high (Ends (OutOfRange Above)) (Gives (Number z)))
 
 -- what passes the two tests of the range fits 32 bits
 pub within-range : (z : ℤ) → ltZ z lowest ≡ false → ltZ highest z ≡ false → SFits w32 z
 within-range (pos n) e f = record { sfits = omega (arith, ltb-false 2147483647 n f) }
 within-range (negsuc n) e f = record { sfits = omega (arith, ltb-false 2147483647 n e) }
+
+-- both, with the tests as they are made on 64 bits
+pub ranged-by : (z : ℤ) {a b : Bool} → SFits w64 z → ltZ (toZ w64 (ofZ w64 z)) lowest ≡ a → ltZ highest (toZ w64 (ofZ w64 z)) ≡ b
+    → ranged z ≡ rangedBy a b z
+ranged-by z {a} {b} p e f =
+    let low : ltZ z lowest ≡ a = rw (toZ-ofZ p) at e in
+    let high : ltZ highest z ≡ b = rw (toZ-ofZ p) at f in
+    rw (low, high)
+
+pub within-by : (z : ℤ) → SFits w64 z → ltZ (toZ w64 (ofZ w64 z)) lowest ≡ false → ltZ highest (toZ w64 (ofZ w64 z)) ≡ false → SFits w32 z
+within-by z p e f = within-range z (rw (toZ-ofZ p) at e) (rw (toZ-ofZ p) at f)
 
 -- two numbers are equal where their bits are
 pub equal-bits : (x y : ℤ) → SFits w32 x → SFits w32 y → eqb (ofZ w32 x) (ofZ w32 y) ≡ equalNumbers x y

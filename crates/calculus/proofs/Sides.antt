@@ -5,7 +5,7 @@
 --     negate-lowest                            of numbers of 32 bits none but −2,147,483,648 leaves the range when negated, and then above
 -- Assumes nothing.
 use mathlib.Core.Path.{_≡_, refl, ap}
-use mathlib.Core.Bool.{Bool, true, false, cond, false≢true}
+use mathlib.Core.Bool.{Bool, true, false, false≢true}
 use Prim.Native.Nat.{zero, suc, _≤_}
 use native.Mathlib.Omega.{arith}
 use borrow.Author.Tests.{ltb-true, le-ltb}
@@ -16,7 +16,7 @@ use mir.Val.{SFits}
 use Rattle.calculus.specs.Values.{numberOf, lowest, highest, ranged}
 use Rattle.calculus.specs.Operators.{unaryOf, binaryOf}
 use Rattle.calculus.specs.Sides.{beyond, ComesTo}
-use Rattle.calculus.proofs.Numbers.{within-range}
+use Rattle.calculus.proofs.Numbers.{rangedBy, within-range}
 use Rattle.calculus.specs.declared.Value.{Value}
 use Rattle.calculus.specs.declared.Value.the-variants.{Number}
 use Rattle.answers.specs.declared.Side.{Side}
@@ -26,10 +26,6 @@ use Rattle.calculus.specs.declared.Outcome.{Outcome}
 use Rattle.calculus.specs.declared.Outcome.the-variants.{Gives, Ends}
 use Rattle.calculus.specs.declared.Unary.the-variants.{Negate}
 use Rattle.calculus.specs.declared.Binary.the-variants.{Add, Subtract}
-
--- `ranged`, by what its two tests said
-abbrev rangedBy : Bool → Bool → ℤ → Outcome
-rangedBy low high z = cond low (Ends (OutOfRange Below)) (cond high (Ends (OutOfRange Above)) (Gives (Number z)))
 
 pub ranged-cases : (z : ℤ) (P : Outcome → Type 0) → ((s : Side) → P (Ends (OutOfRange s))) → P (Gives (Number z)) → P (ranged z)
 ranged-cases z P out given = go (ltZ z lowest) (ltZ highest z)

@@ -3,14 +3,12 @@ use mathlib.Core.Path.{refl, sym}
 use mir.Syntax.{w32}
 use mir.Val.{SFits}
 use mir.Facts.{toZ-ofZ}
-use Rattle.calculus.proofs.Numbers.{ranged-by, within-range}
+use Rattle.calculus.proofs.Numbers.{ranged-by, within-by}
 use Rattle.operators.proofs.in_range.Statement.{statement}
 use Rattle.operators.proofs.in_range.Tie as tie
 
 narrow : (c : tie.Else2) → SFits w32 (c .before .before .args .z)
-narrow c =
-    let fits = c .before .before .fits .z in
-    within-range (c .before .before .args .z) (rw (toZ-ofZ fits) at (c .before .if1 .left)) (rw (toZ-ofZ fits) at (c .if2 .left))
+narrow c = within-by (c .before .before .args .z) (c .before .before .fits .z) (c .before .if1 .left) (c .if2 .left)
 
 returns : tie.Need-returns
 returns c = sym (ranged-by (c .before .args .z) (c .before .fits .z) (c .if1 .taken) refl)
