@@ -61,6 +61,10 @@ impl Tally {
     /// One comparison: what both answered, or how they differ.
     pub fn count(&mut self, answer: &str, agreed: Result<(), String>) {
         self.meet(answer);
+        self.judge(agreed);
+    }
+
+    fn judge(&mut self, agreed: Result<(), String>) {
         match agreed {
             Ok(()) => self.passed += 1,
             Err(difference) => {
@@ -72,11 +76,11 @@ impl Tally {
         }
     }
 
-    /// An answer that must have been met at least once.
+    /// An answer that must have been met at least once; that it was is no case of it.
     pub fn expect_met(&mut self, answer: &str) {
         let met = self.answers.contains_key(answer);
         let missing = || format!("no case was answered with {answer}");
-        self.count(answer, met.then_some(()).ok_or_else(missing));
+        self.judge(met.then_some(()).ok_or_else(missing));
     }
 
     /// Prints the counts; whether nothing failed.
@@ -119,5 +123,6 @@ mod tests {
         assert!(tally.finish());
         tally.expect_met("never met");
         assert!(!tally.finish());
+        assert_eq!(tally.answers, BTreeMap::from([("met".to_string(), 1)]));
     }
 }
