@@ -30,7 +30,7 @@ extern "C" {
  * book is never more than seven times as long as the book (code-max and code-bound in crates/translation/proofs/Lengths.antt).
  */
 #define ENGINE_BOOK_MAX 32768
-#define ENGINE_CODE_MAX 185051
+#define ENGINE_CODE_MAX 201435
 #define ENGINE_RESULTS_MAX 192
 
 /*

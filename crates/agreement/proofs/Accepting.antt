@@ -116,7 +116,7 @@ module _ (book : List Scope) where
 
     module _ (few : length book ≤ 32) (light : (i : ℕ) → i < length book → weight book i ≤ 4096)
         (typed : (i : ℕ) → i < length book → (t : Target) → WellTyped book (scopeAt book i) (tree (scopeAt book i) t) (targetType book (scopeAt book i) t))
-        (near : (i : ℕ) → i < length book → (t : Target) → size (tree (scopeAt book i) t) + 2 < 65536) where
+        (near : (i : ℕ) → i < length book → (t : Target) → size (tree (scopeAt book i) t) + 4 < 65536) where
       well-formed : (is : List ℕ) (i : ℕ) → Ordered (i ∷ is) → wellFormed (compiledIn book is) (compiledBlock book i) ≡ true
       unfolding wellFormed allFit among compiledIn
       well-formed is i o =

@@ -73,7 +73,7 @@ module _ (bytes : List ℕ) (n : ℕ) (accepted : judge bytes ≡ Accepted n) wh
         )
 
     on-asked : asked (compiled book) i list room ≡ evaluation.asked book i list room
-    unfolding asked evaluation.asked
+    unfolding asked evaluation.askedBy
     on-asked =
         let count : n ≡ length book = accepted-count bytes n accepted in
         ⊎-elim
@@ -84,7 +84,7 @@ module _ (bytes : List ℕ) (n : ℕ) (accepted : judge bytes ≡ Accepted n) wh
         (decide (ltb i n))
 
     pub run-agrees : run (codeOf (scopesOf bytes)) i list room ≡ evaluate bytes i list room
-    unfolding run evaluate
+    unfolding run evaluation.evaluateBy
     run-agrees = rw (code-accepted bytes n accepted, blocks-code book, accepted) on-asked
 
     pub run-count : countIn (run (codeOf (scopesOf bytes)) i list room .answer) ≤ weight (scopesOf bytes) i

@@ -17,7 +17,7 @@ use Rattle.book.specs.Scopes.{calls, blocks, sum}
 use Rattle.book.specs.Steps.{stepCount, reads, readsAny, stepOf, clauseReads, dependsOn, stepOrder}
 use Rattle.lists.specs.Inputs.{cannotGive, badRecord, inputsFrom, inputs}
 use Rattle.lists.specs.Results.{resultLength, resultsFrom, results}
-use Rattle.answers.specs.declared.Cause.the-variants.{Empty}
+use Rattle.answers.specs.declared.Cause.the-variants.{Empty, Conflict}
 use Rattle.evaluation.specs.Evaluate.{Reply}
 use Rattle.answers.specs.declared.Answer.the-variants.{Values, Ended}
 use Rattle.translation.specs.Code.{size, sizes, code, codes}
@@ -51,6 +51,20 @@ examples =
     ∷ row (run (codeOf (scopesOf paperBook)) 0 [] 9) (record { answer = Ended Empty 1; written = [] })
     -- a sub-scope's variable overridden
     ∷ row (run (codeOf (scopesOf (1 ∷ 2 ∷ 2 ∷ 5 ∷ 0 ∷ 0 ∷ 0 ∷ 7 ∷ 19 ∷ 255 ∷ 0 ∷ 255 ∷ 255 ∷ 0 ∷ 1 ∷ 2 ∷ 2 ∷ 3 ∷ 0 ∷ 5 ∷ 0 ∷ 0 ∷ 0 ∷ 9 ∷ 7 ∷ 0 ∷ 0 ∷ 19 ∷ 0 ∷ 0 ∷ 255 ∷ 255 ∷ 0 ∷ 19 ∷ 255 ∷ 0 ∷ 255 ∷ 255 ∷ 1 ∷ []))) 1 [] 6) (record { answer = Values 2 6; written = (2 ∷ 0 ∷ 0 ∷ 0 ∷ 0 ∷ 9 ∷ []) })
+    -- an empty override, beside the sub-scope's own 9
+    ∷ row (run (codeOf (scopesOf (1 ∷ 2 ∷ 2 ∷ 5 ∷ 0 ∷ 0 ∷ 0 ∷ 9 ∷ 19 ∷ 255 ∷ 0 ∷ 255 ∷ 255 ∷ 0 ∷ 1 ∷ 2 ∷ 2 ∷ 3 ∷ 0 ∷ 8 ∷ 2 ∷ 7 ∷ 0 ∷ 0 ∷ 19 ∷ 0 ∷ 0 ∷ 255 ∷ 255 ∷ 0 ∷ 19 ∷ 255 ∷ 0 ∷ 255 ∷ 255 ∷ 1 ∷ []))) 1 [] 6) (record { answer = Values 2 6; written = (2 ∷ 0 ∷ 0 ∷ 0 ∷ 0 ∷ 9 ∷ []) })
+    -- an empty operand deep inside the override
+    ∷ row (run (codeOf (scopesOf (1 ∷ 2 ∷ 2 ∷ 5 ∷ 0 ∷ 0 ∷ 0 ∷ 9 ∷ 19 ∷ 255 ∷ 0 ∷ 255 ∷ 255 ∷ 0 ∷ 1 ∷ 2 ∷ 2 ∷ 3 ∷ 0 ∷ 5 ∷ 0 ∷ 0 ∷ 0 ∷ 4 ∷ 8 ∷ 2 ∷ 13 ∷ 0 ∷ 1 ∷ 7 ∷ 0 ∷ 0 ∷ 19 ∷ 0 ∷ 0 ∷ 255 ∷ 255 ∷ 2 ∷ 19 ∷ 255 ∷ 0 ∷ 255 ∷ 255 ∷ 3 ∷ []))) 1 [] 6) (record { answer = Values 2 6; written = (2 ∷ 0 ∷ 0 ∷ 0 ∷ 0 ∷ 9 ∷ []) })
+    -- an override in conflict: the scope is not entered
+    ∷ row (run (codeOf (scopesOf (1 ∷ 2 ∷ 2 ∷ 5 ∷ 0 ∷ 0 ∷ 0 ∷ 9 ∷ 19 ∷ 255 ∷ 0 ∷ 255 ∷ 255 ∷ 0 ∷ 1 ∷ 2 ∷ 2 ∷ 3 ∷ 0 ∷ 9 ∷ 2 ∷ 7 ∷ 0 ∷ 0 ∷ 19 ∷ 0 ∷ 0 ∷ 255 ∷ 255 ∷ 0 ∷ 19 ∷ 255 ∷ 0 ∷ 255 ∷ 255 ∷ 1 ∷ []))) 1 [] 6) (record { answer = Ended Conflict 1; written = [] })
+    -- an empty override, then one in conflict
+    ∷ row (run (codeOf (scopesOf (1 ∷ 2 ∷ 2 ∷ 2 ∷ 2 ∷ 5 ∷ 0 ∷ 0 ∷ 0 ∷ 9 ∷ 5 ∷ 0 ∷ 0 ∷ 0 ∷ 8 ∷ 19 ∷ 255 ∷ 0 ∷ 255 ∷ 255 ∷ 0 ∷ 19 ∷ 255 ∷ 1 ∷ 255 ∷ 255 ∷ 1 ∷ 1 ∷ 2 ∷ 2 ∷ 3 ∷ 0 ∷ 8 ∷ 2 ∷ 9 ∷ 2 ∷ 7 ∷ 0 ∷ 0 ∷ 19 ∷ 0 ∷ 0 ∷ 255 ∷ 255 ∷ 0 ∷ 19 ∷ 0 ∷ 1 ∷ 255 ∷ 255 ∷ 1 ∷ 19 ∷ 255 ∷ 0 ∷ 255 ∷ 255 ∷ 2 ∷ []))) 1 [] 6) (record { answer = Ended Conflict 1; written = [] })
+    -- an empty override of a variable without clauses
+    ∷ row (run (codeOf (scopesOf (1 ∷ 2 ∷ 2 ∷ 1 ∷ 2 ∷ 2 ∷ 3 ∷ 0 ∷ 8 ∷ 2 ∷ 7 ∷ 0 ∷ 0 ∷ 19 ∷ 0 ∷ 0 ∷ 255 ∷ 255 ∷ 0 ∷ 19 ∷ 255 ∷ 0 ∷ 255 ∷ 255 ∷ 1 ∷ []))) 1 [] 6) (record { answer = Ended Empty 2; written = [] })
+    -- a rule that does not hold, as an override: no is handed over
+    ∷ row (run (codeOf (scopesOf (1 ∷ 2 ∷ 1 ∷ 4 ∷ 1 ∷ 19 ∷ 255 ∷ 0 ∷ 255 ∷ 255 ∷ 0 ∷ 1 ∷ 2 ∷ 1 ∷ 3 ∷ 0 ∷ 8 ∷ 1 ∷ 7 ∷ 0 ∷ 0 ∷ 20 ∷ 0 ∷ 0 ∷ 255 ∷ 0 ∷ 1 ∷ 19 ∷ 255 ∷ 0 ∷ 255 ∷ 255 ∷ 1 ∷ []))) 1 [] 3) (record { answer = Values 2 3; written = (1 ∷ 0 ∷ 0 ∷ []) })
+    -- an override that gives a value, of a scope that ends empty itself
+    ∷ row (run (codeOf (scopesOf (1 ∷ 2 ∷ 2 ∷ 2 ∷ 2 ∷ 5 ∷ 0 ∷ 0 ∷ 0 ∷ 1 ∷ 19 ∷ 255 ∷ 1 ∷ 255 ∷ 255 ∷ 0 ∷ 1 ∷ 2 ∷ 2 ∷ 3 ∷ 0 ∷ 5 ∷ 0 ∷ 0 ∷ 0 ∷ 5 ∷ 7 ∷ 0 ∷ 0 ∷ 19 ∷ 0 ∷ 1 ∷ 255 ∷ 255 ∷ 0 ∷ 19 ∷ 255 ∷ 0 ∷ 255 ∷ 255 ∷ 1 ∷ []))) 1 [] 6) (record { answer = Ended Empty 2; written = [] })
     -- an exception to an exception
     ∷ row (run (codeOf (scopesOf (1 ∷ 2 ∷ 2 ∷ 5 ∷ 0 ∷ 0 ∷ 0 ∷ 1 ∷ 4 ∷ 1 ∷ 5 ∷ 0 ∷ 0 ∷ 0 ∷ 2 ∷ 4 ∷ 1 ∷ 5 ∷ 0 ∷ 0 ∷ 0 ∷ 3 ∷ 19 ∷ 255 ∷ 0 ∷ 255 ∷ 255 ∷ 0 ∷ 19 ∷ 255 ∷ 0 ∷ 0 ∷ 1 ∷ 2 ∷ 19 ∷ 255 ∷ 0 ∷ 1 ∷ 3 ∷ 4 ∷ []))) 0 [] 6) (record { answer = Values 1 6; written = (2 ∷ 0 ∷ 0 ∷ 0 ∷ 0 ∷ 3 ∷ []) })
     ∷ []

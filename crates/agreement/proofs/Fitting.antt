@@ -221,12 +221,12 @@ module _ (book : List Scope) (i : ℕ) (earlier : List Block)
         ∙ next join later tt
         ∙ fits-codes es u (h .1) (omega arith) k
 
-  module _ (typed : (t : Target) → WellTyped book s (tree s t) (targetType book s t)) (near : (t : Target) → size (tree s t) + 2 < 65536) where
+  module _ (typed : (t : Target) → WellTyped book s (tree s t) (targetType book s t)) (near : (t : Target) → size (tree s t) + 4 < 65536) where
     fits-variable : (x : ℕ) → x < length (s .variables) → Passes (variableCode s x)
     unfolding variableCode
     fits-variable x l k =
         let t = tree s (ownTarget x) in
-        let close : size t + 2 < 65536 = near (ownTarget x) in
+        let close : size t + 2 < 65536 = omega (arith, near (ownTarget x)) in
         let rest : List ℕ = 41 ∷ x ∷ k in
         next (jumpIfGiven x (size t + 2)) (code t rest)
         (l, (close, lands-code t rest (size t + 2) 2 refl (lands-over (one (store x)) k 2 0 (omega arith) (lands-here k))))
@@ -239,12 +239,16 @@ module _ (book : List Scope) (i : ℕ) (earlier : List Block)
     fits-overrides c l v [] h k = refl
     fits-overrides c l v (x ∷ xs) h k =
         let t = tree s (calledTarget c v) in
-        let close : size t + 2 < 65536 = near (calledTarget c v) in
+        let close : size t + 4 < 65536 = near (calledTarget c v) in
         let later = overridesCode s c (suc v) xs k in
+        let stored : List ℕ = 42 ∷ c ∷ v ∷ later in
         let rest : fit later ≡ fit k = fits-overrides c l (suc v) xs (omega arith) k in
         ⊎-elim
         (λ (q : hasClause s (calledTarget c v) ≡ true). rw q
-        (fits-code t _ (typed (calledTarget c v)) (omega arith) (42 ∷ c ∷ v ∷ later)
+        (next (beginTry (size t + 4)) (code t (37 ∷ stored))
+        (close, lands-code t (37 ∷ stored) (size t + 4) 4 refl (lands-over (more endTry (one (override c v))) later 4 0 (omega arith) (lands-here later)))
+        ∙ fits-code t _ (typed (calledTarget c v)) (omega arith) (37 ∷ stored)
+        ∙ next endTry stored tt
         ∙ next (override c v) later (called-there c v l (omega arith))
         ∙ rest))
         (λ (q : hasClause s (calledTarget c v) ≡ false). rw q rest)

@@ -86,8 +86,9 @@ unfolding overridesCode
 overrides-sequence s c v [] = nothing
 overrides-sequence s c v (x ∷ xs) =
     let rest = overrides-sequence s c (suc v) xs in
+    let t = tree s (calledTarget c v) in
     either (hasClause s (calledTarget c v))
-    (followed (code-sequence (tree s (calledTarget c v))) (more (override c v) rest))
+    (more (beginTry (size t + 4)) (followed (code-sequence t) (more endTry (more (override c v) rest))))
     rest
 
 call-sequence : (book : List Scope) (s : Scope) (c : ℕ) → Sequence (callCode book s c)

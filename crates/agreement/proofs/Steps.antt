@@ -17,6 +17,7 @@ use Rattle.calculus.specs.declared.Value.{Value}
 use Rattle.calculus.specs.declared.Outcome.{Outcome}
 use Rattle.calculus.specs.declared.Outcome.the-variants.{Gives, Ends}
 use Rattle.calculus.specs.declared.Joined.the-variants.{One}
+use Rattle.answers.specs.declared.Cause.the-variants.{Empty, Conflict, OutOfRange}
 use Rattle.calculus.specs.declared.Given.{Given}
 use Rattle.calculus.specs.declared.Given.the-variants.{Absent, Present}
 use Rattle.order.specs.Order.{among}
@@ -32,7 +33,8 @@ use Rattle.book.specs.declared.Variable.{Variable}
 use Rattle.book.specs.declared.Target.{Target}
 use Rattle.answers.specs.declared.Judged.the-variants.{Accepted}
 use Rattle.acceptance.proofs.Orders.{accepted-book}
-use Rattle.evaluation.specs.Run.{Entered, values, ended, State, envOf, Handing, handed, failed, inFront, evaluated, handing, runSteps, runScope}
+use Rattle.evaluation.specs.Handing.{hands, fallsBack, Handing, handed, failed, inFront, handingBy, handing}
+use Rattle.evaluation.specs.Run.{Entered, values, ended, State, envOf, runStepsBy, runSteps, runScope}
 use Rattle.evaluation.specs.Types.{HasType, Fitting, OutcomeFits}
 use Rattle.evaluation.specs.Readiness.{calleeOf, handsOver, withVariable, withCall, Reached, TermReady, TreesReady, Done, Progress}
 use Rattle.evaluation.proofs.Running.{variable-turn, variable-end, call-turn, call-failed, call-end, call-number}
@@ -40,14 +42,14 @@ use Rattle.evaluation.proofs.Soundness.{ready-typed}
 use Rattle.evaluation.proofs.Readiness.{accepted-progress, accepted-new, accepted-trees, accepted-handed}
 use Rattle.translation.specs.Code.{size, code}
 use Rattle.translation.specs.Measures.{Runnable}
-use Rattle.translation.specs.Blocks.{variableCode, overridesCode, callCode, stepCode, stepsCode}
+use Rattle.translation.specs.Blocks.{variableCode, overrideCode, overridesCode, callCode, stepCode, stepsCode}
 use Rattle.translation.proofs.Sizes.{code-behind}
 use Rattle.machine.specs.Machine.{Callee, waiting, entered, Memory, ownAt, calleeAt, withOwn, withCallee, jumpedIfGiven, Ran, ran, Surroundings}
 use Rattle.machine.specs.Run.{follow, exec}
 use Rattle.machine.proofs.Steps.{exec-past, step-store, step-override, step-enter, step-jump-if-given}
 use Rattle.agreement.specs.Related.{nothingHanded, Related, SameSurroundings}
 use Rattle.agreement.proofs.Memory.{withCallees, related-given, related-stored, related-entered, related-end, term-meets}
-use Rattle.agreement.proofs.Terms.{after, run-tree}
+use Rattle.agreement.proofs.Terms.{after, run-tree, afterOverride, run-override}
 
 -- One step, where the memory is related to the state
 
@@ -62,7 +64,7 @@ module _ (book : List Scope) (enter : ℕ → List Given → Entered) (s : Scope
     by-given : exec env (variableCode s x k) 0 [] [] m
         ≡ follow (jumpedIfGiven (ownAt m x) (size t + 2) [] [] m) (exec env (code t (41 ∷ x ∷ k)))
     unfolding variableCode
-    by-given = step-jump-if-given env [] [] m x (size t + 2) (code t (41 ∷ x ∷ k)) (runnable (ownTarget x) .near)
+    by-given = step-jump-if-given env [] [] m x (size t + 2) (code t (41 ∷ x ∷ k)) (omega (arith, runnable (ownTarget x) .near))
 
     given-run : (v : Value) → getD gs x Absent ≡ Present v → exec env (variableCode s x k) 0 [] [] m ≡ exec env k 0 [] [] m
     unfolding exec
@@ -116,7 +118,7 @@ module _ (book : List Scope) (enter : ℕ → List Given → Entered) (s : Scope
     after-handing (handed hs) front = exec env (43 ∷ c ∷ k) 0 [] [] (handing-over (front ++ hs))
     after-handing (failed d) front = ran (ended d (m .count))
 
-    one-more : (g : Given) (h : Handing) (front : List Given) → after-handing h (front ++ g ∷ []) ≡ after-handing (inFront g h) front
+    one-more : (g : Given) (h : Handing) (front : List Given) → after-handing h (front ++ g ∷ []) ≡ after-handing (inFront (hands g) h) front
     one-more g (handed hs) front = ap (λ (gs₁ : List Given). exec env (43 ∷ c ∷ k) 0 [] [] (handing-over gs₁)) (append-snoc front g hs)
     one-more g (failed d) front = refl
 
@@ -132,10 +134,10 @@ module _ (book : List Scope) (enter : ℕ → List Given → Entered) (s : Scope
         ∙ ap handing-over (set-at front Absent rest (Present y) v e)))
 
     tree-run : (v : ℕ) (r : List ℕ) (hs : List Given)
-        → exec env (code (tree s (calledTarget c v)) r) 0 [] [] (handing-over hs)
-        ≡ after env (eval (envOf st) (tree s (calledTarget c v))) r (handing-over hs)
+        → exec env (overrideCode (tree s (calledTarget c v)) c v r) 0 [] [] (handing-over hs)
+        ≡ afterOverride env (fallsBack (eval (envOf st) (tree s (calledTarget c v)))) c v r (handing-over hs)
     tree-run v r hs =
-        run-tree env (envOf st) (handing-over hs) (tree s (calledTarget c v)) (calledTypeAt book s c v) r
+        run-override env (envOf st) (handing-over hs) (tree s (calledTarget c v)) (calledTypeAt book s c v) c v r
         (term-meets book s gs steps st m related done (set (m .callees) c (waiting hs)) (held-others hs)
         (tree s (calledTarget c v)) (calledTypeAt book s c v) (ready v))
         (runnable (calledTarget c v))
@@ -143,21 +145,31 @@ module _ (book : List Scope) (enter : ℕ → List Given → Entered) (s : Scope
     abbrev absent : List Variable → List Given
     absent xs = map (λ x. Absent) xs
 
-    -- the value of an override's tree, or its end
+    absent-run : (xs : List Variable) (front : List Given) (r : List ℕ) (h : Handing)
+        → ((g : Given) → exec env r 0 [] [] (handing-over ((front ++ g ∷ []) ++ absent xs)) ≡ after-handing h (front ++ g ∷ []))
+        → exec env r 0 [] [] (handing-over (front ++ Absent ∷ absent xs)) ≡ after-handing (inFront (hands Absent) h) front
+    absent-run xs front r h more =
+        ap (λ (hs : List Given). exec env r 0 [] [] (handing-over hs)) (sym (append-snoc front Absent (absent xs)))
+        ∙ more Absent
+        ∙ one-more Absent h front
+
+    -- what an override's tree hands over, or its end
     evaluated-run : (v : ℕ) (xs : List Variable) (front : List Given) (r : List ℕ) (h : Handing) → length front ≡ v
         → ((g : Given) → exec env r 0 [] [] (handing-over ((front ++ g ∷ []) ++ absent xs)) ≡ after-handing h (front ++ g ∷ []))
         → (o : Outcome) → OutcomeFits (calledTypeAt book s c v) o
-        → after env o (42 ∷ c ∷ v ∷ r) (handing-over (front ++ Absent ∷ absent xs)) ≡ after-handing (evaluated o h) front
+        → afterOverride env (fallsBack o) c v r (handing-over (front ++ Absent ∷ absent xs)) ≡ after-handing (inFront (fallsBack o) h) front
     evaluated-run v xs front r h e more (Gives y) fits =
         override-run v y front (absent xs) r e fits
         ∙ ap (λ (hs : List Given). exec env r 0 [] [] (handing-over hs)) (sym (append-snoc front (Present y) (absent xs)))
         ∙ more (Present y)
         ∙ one-more (Present y) h front
-    evaluated-run v xs front r h e more (Ends d) fits = refl
+    evaluated-run v xs front r h e more (Ends Empty) fits = absent-run xs front r h more
+    evaluated-run v xs front r h e more (Ends Conflict) fits = refl
+    evaluated-run v xs front r h e more (Ends (OutOfRange o)) fits = refl
 
     overrides-run : (v : ℕ) (xs : List Variable) (front : List Given) → length front ≡ v
         → exec env (overridesCode s c v xs (43 ∷ c ∷ k)) 0 [] [] (handing-over (front ++ absent xs)) ≡ after-handing (handing (envOf st) s c v xs) front
-    unfolding overridesCode handing
+    unfolding overridesCode handingBy
     overrides-run v [] front e = refl
     overrides-run v (x ∷ xs) front e =
         let o = eval (envOf st) (tree s (calledTarget c v)) in
@@ -168,13 +180,10 @@ module _ (book : List Scope) (enter : ℕ → List Given → Entered) (s : Scope
         ⊎-elim
         (λ (q : hasClause s (calledTarget c v) ≡ true).
         rw q
-        (tree-run v (42 ∷ c ∷ v ∷ r) (front ++ Absent ∷ absent xs)
+        (tree-run v r (front ++ Absent ∷ absent xs)
         ∙ evaluated-run v xs front r h e more o (ready-typed st (tree s (calledTarget c v)) (calledTypeAt book s c v) (ready v))))
         (λ (q : hasClause s (calledTarget c v) ≡ false).
-        rw q
-        (ap (λ (hs : List Given). exec env r 0 [] [] (handing-over hs)) (sym (append-snoc front Absent (absent xs)))
-        ∙ more Absent
-        ∙ one-more Absent h front))
+        rw q (absent-run xs front r h more))
         (decide (hasClause s (calledTarget c v)))
 
     -- after the entry
@@ -331,7 +340,7 @@ module _ (bytes : List ℕ) (n : ℕ) (accepted : judge bytes ≡ Accepted n) (i
       → Related (scopesOf bytes) (scopeAt (scopesOf bytes) i) gs steps st m
       → exec env (stepsCode (scopesOf bytes) (scopeAt (scopesOf bytes) i) xs []) 0 [] [] m
       ≡ ran (runSteps (scopesOf bytes) (runScope (scopesOf bytes)) (scopeAt (scopesOf bytes) i) gs xs st)
-  unfolding stepsCode exec runSteps
+  unfolding stepsCode exec runStepsBy
   steps-run [] steps st m split reached related =
       let p = accepted-progress bytes n accepted i low gs fitting [] st reached in
       related-end book s gs steps st m related (p .done .ownLength) (λ w l.

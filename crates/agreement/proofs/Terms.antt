@@ -1,6 +1,7 @@
 -- The code of a term does what the term says.
 --     run-code      from any stack and any open tries with room left, the machine goes on as the term's outcome says
 --     run-tree      the same for a whole tree, from an empty stack and without open tries
+--     run-override  and for the code of an override: its tree in a try, which lands behind the store
 -- Assumes nothing.
 use Prim.Native.Nat.{ℕ, suc, _+_, _-_, _≤_, _<_}
 use mathlib.Core.Path.{_≡_, refl, ap, _∙_}
@@ -27,6 +28,7 @@ use Rattle.calculus.specs.declared.Joined.{Joined}
 use Rattle.calculus.specs.declared.Joined.the-variants.{Nothing, One, Many}
 use Rattle.calculus.specs.declared.Gathered.{Gathered}
 use Rattle.calculus.specs.declared.Gathered.the-variants.{SoFar, Ended}
+use Rattle.calculus.specs.declared.Given.the-variants.{Absent, Present}
 use Rattle.calculus.specs.declared.Unary.{Unary}
 use Rattle.calculus.specs.declared.Unary.the-variants.{Not, Negate}
 use Rattle.calculus.specs.declared.Binary.{Binary}
@@ -37,10 +39,12 @@ use Rattle.book.specs.Syntax.{sameType}
 use Rattle.book.specs.Typing.{unaryType, operandType}
 use Rattle.book.specs.declared.ValueType.{ValueType}
 use Rattle.book.specs.declared.ValueType.the-variants.{YesNo, Numeric}
+use Rattle.evaluation.specs.Handing.{Handed, hands, stops, fallsBack}
 use Rattle.evaluation.specs.Run.{ended}
 use Rattle.evaluation.specs.Types.{HasType, OutcomeFits, Typed, AllTyped}
 use Rattle.evaluation.proofs.Soundness.{typed-map, eval-typed}
 use Rattle.translation.specs.Code.{unaryKind, binaryKind, far, ifAny, size, sizes, code, codes}
+use Rattle.translation.specs.Blocks.{overrideCode}
 use Rattle.translation.specs.Measures.{leaves, allLeaves, defaults, allDefaults, Sayable, AllSayable, Runnable}
 use Rattle.translation.proofs.Sizes.{Behind, behind-both, behind-one, behind-far, landing, closing, behind-closing, tail, tailSize, code-behind, tail-behind, code-length, codes-length}
 use Rattle.machine.specs.Machine.{Memory, Try, Ran, ran, Surroundings, answered, raised}
@@ -308,3 +312,41 @@ run-tree env e m t u k h r =
     let d = r .few in
     run-code env m e t u k [] [] h (r .sayable) tt (record { near = omega arith; stack = omega arith; tries = omega arith })
     ∙ no-tries env (eval e t) k m
+
+-- Overrides
+
+-- how a call goes on behind the code of an override, at the bytes k: a value is stored, and where nothing is handed over nothing is
+abbrev pub afterOverride : Surroundings → Handed → ℕ → ℕ → List ℕ → Memory → Ran
+afterOverride env (hands (Present y)) c v k m = exec env (42 ∷ c ∷ v ∷ k) 0 (One y ∷ []) [] m
+afterOverride env (hands Absent) c v k m = exec env k 0 [] [] m
+afterOverride env (stops d) c v k m = ran (ended d (m .count))
+
+-- the try lands behind the store
+abbrev open-try : List ℕ → Try
+open-try k = record { lands = length k; height = 0 }
+
+one-try : (env : Surroundings) (x : Outcome) (c v : ℕ) (k : List ℕ) (m : Memory)
+    → resume env m x (37 ∷ 42 ∷ c ∷ v ∷ k) [] (open-try k ∷ []) ≡ afterOverride env (fallsBack x) c v k m
+unfolding raised
+one-try env (Gives y) c v k m = step-end-try env (One y ∷ []) [] m (open-try k) (42 ∷ c ∷ v ∷ k)
+one-try env (Ends Empty) c v k m =
+    let i : length (37 ∷ 42 ∷ c ∷ v ∷ k) - length k ≡ 4 = omega arith in
+    raise-lands env m (37 ∷ 42 ∷ c ∷ v ∷ k) [] (open-try k) [] (omega arith) (omega arith)
+    ∙ rw i (jump-behind env m 4 (37 ∷ 42 ∷ c ∷ v ∷ k) k [] [] (record { rest = refl; counts = omega arith }))
+one-try env (Ends Conflict) c v k m = refl
+one-try env (Ends (OutOfRange s)) c v k m = refl
+
+pub run-override : (env : Surroundings) (e : Env) (m : Memory) (t : Term) (u : ValueType) (c v : ℕ) (k : List ℕ)
+    → Typed (OwnMeets e m) (CalledMeets e m) t u → Runnable t
+    → exec env (overrideCode t c v k) 0 [] [] m ≡ afterOverride env (fallsBack (eval e t)) c v k m
+run-override env e m t u c v k h r =
+    let stored : List ℕ = 37 ∷ 42 ∷ c ∷ v ∷ k in
+    let p = r .near in
+    let q = r .shallow in
+    let d = r .few in
+    let lands : length (code t stored) - (size t + 4) ≡ length k = omega (arith, code-length t stored) in
+    step-try env [] [] m (size t + 4) (code t stored) p (omega arith)
+    ∙ rw lands
+    (run-code env m e t u stored [] (open-try k ∷ []) h (r .sayable) (omega arith, omega arith, tt)
+    (record { near = omega arith; stack = omega arith; tries = omega arith })
+    ∙ one-try env (eval e t) c v k m)

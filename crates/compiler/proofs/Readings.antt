@@ -6,7 +6,7 @@
 --     compiled-unchanged    of anything but a length: not one byte is written
 --     compiled-size         the memory keeps its length
 --     compiled-length       the length in the answer is that of the bytes written
---     compiled-most         and is 185,051 at most
+--     compiled-most         and is 201,435 at most
 -- Assumes nothing.
 use Prim.Native.Nat.{ℕ, _≤_}
 use mathlib.Core.Path.{_≡_, refl, sym, ap}
@@ -67,12 +67,12 @@ module _ (bytes memory : List ℕ) where
   pub compiled-length : producedNumbers (reply .answer) .length ≡ length (reply .written)
   compiled-length = within-length compiled-within
 
-  most : (p : Production) → Replied bytes (length memory) p → producedNumbers (p .answer) .length ≤ 185051
+  most : (p : Production) → Replied bytes (length memory) p → producedNumbers (p .answer) .length ≤ 201435
   most p (Replied.faulty f h) = omega arith
   most p (Replied.short n h l) = omega arith
   most p (Replied.whole n h l) = code-max bytes n h
 
-  pub compiled-most : producedNumbers (reply .answer) .length ≤ 185051
+  pub compiled-most : producedNumbers (reply .answer) .length ≤ 201435
   compiled-most = most reply (compiled-replied bytes (length memory))
 
   in-code : (size : ℕ) (p : Production) → Replied bytes (length memory) p → p .answer ≡ Written size → InCode bytes memory size (memoryAfter p memory)

@@ -28,7 +28,7 @@ use Rattle.acceptance.proofs.Acceptance.{accepted-faultless}
 use Rattle.acceptance.proofs.Orders.{accepted-book}
 use Rattle.links.specs.Links.{Sound, Blank}
 use Rattle.translation.specs.Code.{size, code}
-use Rattle.translation.specs.Blocks.{typeByte, variableCode, overridesCode, callCode, stepCode, stepsCode, variablesCode, subScopesCode, blockCode}
+use Rattle.translation.specs.Blocks.{typeByte, variableCode, overrideCode, overridesCode, callCode, stepCode, stepsCode, variablesCode, subScopesCode, blockCode}
 use Rattle.translation.specs.Blocks.{blocksCode, codeOf}
 use Rattle.translation.proofs.Sizes.{code-length}
 use Rattle.translation.proofs.Runnable.{tree-runnable}
@@ -74,11 +74,11 @@ module _ (bytes : List ℕ) (i : ℕ) where
   variable-length x k = omega (arith, code-length (treeAt bytes i 255 x) (41 ∷ x ∷ k))
 
   override-length : (c v : ℕ) (k : List ℕ) → length (overridePiece bytes i c v k) ≡ overrideSize bytes i c v + length k
-  unfolding overridePiece overrideSize
+  unfolding overridePiece overrideSize bytesOf
   override-length c v k = go (hasClause (scopeAt (scopesOf bytes) i) (calledTarget c v))
     where
-      go : (b : Bool) → length (cond b (code (treeAt bytes i c v) (42 ∷ c ∷ v ∷ k)) k) ≡ cond b (size (treeAt bytes i c v) + 3) 0 + length k
-      go true = omega (arith, code-length (treeAt bytes i c v) (42 ∷ c ∷ v ∷ k))
+      go : (b : Bool) → length (cond b (overrideCode (treeAt bytes i c v) c v k) k) ≡ cond b (size (treeAt bytes i c v) + 7) 0 + length k
+      go true = omega (arith, code-length (treeAt bytes i c v) (37 ∷ 42 ∷ c ∷ v ∷ k))
       go false = omega arith
 
   call-length : (c : ℕ) (k : List ℕ) → length (callPiece bytes i c k) ≡ callSize bytes i c + length k
@@ -205,32 +205,32 @@ module _ (bytes : List ℕ) (n : ℕ) (ok : judge bytes ≡ judged.Accepted n) w
     unfolding treeAt
     variable-bound x = omega (arith, variable-size bytes i x, tree-runnable bytes n ok i here (calledTarget 255 x) .near)
 
-    override-bound : (c v : ℕ) → overrideSize bytes i c v ≤ 65537
+    override-bound : (c v : ℕ) → overrideSize bytes i c v ≤ 65538
     unfolding overrideSize treeAt
     override-bound c v = go (hasClause (scopeAt (scopesOf bytes) i) (calledTarget c v))
       where
-        go : (b : Bool) → cond b (size (treeAt bytes i c v) + 3) 0 ≤ 65537
+        go : (b : Bool) → cond b (size (treeAt bytes i c v) + 7) 0 ≤ 65538
         go true = omega (arith, tree-runnable bytes n ok i here (calledTarget c v) .near)
         go false = omega arith
 
-    call-bound : (c : ℕ) → callSize bytes i c ≤ 2097186
+    call-bound : (c : ℕ) → callSize bytes i c ≤ 2097218
     call-bound c =
         omega (
           arith,
           call-size bytes i c,
-          total-bound (overrideSize bytes i c) 65537 0 (calledCount bytes i c) (λ v l. override-bound c v),
+          total-bound (overrideSize bytes i c) 65538 0 (calledCount bytes i c) (λ v l. override-bound c v),
           accepted .within (subScopeAt (scopesOf bytes) i c) .variables,
         )
 
-    step-bound : (x : ℕ) → stepSize bytes i x ≤ 2097186
+    step-bound : (x : ℕ) → stepSize bytes i x ≤ 2097218
     unfolding stepSize
     step-bound x = go (ltb x (length (scopeAt (scopesOf bytes) i .variables)))
       where
-        go : (b : Bool) → cond b (variableSize bytes i x) (callSize bytes i (x - length (scopeAt (scopesOf bytes) i .variables))) ≤ 2097186
+        go : (b : Bool) → cond b (variableSize bytes i x) (callSize bytes i (x - length (scopeAt (scopesOf bytes) i .variables))) ≤ 2097218
         go true = omega (arith, variable-bound x)
         go false = call-bound (x - length (scopeAt (scopesOf bytes) i .variables))
 
-    block-bound : blockSize bytes i ≤ 83887522
+    block-bound : blockSize bytes i ≤ 83888802
     unfolding orderedSize stepCount
     block-bound =
         omega (
@@ -241,7 +241,7 @@ module _ (bytes : List ℕ) (n : ℕ) (ok : judge bytes ≡ judged.Accepted n) w
           heads-size bytes i 3,
           variables-counted bytes i,
           sub-scopes-counted bytes i,
-          total-bound (orderedSize bytes i) 2097186 0 (stepCount (scopeAt (scopesOf bytes) i)) (λ m l. step-bound (getD (stepOrder (scopeAt (scopesOf bytes) i)) m 0)),
+          total-bound (orderedSize bytes i) 2097218 0 (stepCount (scopeAt (scopesOf bytes) i)) (λ m l. step-bound (getD (stepOrder (scopeAt (scopesOf bytes) i)) m 0)),
           total-bound pair 2 0 (headCount bytes i 2) (λ m l. omega arith),
           total-bound pair 2 0 (headCount bytes i 3) (λ m l. omega arith),
           accepted .within i .variables,
@@ -255,7 +255,7 @@ module _ (bytes : List ℕ) (n : ℕ) (ok : judge bytes ≡ judged.Accepted n) w
         arith,
         accepted .count,
         accepted .scopes,
-        total-bound (orderedBlockSize bytes) 83887522 0 (length (scopesOf bytes))
+        total-bound (orderedBlockSize bytes) 83888802 0 (length (scopesOf bytes))
             (λ m l. block-bound (getD (blocks (scopesOf bytes)) m 0) (block-below m (omega (arith, accepted .count)))),
       )
 

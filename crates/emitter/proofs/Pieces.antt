@@ -16,7 +16,7 @@ use Rattle.book.specs.References.{scopeAt}
 use Rattle.book.specs.Steps.{dependsOn, stepCount, stepOrder}
 use Rattle.trees.specs.Chains.{clauseFor}
 use Rattle.translation.specs.Code.{size, code}
-use Rattle.emitter.specs.Emission.{Emits, Emitted, one, two, total}
+use Rattle.emitter.specs.Emission.{Emits, Emitted, two, jump, total}
 use Rattle.emitter.specs.Pieces.{treeAt, variablePiece, variableSize, overridePiece, overrideSize, calledCount, callPiece, callSize}
 use Rattle.emitter.specs.Pieces.{stepPiece, stepSize, orderedPiece, orderedSize, stepsPiece, stepsSize, headCount, headByte, headPiece, pair}
 use Rattle.emitter.specs.Pieces.{headsPiece, headsSize, blockPiece, blockSize, Ordered}
@@ -49,14 +49,18 @@ module _ (bytes : List ℕ) (i c v : ℕ) where
   override-none h = alike nothing (λ k. rw h refl) (rw h refl)
 
   module _ (h : clauseFor bytes i c v ≡ true) where
-    pub override-size : overrideSize bytes i c v ≡ size (treeAt bytes i c v) + 3
+    pub override-size : overrideSize bytes i c v ≡ size (treeAt bytes i c v) + 7
     unfolding overrideSize clauseFor
     override-size = rw h refl
 
-    pub override-some : {s m₁ m₂ o : List ℕ} {at p₁ p₂ q : ℕ} → Emits s at (two c v) 2 p₁ m₁ → Emits m₁ p₁ (one 42) 1 p₂ m₂
-        → Emitted m₂ p₂ (treeAt bytes i c v) q o → Emits s at (overridePiece bytes i c v) (overrideSize bytes i c v) q o
-    unfolding overridePiece clauseFor
-    override-some a b e = alike (then (then a b) e) (λ k. rw h refl) (omega (arith, override-size))
+    pub override-some : {s m₁ m₂ m₃ o : List ℕ} {at p₁ p₂ p₃ q d : ℕ} → Emits s at (two c v) 2 p₁ m₁ → Emits m₁ p₁ (two 37 42) 2 p₂ m₂
+        → Emitted m₂ p₂ (treeAt bytes i c v) p₃ m₃ → d ≡ p₃ - p₂ + 4 → Emits m₃ p₃ (jump 36 d) 3 q o
+        → Emits s at (overridePiece bytes i c v) (overrideSize bytes i c v) q o
+    unfolding overridePiece clauseFor jump
+    override-some {d = d} a b e f g =
+        let l = e .next in
+        let z : d ≡ size (treeAt bytes i c v) + 4 = omega arith in
+        alike (then (then (then a b) e) (rw z at g)) (λ k. rw h refl) (omega (arith, override-size))
 
 module _ (bytes : List ℕ) (i c : ℕ) where
   pub call-size : callSize bytes i c ≡ 2 + total (overrideSize bytes i c) 0 (calledCount bytes i c)

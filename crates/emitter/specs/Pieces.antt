@@ -21,7 +21,7 @@ use Rattle.book.specs.declared.Consequence.{Consequence}
 use Rattle.answers.specs.declared.Judged.the-variants.{Accepted}
 use Rattle.links.specs.Links.{headOf, inChain, Sound}
 use Rattle.translation.specs.Code.{far, ifAny, size, sizes, code, codes}
-use Rattle.translation.specs.Blocks.{typeByte}
+use Rattle.translation.specs.Blocks.{typeByte, overrideCode}
 use Rattle.emitter.specs.Emission.{Emits, each, total}
 
 -- Nodes
@@ -117,13 +117,13 @@ variablePiece bytes i x k = 44 ∷ x ∷ bytesOf 2 (size (treeAt bytes i 255 x) 
 unfoldable pub variableSize : List ℕ → ℕ → ℕ → ℕ
 variableSize bytes i x = size (treeAt bytes i 255 x) + 6
 
--- "each tree with 42"; a target without clauses has none
+-- "each override tree has 36 before it and 37, then 42, after it"; a target without clauses has none
 unfoldable pub overridePiece : List ℕ → ℕ → ℕ → ℕ → List ℕ → List ℕ
 overridePiece bytes i c v k =
-    cond (hasClause (scopeAt (scopesOf bytes) i) (calledTarget c v)) (code (treeAt bytes i c v) (42 ∷ c ∷ v ∷ k)) k
+    cond (hasClause (scopeAt (scopesOf bytes) i) (calledTarget c v)) (overrideCode (treeAt bytes i c v) c v k) k
 
 unfoldable pub overrideSize : List ℕ → ℕ → ℕ → ℕ → ℕ
-overrideSize bytes i c v = cond (hasClause (scopeAt (scopesOf bytes) i) (calledTarget c v)) (size (treeAt bytes i c v) + 3) 0
+overrideSize bytes i c v = cond (hasClause (scopeAt (scopesOf bytes) i) (calledTarget c v)) (size (treeAt bytes i c v) + 7) 0
 
 -- the number of variables of the scope that sub-scope c names
 abbrev pub calledCount : List ℕ → ℕ → ℕ → ℕ

@@ -536,7 +536,7 @@ fn emit_variable(
     put_two(out, r, KIND_JUMP_IF_GIVEN, x)
 }
 
-// The override of variable v of sub-scope k of scope i; nothing where no clause has that target.
+// The override of variable v of sub-scope k of scope i, in a try that lands behind its store; nothing where no clause has that target.
 fn emit_override(
     book: &[u8],
     index: &[u16],
@@ -555,8 +555,9 @@ fn emit_override(
         return at;
     }
     let p = put_two(out, at, k, v);
-    let q = put_one(out, p, KIND_OVERRIDE);
-    emit_tree(book, index, links, i, k, v, out, q)
+    let q = put_two(out, p, KIND_END_TRY, KIND_OVERRIDE);
+    let r = emit_tree(book, index, links, i, k, v, out, q);
+    put_far(out, r, KIND_TRY, r - q + 4)
 }
 
 // The step of the call of sub-scope k of scope i.

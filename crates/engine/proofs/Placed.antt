@@ -1,6 +1,6 @@
 -- The numbers of every answer have room in one number of 64 bits, whatever the bytes.
 --     judge-placed       a book has 32 scopes at most
---     compile-placed, tabulate-placed     its code 185,051 bytes, a table 643,072
+--     compile-placed, tabulate-placed     its code 201,435 bytes, a table 643,072
 --     evaluate-placed, run-placed    a count is 4,096 at most, and the results are 192 bytes long at most
 -- Assumes nothing.
 use Prim.Native.Nat.{ℕ, _<_, _≤_}

@@ -33,7 +33,7 @@ use Rattle.lists.proofs.Lengths.{length-most}
 use Rattle.acceptance.proofs.Acceptance.{accepted-count}
 use Rattle.acceptance.proofs.Orders.{accepted-book}
 use Rattle.evaluation.specs.Run.{Entered, values, ended, runScope}
-use Rattle.evaluation.specs.Evaluate.{countIn, lengthIn, Reply, refuse, replyOf, fitting, onInputs, asked, evaluate}
+use Rattle.evaluation.specs.Evaluate.{countIn, lengthIn, Reply, refuse, replyOf, fitting, onInputs, askedBy, asked, evaluateBy, evaluate}
 use Rattle.evaluation.specs.Answers.{Asked, Entering, Replied, InValues, InEnd}
 use Rattle.answers.specs.declared.Refusal.{Refusal}
 use Rattle.answers.specs.declared.Answer.{Answer}
@@ -68,7 +68,7 @@ module _ (bytes : List ℕ) (i : ℕ) (list : List ℕ) (room : ℕ) where
       (decide (leb (resultLength variables) room))
 
   on-asked : (n : ℕ) → judge bytes ≡ judged.Accepted n → Replied bytes i list room (asked (scopesOf bytes) i list room)
-  unfolding asked
+  unfolding askedBy
   on-asked n h =
       let book = scopesOf bytes in
       let count : n ≡ length book = accepted-count bytes n h in
@@ -84,7 +84,7 @@ module _ (bytes : List ℕ) (i : ℕ) (list : List ℕ) (room : ℕ) where
   on-judged (judged.Refused f) h = Replied.faulty f h
 
   pub replied : Replied bytes i list room (evaluate bytes i list room)
-  unfolding evaluate
+  unfolding evaluateBy
   replied = on-judged (judge bytes) refl
 
 -- Parts of an answer

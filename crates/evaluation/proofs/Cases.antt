@@ -8,6 +8,7 @@ use mathlib.Core.List.{List}
 use native.Mathlib.Omega.{arith}
 use lib.ListN.{length}
 use borrow.Author.Tests.{lt-ltb, le-ltb, le-leb, lt-leb}
+use Rattle.calculus.specs.declared.Outcome.{Outcome}
 use Rattle.calculus.specs.declared.Given.{Given}
 use Rattle.book.specs.Decode.{scopesOf}
 use Rattle.book.specs.References.{scopeAt}
@@ -21,41 +22,43 @@ use Rattle.answers.specs.declared.Refusal.the-variants.{Book, NoSuchScope, BadI
 use Rattle.acceptance.proofs.Acceptance.{accepted-count}
 use Rattle.lists.specs.Inputs.{bad, good, inputs}
 use Rattle.lists.specs.Results.{resultLength}
-use Rattle.evaluation.specs.Run.{runScope}
-use Rattle.evaluation.specs.Evaluate.{replyOf, refuse, asked, evaluate}
+use Rattle.evaluation.specs.Handing.{Handed}
+use Rattle.evaluation.specs.Run.{runScopeBy}
+use Rattle.evaluation.specs.Evaluate.{replyOf, refuse, askedBy, evaluateBy}
 
-module _ (bytes : List ℕ) (i : ℕ) (list : List ℕ) (room : ℕ) where
-  judged-so : (j : Judged) → judge bytes ≡ j → evaluate bytes i list room ≡ onJudged refuse j (asked (scopesOf bytes) i list room)
-  unfolding evaluate
-  judged-so j e = ap (λ (k : Judged). onJudged refuse k (asked (scopesOf bytes) i list room)) e
+-- by what the outcome of an override tree hands over
+module _ (by : Outcome → Handed) (bytes : List ℕ) (i : ℕ) (list : List ℕ) (room : ℕ) where
+  judged-so : (j : Judged) → judge bytes ≡ j → evaluateBy by bytes i list room ≡ onJudged refuse j (askedBy by (scopesOf bytes) i list room)
+  unfolding evaluateBy
+  judged-so j e = ap (λ (k : Judged). onJudged refuse k (askedBy by (scopesOf bytes) i list room)) e
 
-  pub evaluate-faulty : (f : Fault) → judge bytes ≡ judged.Refused f → evaluate bytes i list room ≡ refuse (Book f)
+  pub evaluate-faulty : (f : Fault) → judge bytes ≡ judged.Refused f → evaluateBy by bytes i list room ≡ refuse (Book f)
   evaluate-faulty f e = judged-so (judged.Refused f) e
 
   module _ (n : ℕ) (ok : judge bytes ≡ judged.Accepted n) where
     abbrev variables : List Variable
     variables = scopeAt (scopesOf bytes) i .variables
 
-    is-asked : evaluate bytes i list room ≡ asked (scopesOf bytes) i list room
+    is-asked : evaluateBy by bytes i list room ≡ askedBy by (scopesOf bytes) i list room
     is-asked = judged-so (judged.Accepted n) ok
 
     count : n ≡ length (scopesOf bytes)
     count = accepted-count bytes n ok
 
-    pub evaluate-absent : n ≤ i → evaluate bytes i list room ≡ refuse NoSuchScope
-    unfolding asked
+    pub evaluate-absent : n ≤ i → evaluateBy by bytes i list room ≡ refuse NoSuchScope
+    unfolding askedBy
     evaluate-absent l = is-asked ∙ rw (le-ltb i (length (scopesOf bytes)) (omega (arith, count)))
 
     module _ (here : i < n) where
-      pub evaluate-malformed : inputs variables list ≡ bad → evaluate bytes i list room ≡ refuse BadInput
-      unfolding asked
+      pub evaluate-malformed : inputs variables list ≡ bad → evaluateBy by bytes i list room ≡ refuse BadInput
+      unfolding askedBy
       evaluate-malformed read = is-asked ∙ rw (lt-ltb i (length (scopesOf bytes)) (omega (arith, count)), read)
 
       module _ (gs : List Given) (read : inputs variables list ≡ good gs) where
-        pub evaluate-short : room < resultLength variables → evaluate bytes i list room ≡ refuse BufferTooSmall
-        unfolding asked
+        pub evaluate-short : room < resultLength variables → evaluateBy by bytes i list room ≡ refuse BufferTooSmall
+        unfolding askedBy
         evaluate-short l = is-asked ∙ rw (lt-ltb i (length (scopesOf bytes)) (omega (arith, count)), read, lt-leb (resultLength variables) room l)
 
-        pub evaluate-run : resultLength variables ≤ room → evaluate bytes i list room ≡ replyOf (runScope (scopesOf bytes) i gs)
-        unfolding asked
+        pub evaluate-run : resultLength variables ≤ room → evaluateBy by bytes i list room ≡ replyOf (runScopeBy by (scopesOf bytes) i gs)
+        unfolding askedBy
         evaluate-run l = is-asked ∙ rw (lt-ltb i (length (scopesOf bytes)) (omega (arith, count)), read, le-leb (resultLength variables) room l)

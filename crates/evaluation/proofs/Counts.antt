@@ -34,7 +34,7 @@ use Rattle.book.proofs.Weights.{weight-sum}
 use Rattle.acceptance.specs.Accepted.{CompleteOrder}
 use Rattle.acceptance.proofs.Acceptance.{accepted-faultless}
 use Rattle.acceptance.proofs.Orders.{accepted-book}
-use Rattle.evaluation.specs.Run.{Entered, values, ended, State, begin, runSteps, runScope}
+use Rattle.evaluation.specs.Run.{Entered, values, ended, State, begin, runStepsBy, runSteps, runScope}
 use Rattle.evaluation.specs.Readiness.{Reached, withVariable, withCall}
 use Rattle.evaluation.proofs.Running.{Steps, call-number, countOf, by-step, steps-count, reached-same}
 use Rattle.evaluation.proofs.Entering.{accepted-complete, accepted-entered-steps, accepted-entered-count, accepted-by-blocks}
@@ -166,7 +166,7 @@ module _ (book : List Scope) (enter : ℕ → List Given → Entered) (s : Scope
   added-call x l = rw (le-ltb x (length (s .variables)) l)
 
   pub steps-bounded : (xs : List ℕ) → Steps s xs → (st : State) → Bounded (st .count + sum added xs) (runSteps book enter s given xs st)
-  unfolding runSteps sum
+  unfolding runStepsBy sum
   steps-bounded [] below st = omega arith
   steps-bounded (x ∷ xs) below st =
       let later : Steps s xs = λ j l. below (suc j) (omega arith) in

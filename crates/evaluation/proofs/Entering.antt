@@ -19,6 +19,7 @@ use lib.Seq.{take-suc, take-all, getD-take, length-take-le}
 use lib.Dec.{eqb}
 use borrow.Author.Tests.{eqb-true, eq-eqb}
 use Rattle.answers.specs.declared.Cause.the-variants.{Empty}
+use Rattle.calculus.specs.declared.Outcome.{Outcome}
 use Rattle.calculus.specs.declared.Given.{Given}
 use Rattle.order.specs.Order.{among}
 use Rattle.laws.proofs.Booleans.{decide}
@@ -34,7 +35,8 @@ use Rattle.answers.specs.declared.Judged.the-variants.{Accepted}
 use Rattle.book.proofs.Weights.{new-block, block-snoc}
 use Rattle.acceptance.specs.Accepted.{WellFormed, CompleteOrder}
 use Rattle.acceptance.proofs.Orders.{blocks-after, accepted-book}
-use Rattle.evaluation.specs.Run.{Entered, ended, begin, runSteps, enter, runScope}
+use Rattle.evaluation.specs.Handing.{Handed, fallsBack}
+use Rattle.evaluation.specs.Run.{Entered, ended, begin, runStepsBy, runSteps, enterBy, enter, runScopeBy, runScope}
 use Rattle.evaluation.proofs.Running.{Steps, countOf, steps-congruent, steps-count}
 
 -- the order of steps holds steps of the scope only
@@ -43,63 +45,64 @@ unfolding stepOrder
 steps-of s j l = order-no-repeats (dependsOn s) (stepCount s) j l .0
 
 module _ (book : List Scope) (complete : CompleteOrder (calls book) (length book) (blocks book)) where
-  -- entering once the first k blocks are there
-  abbrev pub after : ℕ → ℕ → List Given → Entered
-  after k = enter book (reverse (take k (blocks book)))
+  module _ (by : Outcome → Handed) where
+    -- entering once the first k blocks are there
+    abbrev pub after : ℕ → ℕ → List Given → Entered
+    after k = enterBy by book (reverse (take k (blocks book)))
 
-  after-more : (k : ℕ) → k < length book → (i : ℕ) (given : List Given)
-      → after (suc k) i given
-      ≡ cond (eqb (getD (blocks book) k 0) i)
-      (runSteps book (after k) (scopeAt book i) given (stepOrder (scopeAt book i)) (begin (scopeAt book i)))
-      (after k i given)
-  unfolding enter
-  after-more k l i given =
-      ap (λ (bs : List ℕ). enter book bs i given)
-      (ap reverse (take-suc (blocks book) k 0 (omega (arith, complete .count)))
-      ∙ reverse-append (take k (blocks book)) (getD (blocks book) k 0 ∷ []))
+    after-more : (k : ℕ) → k < length book → (i : ℕ) (given : List Given)
+        → after (suc k) i given
+        ≡ cond (eqb (getD (blocks book) k 0) i)
+        (runStepsBy by book (after k) (scopeAt book i) given (stepOrder (scopeAt book i)) (begin (scopeAt book i)))
+        (after k i given)
+    unfolding enterBy
+    after-more k l i given =
+        ap (λ (bs : List ℕ). enterBy by book bs i given)
+        (ap reverse (take-suc (blocks book) k 0 (omega (arith, complete .count)))
+        ∙ reverse-append (take k (blocks book)) (getD (blocks book) k 0 ∷ []))
 
-  same-more : (k d i : ℕ) → k + d ≤ length book → among (take k (blocks book)) i ≡ true → (given : List Given)
-      → (after (k + d) i given ≡ after k i given) × (among (take (k + d) (blocks book)) i ≡ true)
-  same-more k zero i l m given = let e : k + 0 ≡ k = omega arith in rw e (refl, m)
-  same-more k (suc d) i l m given =
-      let e : k + suc d ≡ suc (k + d) = omega arith in
-      let n = k + d in
-      let r = same-more k d i (omega arith) m given in
-      let x = getD (blocks book) n 0 in
-      let other : eqb x i ≡ false =
-      ⊎-elim
-      (λ (q : eqb x i ≡ true).
-      absurd (true≢false (sym (r .1) ∙ ap (among (take n (blocks book))) (sym (eqb-true x i q)) ∙ new-block book (complete .count) n (omega arith))))
-      (λ (q : eqb x i ≡ false). q)
-      (decide (eqb x i)) in
-      rw e (
-        (rw other at (after-more n (omega arith) i given)) ∙ r .0,
-        block-snoc book (complete .count) n (omega arith) i ∙ ap (λ (t : Bool). t || eqb i x) (r .1),
-      )
+    same-more : (k d i : ℕ) → k + d ≤ length book → among (take k (blocks book)) i ≡ true → (given : List Given)
+        → (after (k + d) i given ≡ after k i given) × (among (take (k + d) (blocks book)) i ≡ true)
+    same-more k zero i l m given = let e : k + 0 ≡ k = omega arith in rw e (refl, m)
+    same-more k (suc d) i l m given =
+        let e : k + suc d ≡ suc (k + d) = omega arith in
+        let n = k + d in
+        let r = same-more k d i (omega arith) m given in
+        let x = getD (blocks book) n 0 in
+        let other : eqb x i ≡ false =
+        ⊎-elim
+        (λ (q : eqb x i ≡ true).
+        absurd (true≢false (sym (r .1) ∙ ap (among (take n (blocks book))) (sym (eqb-true x i q)) ∙ new-block book (complete .count) n (omega arith))))
+        (λ (q : eqb x i ≡ false). q)
+        (decide (eqb x i)) in
+        rw e (
+          (rw other at (after-more n (omega arith) i given)) ∙ r .0,
+          block-snoc book (complete .count) n (omega arith) i ∙ ap (λ (t : Bool). t || eqb i x) (r .1),
+        )
 
-  pub entered-same : (k l i : ℕ) → k ≤ l → l ≤ length book → among (take k (blocks book)) i ≡ true → (given : List Given)
-      → enter book (reverse (take l (blocks book))) i given ≡ enter book (reverse (take k (blocks book))) i given
-  entered-same k l i h m q given =
-      let e : k + (l - k) ≡ l = omega arith in
-      let r = same-more k (l - k) i (omega arith) q given .0 in
-      ap (λ (n : ℕ). after n i given) (sym e) ∙ r
+    pub entered-same : (k l i : ℕ) → k ≤ l → l ≤ length book → among (take k (blocks book)) i ≡ true → (given : List Given)
+        → enterBy by book (reverse (take l (blocks book))) i given ≡ enterBy by book (reverse (take k (blocks book))) i given
+    entered-same k l i h m q given =
+        let e : k + (l - k) ≡ l = omega arith in
+        let r = same-more k (l - k) i (omega arith) q given .0 in
+        ap (λ (n : ℕ). after n i given) (sym e) ∙ r
 
-  whole : take (length book) (blocks book) ≡ blocks book
-  whole = take-all (length book) (blocks book) (omega (arith, complete .count))
+    whole : take (length book) (blocks book) ≡ blocks book
+    whole = take-all (length book) (blocks book) (omega (arith, complete .count))
 
-  -- a scope whose block is among the first k
-  pub entered-whole : (k i : ℕ) → k ≤ length book → among (take k (blocks book)) i ≡ true → (given : List Given)
-      → runScope book i given ≡ enter book (reverse (take k (blocks book))) i given
-  entered-whole k i h q given =
-      ap (λ (bs : List ℕ). enter book (reverse bs) i given) (sym whole) ∙ entered-same k (length book) i h (omega arith) q given
+    -- a scope whose block is among the first k
+    pub entered-whole : (k i : ℕ) → k ≤ length book → among (take k (blocks book)) i ≡ true → (given : List Given)
+        → runScopeBy by book i given ≡ enterBy by book (reverse (take k (blocks book))) i given
+    entered-whole k i h q given =
+        ap (λ (bs : List ℕ). enterBy by book (reverse bs) i given) (sym whole) ∙ entered-same k (length book) i h (omega arith) q given
 
-  pub entered-place : (p l i : ℕ) → p < l → l ≤ length book → getD (blocks book) p 0 ≡ i → (given : List Given)
-      → enter book (reverse (take l (blocks book))) i given ≡ runScope book i given
-  entered-place p l i h m e given =
-      let room : length (take l (blocks book)) ≡ l = length-take-le l (blocks book) (omega (arith, complete .count)) in
-      let there : among (take l (blocks book)) i ≡ true =
-      ap (among (take l (blocks book))) (sym (getD-take l (blocks book) p 0 h ∙ e)) ∙ among-at (take l (blocks book)) p (omega arith) in
-      sym (entered-whole l i m there given)
+    pub entered-place : (p l i : ℕ) → p < l → l ≤ length book → getD (blocks book) p 0 ≡ i → (given : List Given)
+        → enterBy by book (reverse (take l (blocks book))) i given ≡ runScopeBy by book i given
+    entered-place p l i h m e given =
+        let room : length (take l (blocks book)) ≡ l = length-take-le l (blocks book) (omega (arith, complete .count)) in
+        let there : among (take l (blocks book)) i ≡ true =
+        ap (among (take l (blocks book))) (sym (getD-take l (blocks book) p 0 h ∙ e)) ∙ among-at (take l (blocks book)) p (omega arith) in
+        sym (entered-whole l i m there given)
 
   -- the place of a scope's block
   pub block-place : (i : ℕ) → i < length book → (k : ℕ) × (k < length book) × (getD (blocks book) k 0 ≡ i)
@@ -115,10 +118,10 @@ module _ (book : List Scope) (complete : CompleteOrder (calls book) (length book
         ap (λ (b : ℕ). among (take k (blocks book)) (getD (scopeAt book b .subScopes) j 0)) (sym e)
         ∙ blocks-after book complete formed k l j (omega arith)
 
-    pub entered-steps : (i : ℕ) → i < length book → (given : List Given)
-        → runScope book i given
-        ≡ runSteps book (runScope book) (scopeAt book i) given (stepOrder (scopeAt book i)) (begin (scopeAt book i))
-    entered-steps i l given =
+    pub entered-steps : (by : Outcome → Handed) (i : ℕ) → i < length book → (given : List Given)
+        → runScopeBy by book i given
+        ≡ runStepsBy by book (runScopeBy by book) (scopeAt book i) given (stepOrder (scopeAt book i)) (begin (scopeAt book i))
+    entered-steps by i l given =
         let p = block-place i l in
         let k = p .0 in
         let few : k < length book = p .1 in
@@ -128,16 +131,16 @@ module _ (book : List Scope) (complete : CompleteOrder (calls book) (length book
         block-snoc book (complete .count) k few i
         ∙ ap (λ (t : Bool). among (take k (blocks book)) i || t) (eq-eqb i (getD (blocks book) k 0) (sym (p .2)))
         ∙ or-true (among (take k (blocks book)) i) in
-        entered-whole (suc k) i (omega arith) there given
-        ∙ (rw is at (after-more k few i given))
-        ∙ steps-congruent book s given (after k) (runScope book)
-        (λ j h handed. sym (entered-whole k (getD (s .subScopes) j 0) (omega arith) (before k few i (p .2) j h) handed))
+        entered-whole by (suc k) i (omega arith) there given
+        ∙ (rw is at (after-more by k few i given))
+        ∙ steps-congruent by book s given (after by k) (runScopeBy by book)
+        (λ j h handed. sym (entered-whole by k (getD (s .subScopes) j 0) (omega arith) (before k few i (p .2) j h) handed))
         (stepOrder s) (steps-of s) (begin s)
 
     pub entered-count : (i : ℕ) → i < length book → (given : List Given) → 1 ≤ countOf (runScope book i given)
     entered-count i l given =
         let s = scopeAt book i in
-        rw (entered-steps i l given) (steps-count book (runScope book) s given (stepOrder s) (begin s))
+        rw (entered-steps fallsBack i l given) (steps-count book (runScope book) s given (stepOrder s) (begin s))
 
     pub called-place : (p : ℕ) → p < length book → (i : ℕ) → getD (blocks book) p 0 ≡ i → (k : ℕ) → k < length (scopeAt book i .subScopes)
         → (q : ℕ) → q < length book → getD (blocks book) q 0 ≡ getD (scopeAt book i .subScopes) k 0 → q < p
@@ -191,17 +194,17 @@ module _ (bytes : List ℕ) (n : ℕ) (accepted : judge bytes ≡ Accepted n) wh
       → enter (scopesOf bytes) (reverse (take l (blocks (scopesOf bytes)))) i given
       ≡ enter (scopesOf bytes) (reverse (take k (blocks (scopesOf bytes)))) i given
   accepted-entered-same k l i h m =
-      entered-same book (accepted-complete bytes n accepted) k l i h (omega (arith, accepted-book bytes n accepted .count))
+      entered-same book (accepted-complete bytes n accepted) fallsBack k l i h (omega (arith, accepted-book bytes n accepted .count))
 
   pub accepted-entered-whole : (k i : ℕ) → k ≤ n → among (take k (blocks (scopesOf bytes))) i ≡ true → (given : List Given)
       → runScope (scopesOf bytes) i given ≡ enter (scopesOf bytes) (reverse (take k (blocks (scopesOf bytes)))) i given
   accepted-entered-whole k i h =
-      entered-whole book (accepted-complete bytes n accepted) k i (omega (arith, accepted-book bytes n accepted .count))
+      entered-whole book (accepted-complete bytes n accepted) fallsBack k i (omega (arith, accepted-book bytes n accepted .count))
 
   pub accepted-entered-place : (p l i : ℕ) → p < l → l ≤ n → getD (blocks (scopesOf bytes)) p 0 ≡ i → (given : List Given)
       → enter (scopesOf bytes) (reverse (take l (blocks (scopesOf bytes)))) i given ≡ runScope (scopesOf bytes) i given
   accepted-entered-place p l i h m =
-      entered-place book (accepted-complete bytes n accepted) p l i h (omega (arith, accepted-book bytes n accepted .count))
+      entered-place book (accepted-complete bytes n accepted) fallsBack p l i h (omega (arith, accepted-book bytes n accepted .count))
 
   pub accepted-called-place : (p : ℕ) → p < n → (i : ℕ) → getD (blocks (scopesOf bytes)) p 0 ≡ i
       → (k : ℕ) → k < length (scopeAt (scopesOf bytes) i .subScopes)
@@ -209,11 +212,17 @@ module _ (bytes : List ℕ) (n : ℕ) (accepted : judge bytes ≡ Accepted n) wh
   accepted-called-place p l i e k h q r =
       called-place book (accepted-complete bytes n accepted) (accepted-formed bytes n accepted) p (below p l) i e k h q (below q r)
 
+  pub accepted-entered-by : (by : Outcome → Handed) (i : ℕ) → i < n → (given : List Given)
+      → runScopeBy by (scopesOf bytes) i given
+      ≡ runStepsBy by (scopesOf bytes) (runScopeBy by (scopesOf bytes)) (scopeAt (scopesOf bytes) i) given
+      (stepOrder (scopeAt (scopesOf bytes) i)) (begin (scopeAt (scopesOf bytes) i))
+  accepted-entered-by by i l = entered-steps book (accepted-complete bytes n accepted) (accepted-formed bytes n accepted) by i (below i l)
+
   pub accepted-entered-steps : (i : ℕ) → i < n → (given : List Given)
       → runScope (scopesOf bytes) i given
       ≡ runSteps (scopesOf bytes) (runScope (scopesOf bytes)) (scopeAt (scopesOf bytes) i) given
       (stepOrder (scopeAt (scopesOf bytes) i)) (begin (scopeAt (scopesOf bytes) i))
-  accepted-entered-steps i l = entered-steps book (accepted-complete bytes n accepted) (accepted-formed bytes n accepted) i (below i l)
+  accepted-entered-steps = accepted-entered-by fallsBack
 
   pub accepted-entered-count : (i : ℕ) → i < n → (given : List Given) → 1 ≤ countOf (runScope (scopesOf bytes) i given)
   accepted-entered-count i l = entered-count book (accepted-complete bytes n accepted) (accepted-formed bytes n accepted) i (below i l)

@@ -15,6 +15,7 @@ use lib.Dec.{eqb}
 use borrow.Author.Tests.{ne-eqb}
 use Rattle.calculus.specs.Terms.{Term, Terms, literal, own, called, error, unary, binary, choice, default, none, also}
 use Rattle.calculus.specs.Evaluation.{Env, eval, exceptions}
+use Rattle.answers.specs.declared.Cause.the-variants.{Empty, Conflict, OutOfRange}
 use Rattle.calculus.specs.declared.Outcome.{Outcome}
 use Rattle.calculus.specs.declared.Outcome.the-variants.{Gives, Ends}
 use Rattle.calculus.specs.declared.Joined.the-variants.{Nothing}
@@ -32,7 +33,7 @@ use Rattle.book.specs.declared.ValueType.{ValueType}
 use Rattle.book.specs.declared.Variable.{Variable}
 use Rattle.acceptance.specs.Accepted.{WithinLimits, WellFormed}
 use Rattle.acceptance.proofs.Reading.{variable-depends, call-depends}
-use Rattle.evaluation.specs.Run.{Handing, handed, failed, inFront, evaluated, handing}
+use Rattle.evaluation.specs.Handing.{hands, fallsBack, Handing, handed, failed, inFront, handingBy, handing}
 use Rattle.evaluation.specs.Types.{Typed, AllTyped, OwnNamed, CalledNamed, WellTyped}
 use Rattle.evaluation.specs.Meaning.{Overrides}
 use Rattle.evaluation.proofs.Soundness.{typed-map}
@@ -96,7 +97,7 @@ module _ (e f : Env) where
 
     pub handing-same : (k : ℕ) → k < length (s .subScopes) → x ≡ length (s .variables) + k
         → (v : ℕ) (xs : List Variable) → handing e s k v xs ≡ handing f s k v xs
-    unfolding handing
+    unfolding handingBy
     handing-same k l h v [] = refl
     handing-same k l h v (y ∷ xs) = rw (override-same k l h v, handing-same k l h (suc v) xs)
 
@@ -132,17 +133,19 @@ module _ (e : Env) (s : Scope) (k : ℕ) where
   AllOf v xs (failed c) = Unit {0}
 
   front-all : (v : ℕ) (x : Variable) (xs : List Variable) (g : Given) (h : Handing) → Overrides e s k v g → AllOf (suc v) xs h
-      → AllOf v (x ∷ xs) (inFront g h)
+      → AllOf v (x ∷ xs) (inFront (hands g) h)
   front-all v x xs g (handed gs) o r = each-front v x xs g gs o r
   front-all v x xs g (failed c) o r = tt
 
   evaluated-all : (v : ℕ) (x : Variable) (xs : List Variable) (o : Outcome) (h : Handing) → hasClause s (calledTarget k v) ≡ true
-      → eval e (tree s (calledTarget k v)) ≡ o → AllOf (suc v) xs h → AllOf v (x ∷ xs) (evaluated o h)
+      → eval e (tree s (calledTarget k v)) ≡ o → AllOf (suc v) xs h → AllOf v (x ∷ xs) (inFront (fallsBack o) h)
   evaluated-all v x xs (Gives y) h q p r = front-all v x xs (Present y) h (Overrides.with y q (sym (step-default Absent e (tree s (calledTarget k v))) ∙ p)) r
-  evaluated-all v x xs (Ends c) h q p r = tt
+  evaluated-all v x xs (Ends Empty) h q p r = front-all v x xs Absent h (Overrides.fallen q (sym (step-default Absent e (tree s (calledTarget k v))) ∙ p)) r
+  evaluated-all v x xs (Ends Conflict) h q p r = tt
+  evaluated-all v x xs (Ends (OutOfRange o)) h q p r = tt
 
   all-of : (v : ℕ) (xs : List Variable) → AllOf v xs (handing e s k v xs)
-  unfolding handing
+  unfolding handingBy
   all-of v [] = record { size = refl; overrides = λ j l. absurd (omega arith) }
   all-of v (x ∷ xs) =
       let rest = handing e s k (suc v) xs in
@@ -157,14 +160,17 @@ module _ (e : Env) (s : Scope) (k : ℕ) where
 
   one-more : (v : ℕ) (x : Variable) (xs : List Variable) (g : Given) (gs : List Given) → Overrides e s k v g
       → handing e s k (suc v) xs ≡ handed gs → handing e s k v (x ∷ xs) ≡ handed (g ∷ gs)
-  unfolding handing
+  unfolding handingBy
   one-more v x xs g gs (Overrides.without q) h = rw (q, h)
   one-more v x xs g gs (Overrides.with y q p) h =
       let here : eval e (tree s (calledTarget k v)) ≡ Gives y = step-default Absent e (tree s (calledTarget k v)) ∙ p in
       rw (q, here, h)
+  one-more v x xs g gs (Overrides.fallen q p) h =
+      let here : eval e (tree s (calledTarget k v)) ≡ Ends Empty = step-default Absent e (tree s (calledTarget k v)) ∙ p in
+      rw (q, here, h)
 
   pub overrides-handing : (v : ℕ) (xs : List Variable) (gs : List Given) → Each v xs gs → handing e s k v xs ≡ handed gs
-  unfolding handing
+  unfolding handingBy
   overrides-handing v [] [] r = refl
   overrides-handing v [] (g ∷ gs) r = absurd (let z = r .size in omega arith)
   overrides-handing v (x ∷ xs) [] r = absurd (let z = r .size in omega arith)

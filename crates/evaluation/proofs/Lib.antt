@@ -10,3 +10,4 @@ pub mod Types
 pub mod Meaning
 pub mod Cases
 pub mod Answers
+pub mod Former

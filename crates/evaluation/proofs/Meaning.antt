@@ -37,7 +37,8 @@ use Rattle.book.specs.declared.Variable.{Variable}
 use Rattle.answers.specs.declared.Judged.the-variants.{Accepted}
 use Rattle.acceptance.specs.Accepted.{WithinLimits, WellFormed, CompleteOrder}
 use Rattle.acceptance.proofs.Orders.{accepted-book}
-use Rattle.evaluation.specs.Run.{Entered, values, ended, State, envOf, Handing, handed, failed, handing, begin, runSteps, runScope}
+use Rattle.evaluation.specs.Handing.{Handing, handed, failed, handing}
+use Rattle.evaluation.specs.Run.{Entered, values, ended, State, envOf, begin, runStepsBy, runSteps, runScope}
 use Rattle.evaluation.specs.Readiness.{calleeOf, handsOver, withVariable, withCall}
 use Rattle.evaluation.specs.Meaning.{holding, Solves, Means}
 use Rattle.evaluation.proofs.Next.{next-below, next-after, next-new, snoc-here, snoc-more, snoc-other, append-more, append-none}
@@ -211,7 +212,7 @@ module _ (book : List Scope) (enter : ℕ → List Given → Entered) (s : Scope
 
   final : (xs done : List ℕ) (st : State) → order ≡ done ++ xs → length (st .own) ≡ own → length (st .called) ≡ calls
       → FinalOf done st (runSteps book enter s given xs st)
-  unfolding runSteps
+  unfolding runStepsBy
   final [] done st split a b =
       let all : (w : ℕ) → w < stepCount s → among done w ≡ false → ⊥ = λ w l m.
       false≢true (sym m ∙ ap (λ (ys : List ℕ). among ys w) (sym (split ∙ append-none done)) ∙ complete .every w l) in
@@ -386,7 +387,7 @@ module _ (book : List Scope) (enter : ℕ → List Given → Entered) (s : Scope
             }
 
     runs : (xs done : List ℕ) (st : State) → order ≡ done ++ xs → Along done st → (n : ℕ) × (runSteps book enter s given xs st ≡ values vs n)
-    unfolding runSteps
+    unfolding runStepsBy
     runs [] done st split a = (
       st .count,
       ap (λ (ws : List Value). values ws (st .count))

@@ -44,7 +44,8 @@ use Rattle.answers.specs.declared.Judged.the-variants.{Accepted}
 use Rattle.acceptance.specs.Accepted.{WithinLimits, WellFormed, CompleteOrder}
 use Rattle.acceptance.proofs.Orders.{accepted-book}
 use Rattle.acceptance.proofs.Reading.{variable-depends, call-depends}
-use Rattle.evaluation.specs.Run.{Entered, values, State, envOf, handed, begin, runSteps, runScope}
+use Rattle.evaluation.specs.Handing.{handed}
+use Rattle.evaluation.specs.Run.{Entered, values, State, envOf, begin, runStepsBy, runSteps, runScope}
 use Rattle.evaluation.specs.Types.{HasType, Holds, MayHold, HoldsAt, Fitting, ValuesFit, OutcomeFits, EnteredFits, OwnNamed, CalledNamed, WellTyped}
 use Rattle.evaluation.specs.Readiness.{Reached, Ready, TermReady, TreesReady, Progress, calleeOf, handsOver, withVariable, withCall}
 use Rattle.evaluation.specs.Meaning.{Overrides}
@@ -136,6 +137,7 @@ step-typed t (Present v) o y h f e = subst (OutcomeFits t) e h
 override-typed : (t : ValueType) (e : Env) (s : Scope) (k v : ℕ) (g : Given) → OutcomeFits t (eval e (tree s (calledTarget k v)))
     → Overrides e s k v g → MayHold t g
 override-typed t e s k v g f (Overrides.without q) = tt
+override-typed t e s k v g f (Overrides.fallen q p) = tt
 override-typed t e s k v g f (Overrides.with y q p) = subst (OutcomeFits t) (step-default Absent e (tree s (calledTarget k v)) ∙ p) f
 
 each-fits : (e : Env) (s : Scope) (k v : ℕ) (xs : List Variable) (gs : List Given)
@@ -310,7 +312,7 @@ module _ (book : List Scope) (enter : ℕ → List Given → Entered) (s : Scope
   reached-handed x xs st gs r = handed-fit x xs st gs (reached-progress (x ∷ xs) st r)
 
   pub steps-fit : (xs : List ℕ) (st : State) → Reached book enter s given xs st → EnteredFits (s .variables) (runSteps book enter s given xs st)
-  unfolding runSteps
+  unfolding runStepsBy
   steps-fit [] st r =
       let p = reached-progress [] st r in
       let d = p .done in

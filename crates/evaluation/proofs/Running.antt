@@ -27,7 +27,8 @@ use Rattle.book.specs.Syntax.{Scope}
 use Rattle.book.specs.References.{scopeAt}
 use Rattle.book.specs.Trees.{tree, ownTarget}
 use Rattle.book.specs.Steps.{stepCount, stepOrder}
-use Rattle.evaluation.specs.Run.{Entered, values, ended, State, envOf, onValue, onEntered, Handing, handed, failed, handing, onHanding, begin, runSteps}
+use Rattle.evaluation.specs.Handing.{Handed, Handing, handed, failed, handingBy}
+use Rattle.evaluation.specs.Run.{Entered, values, ended, State, envOf, onValue, onEntered, onHanding, begin, runStepsBy, runSteps}
 use Rattle.evaluation.specs.Readiness.{Reached, calleeOf, handsOver, withVariable, withCall}
 
 -- the scopes entered
@@ -51,14 +52,14 @@ module _ (book : List Scope) (enter : ℕ → List Given → Entered) (s : Scope
     pub variable-turn : (y : Value) → step (getD given x Absent) (envOf st) (tree s (ownTarget x)) ≡ Gives y
         → runSteps book enter s given (x ∷ xs) st
         ≡ runSteps book enter s given xs (withVariable st x y)
-    unfolding runSteps
+    unfolding runStepsBy
     variable-turn y e =
         rw (lt-ltb x (length (s .variables)) l)
         (ap (λ (o : Outcome). onValue o (st .count) (λ v. runSteps book enter s given xs (withVariable st x v))) e)
 
     pub variable-end : (c : Cause) → step (getD given x Absent) (envOf st) (tree s (ownTarget x)) ≡ Ends c
         → runSteps book enter s given (x ∷ xs) st ≡ ended c (st .count)
-    unfolding runSteps
+    unfolding runStepsBy
     variable-end c e = rw (lt-ltb x (length (s .variables)) l, e)
 
   module _ (l : length (s .variables) ≤ x) where
@@ -67,33 +68,33 @@ module _ (book : List Scope) (enter : ℕ → List Given → Entered) (s : Scope
         → enter (calleeOf s x) gs ≡ values vs n
         → runSteps book enter s given (x ∷ xs) st
         ≡ runSteps book enter s given xs (withCall st (x - length (s .variables)) vs n)
-    unfolding runSteps
+    unfolding runStepsBy
     call-turn gs vs n h e = rw (le-ltb x (length (s .variables)) l, h, e)
 
     pub call-failed : (c : Cause)
         → handsOver book s st x ≡ failed c
         → runSteps book enter s given (x ∷ xs) st ≡ ended c (st .count)
-    unfolding runSteps
+    unfolding runStepsBy
     call-failed c h = rw (le-ltb x (length (s .variables)) l, h)
 
     pub call-end : (gs : List Given) (c : Cause) (n : ℕ)
         → handsOver book s st x ≡ handed gs
         → enter (calleeOf s x) gs ≡ ended c n
         → runSteps book enter s given (x ∷ xs) st ≡ ended c (st .count + n)
-    unfolding runSteps
+    unfolding runStepsBy
     call-end gs c n h e = rw (le-ltb x (length (s .variables)) l, h, e)
 
 -- A whole run
 
-module _ (book : List Scope) (s : Scope) (given : List Given) (e f : ℕ → List Given → Entered)
+module _ (by : Outcome → Handed) (book : List Scope) (s : Scope) (given : List Given) (e f : ℕ → List Given → Entered)
     (same : (k : ℕ) → k < length (s .subScopes) → (gs : List Given)
     → e (getD (s .subScopes) k 0) gs ≡ f (getD (s .subScopes) k 0) gs) where
-  pub steps-congruent : (xs : List ℕ) → Steps s xs → (st : State) → runSteps book e s given xs st ≡ runSteps book f s given xs st
-  unfolding runSteps
+  pub steps-congruent : (xs : List ℕ) → Steps s xs → (st : State) → runStepsBy by book e s given xs st ≡ runStepsBy by book f s given xs st
+  unfolding runStepsBy
   steps-congruent [] below st = refl
   steps-congruent (x ∷ xs) below st =
       let v = length (s .variables) in
-      let rest : (t : State) → runSteps book e s given xs t ≡ runSteps book f s given xs t =
+      let rest : (t : State) → runStepsBy by book e s given xs t ≡ runStepsBy by book f s given xs t =
       λ t. steps-congruent xs (λ j l. below (suc j) (omega arith)) t in
       ⊎-elim
       (λ (q : ltb x v ≡ true).
@@ -104,7 +105,7 @@ module _ (book : List Scope) (s : Scope) (given : List Given) (e f : ℕ → Lis
       let k = x - v in
       let there : k < length (s .subScopes) = call-number s x (below 0 (omega arith)) (ltb-false x v q) in
       rw q
-      (λ i. onHanding (handing (envOf st) s k 0 (scopeAt book (getD (s .subScopes) k 0) .variables)) (st .count)
+      (λ i. onHanding (handingBy by (envOf st) s k 0 (scopeAt book (getD (s .subScopes) k 0) .variables)) (st .count)
       (λ gs. onEntered (same k there gs i) (st .count)
       (λ vs n. rest (record { own = st .own; called = set (st .called) k vs; count = n }) i))))
       (decide (ltb x v))
@@ -147,7 +148,7 @@ module _ (book : List Scope) (enter : ℕ → List Given → Entered) (s : Scope
         (decide (ltb x (length (s .variables))))
 
   pub steps-count : (xs : List ℕ) (st : State) → st .count ≤ countOf (runSteps book enter s given xs st)
-  unfolding runSteps
+  unfolding runStepsBy
   steps-count [] st = omega arith
   steps-count (x ∷ xs) st =
       by-step (λ r. st .count ≤ countOf r) x xs st

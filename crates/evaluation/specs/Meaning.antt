@@ -10,7 +10,8 @@ use Rattle.calculus.specs.Evaluation.{Env, eval}
 use Rattle.calculus.specs.Overriding.{overridable}
 use Rattle.calculus.specs.declared.Value.{Value}
 use Rattle.calculus.specs.declared.Value.the-variants.{Truth}
-use Rattle.calculus.specs.declared.Outcome.the-variants.{Gives}
+use Rattle.answers.specs.declared.Cause.the-variants.{Empty}
+use Rattle.calculus.specs.declared.Outcome.the-variants.{Gives, Ends}
 use Rattle.calculus.specs.declared.Given.{Given}
 use Rattle.calculus.specs.declared.Given.the-variants.{Absent, Present}
 use Rattle.book.specs.Syntax.{Scope}
@@ -28,6 +29,9 @@ pub data Overrides (e : Env) (s : Scope) (k v : ℕ) : Given → Type 0 where
   -- C-DEF of a sub-scope's variable, for which nothing was provided before
   with : (y : Value) → hasClause s (calledTarget k v) ≡ true → eval e (overridable Absent (tree s (calledTarget k v))) ≡ Gives y
       → Overrides e s k v (Present y)
+  -- "an empty override hands nothing over" (paper 02, No. 5)
+  fallen : hasClause s (calledTarget k v) ≡ true → eval e (overridable Absent (tree s (calledTarget k v))) ≡ Ends Empty
+      → Overrides e s k v Absent
 
 -- the equations of a scope with what is given to it: values vs of its variables, cs of those of its sub-scopes, and what it hands over to each
 pub record Solves (book : List Scope) (s : Scope) (given : List Given) (vs : List Value) (handed : ℕ → List Given) (cs : List (List Value)) : Type 0 where

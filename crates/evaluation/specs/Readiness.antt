@@ -17,7 +17,8 @@ use Rattle.book.specs.Typing.{typeAt, calledTypeAt}
 use Rattle.book.specs.Trees.{tree, ownTarget, calledTarget}
 use Rattle.book.specs.Steps.{dependsOn, stepOrder}
 use Rattle.book.specs.declared.ValueType.{ValueType}
-use Rattle.evaluation.specs.Run.{Entered, values, State, envOf, Handing, handed, handing, begin}
+use Rattle.evaluation.specs.Handing.{Handing, handed, handing}
+use Rattle.evaluation.specs.Run.{Entered, values, State, envOf, begin}
 use Rattle.evaluation.specs.Types.{Holds, HoldsAt, ValuesFit, Typed}
 
 -- the scope that the call of step x enters, and what it hands over

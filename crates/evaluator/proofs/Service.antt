@@ -19,6 +19,7 @@ use Rattle.lists.specs.Inputs.{bad, inputs}
 use Rattle.lists.specs.Reading.{Taken}
 use Rattle.lists.specs.Writing.{resultLengthAt}
 use Rattle.links.specs.Links.{Blanks, AllLinked}
+use Rattle.evaluation.specs.Handing.{fallsBack}
 use Rattle.evaluation.specs.Run.{runScope}
 use Rattle.evaluation.specs.Evaluate.{replyOf, evaluate}
 use Rattle.answers.specs.declared.Refusal.the-variants.{Book, NoSuchScope, BadInput, BufferTooSmall}
@@ -35,21 +36,21 @@ use Rattle.evaluator.specs.Service.{Asked, Evaluated}
 
 pub refused-book : (bytes : List ℕ) (i : ℕ) (list : List ℕ) {memory : List ℕ} {f : Fault} → judge bytes ≡ judged.Refused f
     → Evaluated bytes i list memory (Refused (Book f)) memory
-refused-book bytes i list {memory} {f} e = nothing-written (evaluate-faulty bytes i list (length memory) f e)
+refused-book bytes i list {memory} {f} e = nothing-written (evaluate-faulty fallsBack bytes i list (length memory) f e)
 
 module _ (bytes : List ℕ) (n i : ℕ) (ok : judge bytes ≡ judged.Accepted n) where
   pub refused-scope : (list : List ℕ) {memory : List ℕ} → n ≤ i → Evaluated bytes i list memory (Refused NoSuchScope) memory
-  refused-scope list {memory} l = nothing-written (evaluate-absent bytes i list (length memory) n ok l)
+  refused-scope list {memory} l = nothing-written (evaluate-absent fallsBack bytes i list (length memory) n ok l)
 
   module _ (here : i < n) where
     pub refused-input : (list : List ℕ) {memory : List ℕ} → inputs (scopeAt (scopesOf bytes) i .variables) list ≡ bad → Evaluated bytes i list memory (Refused BadInput) memory
-    refused-input list {memory} e = nothing-written (evaluate-malformed bytes i list (length memory) n ok here e)
+    refused-input list {memory} e = nothing-written (evaluate-malformed fallsBack bytes i list (length memory) n ok here e)
 
     module _ {list given : List ℕ} (taken : Taken (scopeAt (scopesOf bytes) i .variables) list given) where
       pub refused-room : {memory : List ℕ} → length memory < resultLengthAt (scopesOf bytes) i → Evaluated bytes i list memory (Refused BufferTooSmall) memory
       unfolding resultLengthAt
       refused-room {memory} l =
-          nothing-written (evaluate-short bytes i list (length memory) n ok here (taken .givens) (taken .list) l)
+          nothing-written (evaluate-short fallsBack bytes i list (length memory) n ok here (taken .givens) (taken .list) l)
 
       pub evaluated : {memory after : List ℕ} {r : Answer} → resultLengthAt (scopesOf bytes) i ≤ length memory → Replied bytes i given memory r after
           → Evaluated bytes i list memory r after
@@ -57,7 +58,7 @@ module _ (bytes : List ℕ) (n i : ℕ) (ok : judge bytes ≡ judged.Accepted n)
       evaluated {memory} {after} {r} l q =
           let gs = givensFrom given 0 (length (scopeAt (scopesOf bytes) i .variables)) in
           let e : evaluate bytes i list (length memory) ≡ replyOf (runScope (scopesOf bytes) i gs) =
-          evaluate-run bytes i list (length memory) n ok here (taken .givens) (taken .list) l
+          evaluate-run fallsBack bytes i list (length memory) n ok here (taken .givens) (taken .list) l
           ∙ ap (λ (xs : List Given). replyOf (runScope (scopesOf bytes) i xs)) (sym (taken-givens taken)) in
           same-response e q
 

@@ -1,12 +1,11 @@
 -- Handing over the variables of a sub-scope.
---     overrides-over                      the overrides of a call, without what follows them
---     over-agrees                         they are the same in environments that agree on the override trees
+--     handing-agrees                      what is handed over is the same in environments that agree on the override trees
 --     hands-none, hands-tree              one variable
 --     none-passed, pass, halt, end        all of them, in a loop
 -- Assumes nothing.
 use Prim.Native.Nat.{ℕ, zero, suc, _+_, _<_, _≤_}
-use mathlib.Core.Path.{_≡_, refl, sym, ap, _∙_}
-use mathlib.Core.Bool.{true, false, cond}
+use mathlib.Core.Path.{_≡_, refl, sym, ap, subst, _∙_}
+use mathlib.Core.Bool.{true, false}
 use mathlib.Core.List.{List, [], _∷_}
 use mathlib.Core.Logic.{_⊎_, inl, inr, ⊎-elim}
 use native.Mathlib.Omega.{arith}
@@ -14,99 +13,85 @@ use lib.ListN.{length, set, length-set}
 use lib.Seq.{getD-set-same, getD-set-other}
 use lib.Dec.{ltb}
 use borrow.Author.Tests.{lt-ltb, le-ltb, ltb-true, ltb-false}
+use Rattle.calculus.specs.Defaults.{found}
 use Rattle.calculus.specs.Evaluation.{Env, eval}
 use Rattle.answers.specs.declared.Cause.{Cause}
+use Rattle.answers.specs.declared.Cause.the-variants.{Empty, Conflict, OutOfRange}
 use Rattle.calculus.specs.declared.Outcome.{Outcome}
 use Rattle.calculus.specs.declared.Outcome.the-variants.{Gives, Ends}
-use Rattle.calculus.specs.declared.Given.{Given}
-use Rattle.calculus.specs.declared.Given.the-variants.{Absent, Present}
 use Rattle.laws.proofs.Booleans.{decide}
-use Rattle.cells.specs.Codec.{emptyCell, causeOf, Codes, AllKept}
+use Rattle.cells.specs.Codec.{emptyCell, cellOf, causeCell, causeOf, Codes, gatheredCell, Gathers, Kept, AllKept}
 use Rattle.cells.specs.Cells.{givenOf, givenAt}
-use Rattle.cells.proofs.Variables.{kept-nothing, kept-put}
+use Rattle.cells.proofs.Codec.{value-before-ends, end-high, cause-decoded, no-value}
+use Rattle.cells.proofs.Variables.{given-cell, kept-nothing, kept-value, kept-put}
 use Rattle.book.specs.Syntax.{Scope}
 use Rattle.book.specs.Decode.{scopesOf}
 use Rattle.book.specs.References.{scopeAt}
-use Rattle.book.specs.Trees.{tree, hasClause, calledTarget}
+use Rattle.book.specs.Trees.{tree, calledTarget}
 use Rattle.book.specs.declared.Variable.{Variable}
+use Rattle.terms.specs.Operators.{OnFound}
 use Rattle.terms.specs.Outcomes as cells
 use Rattle.trees.specs.Chains.{treeOutcome, clauseFor}
-use Rattle.evaluation.specs.Run.{Entered, ended, State, envOf, Handing, handed, failed, inFront, evaluated, handing, onHanding}
-use Rattle.scopes.specs.Steps.{hands, stops, handOf, override, overrideAt, handedOf, Hands, givensFrom, Over, all, stopped, also, overAll, calledCount, HandedAll}
-use Rattle.scopes.proofs.Cells.{valued, ends-by}
-
-abbrev pub onOver : Over → ℕ → (List Given → Entered) → Entered
-onOver (all gs) count go = go gs
-onOver (stopped c) count go = ended c count
-
--- what the definition hands over, as what is handed over here
-abbrev asOver : Handing → Over
-asOver (handed gs) = all gs
-asOver (failed c) = stopped c
-
-over-front : (g : Given) (h : Handing) → asOver (inFront g h) ≡ also (hands g) (asOver h)
-over-front g (handed gs) = refl
-over-front g (failed c) = refl
-
-over-evaluated : (o : Outcome) (h : Handing) → asOver (evaluated o h) ≡ also (handOf o) (asOver h)
-over-evaluated (Gives v) h = over-front (Present v) h
-over-evaluated (Ends c) h = refl
-
-over-handing : (e : Env) (s : Scope) (k v : ℕ) (xs : List Variable) → asOver (handing e s k v xs) ≡ overAll e s k v (length xs)
-unfolding handing overAll
-over-handing e s k v [] = refl
-over-handing e s k v (x ∷ xs) =
-    let t = calledTarget k v in
-    let rest = over-handing e s k (suc v) xs in
-    ⊎-elim
-    (λ (q : hasClause s t ≡ true). rw q (over-evaluated (eval e (tree s t)) (handing e s k (suc v) xs) ∙ ap (also (handOf (eval e (tree s t)))) rest))
-    (λ (q : hasClause s t ≡ false). rw q (over-front Absent (handing e s k (suc v) xs) ∙ ap (also (hands Absent)) rest))
-    (decide (hasClause s t))
-
-on-over : (h : Handing) (count : ℕ) (go : List Given → Entered) → onHanding h count go ≡ onOver (asOver h) count go
-on-over (handed gs) count go = refl
-on-over (failed c) count go = refl
-
-pub overrides-over : (s : Scope) (st : State) (k v : ℕ) (xs : List Variable) (go : List Given → Entered)
-    → onHanding (handing (envOf st) s k v xs) (st .count) go ≡ onOver (overAll (envOf st) s k v (length xs)) (st .count) go
-overrides-over s st k v xs go =
-    on-over (handing (envOf st) s k v xs) (st .count) go ∙ ap (λ o. onOver o (st .count) go) (over-handing (envOf st) s k v xs)
+use Rattle.evaluation.specs.Handing.{hands, stops, fallsBack, handed, failed, override, handingBy, handing}
+use Rattle.scopes.specs.Steps.{overrideAt, handedOf, Hands, givensFrom, calledVariables, calledCount, HandedAll}
 
 -- environments that agree on the override trees
-pub over-agrees : (e f : Env) (s : Scope) (k : ℕ) → ((v : ℕ) → eval e (tree s (calledTarget k v)) ≡ eval f (tree s (calledTarget k v)))
-    → (v n : ℕ) → overAll e s k v n ≡ overAll f s k v n
-unfolding overAll
-over-agrees e f s k h v zero = refl
-over-agrees e f s k h v (suc n) =
-    λ i. also (cond (hasClause s (calledTarget k v)) (handOf (h v i)) (hands Absent)) (over-agrees e f s k h (suc v) n i)
+pub handing-agrees : (e f : Env) (s : Scope) (k : ℕ) → ((v : ℕ) → eval e (tree s (calledTarget k v)) ≡ eval f (tree s (calledTarget k v)))
+    → (v : ℕ) (xs : List Variable) → handing e s k v xs ≡ handing f s k v xs
+unfolding handingBy
+handing-agrees e f s k h v [] = refl
+handing-agrees e f s k h v (x ∷ xs) = rw (h v, handing-agrees e f s k h (suc v) xs)
 
--- the cells hold what the variables from v on, below n, are handed
+-- the cells hold what the variables from v on are handed
 module _ (env : Env) (s : Scope) (k : ℕ) (cells : List ℕ) where
-  pub over-all : (v n : ℕ) → ((u : ℕ) → v ≤ u → u < v + n → override env s k u ≡ hands (givenAt cells u))
-      → overAll env s k v n ≡ all (givensFrom cells v n)
-  unfolding overAll givensFrom
-  over-all v zero h = refl
-  over-all v (suc n) h =
-      rw (h v (omega arith) (omega arith), over-all (suc v) n (λ u l m. h u (omega arith) (omega arith)))
+  all-handed : (v : ℕ) (xs : List Variable) → ((u : ℕ) → v ≤ u → u < v + length xs → override env s k u ≡ hands (givenAt cells u))
+      → handing env s k v xs ≡ handed (givensFrom cells v (length xs))
+  unfolding handingBy givensFrom
+  all-handed v [] h = refl
+  all-handed v (x ∷ xs) h =
+      rw (h v (omega arith) (omega arith), all-handed (suc v) xs (λ u l m. h u (omega arith) (omega arith)))
 
-  pub over-stopped : (v d n : ℕ) (c : Cause) → d < n → ((u : ℕ) → v ≤ u → u < v + d → override env s k u ≡ hands (givenAt cells u))
-      → override env s k (v + d) ≡ stops c → overAll env s k v n ≡ stopped c
-  unfolding overAll
-  over-stopped v d zero c l h e = absurd (omega arith)
-  over-stopped v zero (suc n) c l h e =
+  one-stops : (v d : ℕ) (xs : List Variable) (c : Cause) → d < length xs → ((u : ℕ) → v ≤ u → u < v + d → override env s k u ≡ hands (givenAt cells u))
+      → override env s k (v + d) ≡ stops c → handing env s k v xs ≡ failed c
+  unfolding handingBy
+  one-stops v d [] c l h e = absurd (omega arith)
+  one-stops v zero (x ∷ xs) c l h e =
       let z : v + 0 ≡ v = omega arith in
       let here : override env s k v ≡ stops c = ap (override env s k) (sym z) ∙ e in
       rw here
-  over-stopped v (suc d) (suc n) c l h e =
+  one-stops v (suc d) (x ∷ xs) c l h e =
       let z : suc v + d ≡ v + suc d = omega arith in
       rw (
         h v (omega arith) (omega arith),
-        over-stopped (suc v) d n c (omega arith) (λ u a b. h u (omega arith) (omega arith)) (ap (override env s k) z ∙ e),
+        one-stops (suc v) d xs c (omega arith) (λ u a b. h u (omega arith) (omega arith)) (ap (override env s k) z ∙ e),
       )
 
 less-or-same : (u v : ℕ) → u < v + 1 → (u < v) ⊎ (u ≡ v)
 less-or-same u v l =
     ⊎-elim (λ (q : ltb u v ≡ true). inl (ltb-true u v q)) (λ (q : ltb u v ≡ false). inr (omega (arith, ltb-false u v q))) (decide (ltb u v))
+
+-- The cell of what an override tree hands over
+
+end-handed : (d : Cause) (r : ℕ) → r ≡ causeCell d → handedOf r ≡ stops d
+end-handed d r e =
+    let high : emptyCell ≤ r = rw e (end-high d) in
+    rw (le-ltb r emptyCell high) (ap stops (ap causeOf e ∙ cause-decoded d))
+
+found-handed : (o : Outcome) (r : ℕ) → Gathers r (found o) → handedOf r ≡ fallsBack o
+unfolding gatheredCell givenOf
+found-handed (Gives y) r g =
+    let low : r < emptyCell = rw (g .is) (value-before-ends y (g .fits)) in
+    rw (lt-ltb r emptyCell low) (ap hands (ap givenOf (g .is) ∙ given-cell y (g .fits)))
+found-handed (Ends Empty) r g = rw (g .is) refl
+found-handed (Ends Conflict) r g = end-handed Conflict r (g .is)
+found-handed (Ends (OutOfRange s)) r g = end-handed (OutOfRange s) r (g .is)
+
+found-kept : (o : Outcome) (r : ℕ) → Gathers r (found o) → r < emptyCell → Kept r
+unfolding gatheredCell cellOf
+found-kept (Gives y) r g l = kept-value r y (record { is = g .is; fits = g .fits })
+found-kept (Ends Empty) r g l = subst Kept (sym (g .is)) kept-nothing
+found-kept (Ends Conflict) r g l = no-value Conflict r (record { is = g .is; fits = g .fits }) l
+found-kept (Ends (OutOfRange s)) r g l = no-value (OutOfRange s) r (record { is = g .is; fits = g .fits }) l
 
 -- one variable is handed over
 module _ (bytes own called : List ℕ) (i k v : ℕ) where
@@ -114,16 +99,9 @@ module _ (bytes own called : List ℕ) (i k v : ℕ) where
   unfolding overrideAt clauseFor givenOf
   hands-none q = record { same = rw q refl; kept = λ l. kept-nothing }
 
-  pub hands-tree : (c : ℕ) → clauseFor bytes i k v ≡ true → Codes c (treeOutcome bytes own called i k v) → Hands bytes own called i k v c
+  pub hands-tree : (c r : ℕ) → clauseFor bytes i k v ≡ true → Codes c (treeOutcome bytes own called i k v) → OnFound c r → Hands bytes own called i k v r
   unfolding overrideAt clauseFor treeOutcome
-  hands-tree c q h = record { same = rw q (handed _ h); kept = λ l. valued _ c h l .kept }
-    where
-      handed : (o : Outcome) → Codes c o → handedOf c ≡ handOf o
-      handed o h =
-          ⊎-elim
-          (λ (t : ltb c emptyCell ≡ true). let w = valued o c h (ltb-true c emptyCell t) in rw (t, w .gives) (ap hands (w .held)))
-          (λ (t : ltb c emptyCell ≡ false). rw (t, ends-by o c h (ltb-false c emptyCell t)))
-          (decide (ltb c emptyCell))
+  hands-tree c r q h f = let o = treeOutcome bytes own called i k v in record { same = rw q (found-handed o r (f o h)); kept = found-kept o r (f o h) }
 
 -- the cells hold what the variables below v are handed
 pub record Passed (bytes own called : List ℕ) (i k : ℕ) (handed : List ℕ) (v : ℕ) : Type 0 where
@@ -163,7 +141,7 @@ module _ {bytes own called : List ℕ} {i k v : ℕ} {handed : List ℕ} {c : �
         size = p .size;
         kept = p .kept;
         same = rw (le-ltb c emptyCell high)
-            (sym (over-stopped env s k handed 0 v (calledCount (scopesOf bytes) i k) (causeOf c) l (λ u a b. p .done u (omega arith)) (ap (override env s k) z ∙ sym here)));
+            (sym (one-stops env s k handed 0 v (calledVariables (scopesOf bytes) i k) (causeOf c) l (λ u a b. p .done u (omega arith)) (ap (override env s k) z ∙ sym here)));
       }
 
 pub end : {bytes own called : List ℕ} {i k v : ℕ} {handed : List ℕ} → Passed bytes own called i k handed v → calledCount (scopesOf bytes) i k ≤ v
@@ -172,5 +150,5 @@ end {bytes} {own} {called} {i} {k} {v} {handed} p l =
     record {
       size = p .size;
       kept = p .kept;
-      same = sym (over-all (cells.envOf own called) (scopeAt (scopesOf bytes) i) k handed 0 (calledCount (scopesOf bytes) i k) (λ u a b. p .done u (omega (arith, p .at))));
+      same = sym (all-handed (cells.envOf own called) (scopeAt (scopesOf bytes) i) k handed 0 (calledVariables (scopesOf bytes) i k) (λ u a b. p .done u (omega (arith, p .at))));
     }

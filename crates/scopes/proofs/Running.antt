@@ -45,15 +45,17 @@ use Rattle.terms.specs.Outcomes as cells
 use Rattle.terms.proofs.Trees.{named-agrees, tree-named}
 use Rattle.lists.specs.Inputs.{isGiven}
 use Rattle.lists.specs.Writing.{valuesOf}
-use Rattle.evaluation.specs.Run.{Entered, values, ended, State, envOf, onValue, onEntered, begin, runSteps, enter}
+use Rattle.evaluation.specs.Handing as overrides
+use Rattle.evaluation.specs.Handing.{Handing, failed, handing}
+use Rattle.evaluation.specs.Run.{Entered, values, ended, State, envOf, onValue, onEntered, onHanding, begin, runStepsBy, runSteps, enter}
 use Rattle.evaluation.proofs.Running.{countOf, steps-count}
 use Rattle.evaluation.proofs.Entering.{accepted-entered-steps}
 use Rattle.evaluation.proofs.Counts.{bounded-count, entered-bounded}
-use Rattle.scopes.specs.Steps.{stepOutcome, givensFrom, all, stopped, overAll, calledCount, HandedAll, enteredAt, ranView, Came}
+use Rattle.scopes.specs.Steps.{stepOutcome, givensFrom, calledVariables, calledCount, HandedAll, enteredAt, ranView, Came}
 use Rattle.scopes.specs.declared.Ran.{Ran}
 use Rattle.scopes.specs.declared.Ran.the-variants.{Values, Ended}
 use Rattle.scopes.proofs.Cells.{Stored, givens-at, values-at, values-held, pasted, pasted-length, pasted-in, pasted-before, pasted-after, kept-pasted, kept-none}
-use Rattle.scopes.proofs.Hands.{onOver, overrides-over, over-agrees}
+use Rattle.scopes.proofs.Hands.{handing-agrees}
 
 -- the first n steps are done
 abbrev pub Done : List ℕ → ℕ → ℕ → ℕ → Type 0
@@ -180,7 +182,7 @@ module _ (bytes : List ℕ) (i : ℕ) (given : List ℕ) (ok : judge bytes ≡ A
       run : runSteps book all-blocks s gs (x ∷ drop (suc n) (stepOrder s)) (r .state)
           ≡ onValue (stepOutcome bytes given own called i x) (r .state .count)
           (λ v. runSteps book all-blocks s gs (drop (suc n) (stepOrder s)) (record { own = set (r .state .own) x (Present v); called = r .state .called; count = r .state .count }))
-      unfolding runSteps
+      unfolding runStepsBy
       run =
           rw (lt-ltb x vars own-step)
           (λ j. onValue (outcome j) (r .state .count)
@@ -242,13 +244,13 @@ module _ (bytes : List ℕ) (i : ℕ) (given : List ℕ) (ok : judge bytes ≡ A
       abbrev j : ℕ
       j = getD (s .subScopes) k 0
 
-      over : overAll (envOf (r .state)) s k 0 (calledCount book i k) ≡ overAll (cells.envOf own called) s k 0 (calledCount book i k)
+      over : handing (envOf (r .state)) s k 0 (calledVariables book i k) ≡ handing (cells.envOf own called) s k 0 (calledVariables book i k)
       over =
-          over-agrees (envOf (r .state)) (cells.envOf own called) s k
+          handing-agrees (envOf (r .state)) (cells.envOf own called) s k
           (λ v. agrees (calledTarget k v) (λ w h.
           steps-after book s w formed complete n more
           (ap (λ (z : ℕ). dependsOn s z w) (sym call-step) ∙ call-depends book s formed (accepted .within i) k w call-below .1 (v, h))))
-          0 (calledCount book i k)
+          0 (calledVariables book i k)
 
       abbrev later : List Given → Entered
       later handed' =
@@ -256,28 +258,27 @@ module _ (bytes : List ℕ) (i : ℕ) (given : List ℕ) (ok : judge bytes ≡ A
           (λ vs m. runSteps book all-blocks s gs (drop (suc n) (stepOrder s)) (record { own = r .state .own; called = set (r .state .called) k vs; count = m }))
 
       run-call : runSteps book all-blocks s gs (x ∷ drop (suc n) (stepOrder s)) (r .state)
-          ≡ onOver (overAll (cells.envOf own called) s k 0 (calledCount book i k)) (r .state .count) later
-      unfolding runSteps
+          ≡ onHanding (handing (cells.envOf own called) s k 0 (calledVariables book i k)) (r .state .count) later
+      unfolding runStepsBy
       run-call =
           let e : x - vars ≡ k = omega arith in
           rw (le-ltb x vars (omega arith), e)
-          (overrides-over s (r .state) k 0 (scopeAt book j .variables) later
-          ∙ ap (λ o. onOver o (r .state .count) later) over)
+          (ap (λ (o : Handing). onHanding o (r .state .count) later) over)
 
-      whole-call : enteredAt bytes i given ≡ onOver (overAll (cells.envOf own called) s k 0 (calledCount book i k)) (r .state .count) later
+      whole-call : enteredAt bytes i given ≡ onHanding (handing (cells.envOf own called) s k 0 (calledVariables book i k)) (r .state .count) later
       whole-call = sym (r .rest) ∙ ap (λ (xs : List ℕ). runSteps book all-blocks s gs xs (r .state)) next ∙ run-call
 
       module _ {o : ℕ} {handed' : List ℕ} (h : HandedAll bytes own called i k o handed') where
         pub call-stops : emptyCell ≤ o → enteredAt bytes i given ≡ ended (causeOf o) count
         call-stops high =
-            let q : stopped (causeOf o) ≡ overAll (cells.envOf own called) s k 0 (calledCount book i k) = rw (le-ltb o emptyCell high) at (h .same) in
-            whole-call ∙ ap (λ z. onOver z (r .state .count) later) (sym q) ∙ ap (ended (causeOf o)) (r .counted)
+            let q : failed (causeOf o) ≡ handing (cells.envOf own called) s k 0 (calledVariables book i k) = rw (le-ltb o emptyCell high) at (h .same) in
+            whole-call ∙ ap (λ (z : Handing). onHanding z (r .state .count) later) (sym q) ∙ ap (ended (causeOf o)) (r .counted)
 
         handed-over : o < emptyCell → enteredAt bytes i given ≡ later (givensFrom handed' 0 (calledCount book i k))
         handed-over low =
-            let q : all (givensFrom handed' 0 (calledCount book i k)) ≡ overAll (cells.envOf own called) s k 0 (calledCount book i k) =
+            let q : overrides.handed (givensFrom handed' 0 (calledCount book i k)) ≡ handing (cells.envOf own called) s k 0 (calledVariables book i k) =
             rw (lt-ltb o emptyCell low) at (h .same) in
-            whole-call ∙ ap (λ z. onOver z (r .state .count) later) (sym q)
+            whole-call ∙ ap (λ (z : Handing). onHanding z (r .state .count) later) (sym q)
 
         -- the scope entered came to q
         module _ (low : o < emptyCell) {q : Ran} {part : List ℕ} (came : Came bytes j handed' q part) where
@@ -366,7 +367,7 @@ module _ (bytes : List ℕ) (i : ℕ) (given : List ℕ) (ok : judge bytes ≡ A
                   (decide (ltb k' k))
 
   pub stop : {own called handed : List ℕ} {count n : ℕ} → Running bytes i given own called handed count n → stepCount s ≤ n → Came bytes i given (Values count) own
-  unfolding valuesOf runSteps stepCount
+  unfolding valuesOf runStepsBy stepCount
   stop {own} {called} {handed} {count} {n} r l =
       let st = r .state in
       let all-done : (x : ℕ) → x < vars → Done bytes i n x =

@@ -20,12 +20,14 @@ use Rattle.book.specs.Scopes.{blocks}
 use Rattle.book.specs.Trees.{tree, hasClause, calledTarget, ownTarget}
 use Rattle.book.specs.Steps.{stepCount, stepOrder}
 use Rattle.book.specs.Judge.{judge}
+use Rattle.book.specs.declared.Variable.{Variable}
 use Rattle.answers.specs.declared.Judged.the-variants.{Accepted}
 use Rattle.terms.specs.Outcomes.{envOf}
 use Rattle.lists.specs.Inputs.{isGiven}
 use Rattle.lists.specs.Writing.{valuesOf}
 use Rattle.links.specs.Links.{Sound, AllLinked}
 use Rattle.trees.specs.Rows.{Evaluable}
+use Rattle.evaluation.specs.Handing.{Handed, hands, stops, Handing, handed, failed, override, handing}
 use Rattle.evaluation.specs.Run.{Entered, values, ended, enter}
 use Rattle.scopes.specs.declared.Ran.{Ran}
 use Rattle.scopes.specs.declared.Ran.the-variants.{Values, Ended}
@@ -40,19 +42,7 @@ pub record Stepping (bytes index links given own called : List ℕ) (i x : ℕ) 
   pub givenKept : AllKept given
   pub room : x < length given
 
--- what handing over one variable comes to
-pub data Handed : Type 0 where
-  hands : Given → Handed
-  stops : Cause → Handed
-
-abbrev pub handOf : Outcome → Handed
-handOf (Gives v) = hands (Present v)
-handOf (Ends c) = stops c
-
--- variable v of sub-scope k
-abbrev pub override : Env → Scope → ℕ → ℕ → Handed
-override env s k v = cond (hasClause s (calledTarget k v)) (handOf (eval env (tree s (calledTarget k v)))) (hands Absent)
-
+-- what variable v of sub-scope k is handed
 unfoldable pub overrideAt : List ℕ → List ℕ → List ℕ → ℕ → ℕ → ℕ → Handed
 overrideAt bytes own called i k v = override (envOf own called) (scopeAt (scopesOf bytes) i) k v
 
@@ -70,28 +60,16 @@ unfoldable pub givensFrom : List ℕ → ℕ → ℕ → List Given
 givensFrom cells v zero = []
 givensFrom cells v (suc n) = givenAt cells v ∷ givensFrom cells (suc v) n
 
--- what handing over all variables comes to
-pub data Over : Type 0 where
-  all : List Given → Over
-  stopped : Cause → Over
+-- the variables of the scope that sub-scope k of scope i names
+abbrev pub calledVariables : List Scope → ℕ → ℕ → List Variable
+calledVariables book i k = scopeAt book (getD (scopeAt book i .subScopes) k 0) .variables
 
-abbrev pub also : Handed → Over → Over
-also (hands g) (all gs) = all (g ∷ gs)
-also (hands g) (stopped c) = stopped c
-also (stops c) o = stopped c
-
--- n variables of sub-scope k from v on
-unfoldable pub overAll : Env → Scope → ℕ → ℕ → ℕ → Over
-overAll env s k v zero = all []
-overAll env s k v (suc n) = also (override env s k v) (overAll env s k (suc v) n)
-
--- how many variables the scope has that sub-scope k of scope i names
 abbrev pub calledCount : List Scope → ℕ → ℕ → ℕ
 calledCount book i k = length (scopeAt book (getD (scopeAt book i .subScopes) k 0) .variables)
 
 -- what handing over all variables comes to, by a cell that is no end's or an end's, and what is handed over
-abbrev pub overOf : ℕ → List Given → Over
-overOf c gs = cond (ltb c emptyCell) (all gs) (stopped (causeOf c))
+abbrev pub handingOf : ℕ → List Given → Handing
+handingOf c gs = cond (ltb c emptyCell) (handed gs) (failed (causeOf c))
 
 pub record HandsAll (bytes index links own called : List ℕ) (i k : ℕ) (handed : List ℕ) : Type 0 where
   pub evaluable : Evaluable bytes index links own called i
@@ -102,8 +80,8 @@ pub record HandsAll (bytes index links own called : List ℕ) (i k : ℕ) (hande
 pub record HandedAll (bytes own called : List ℕ) (i k c : ℕ) (handed : List ℕ) : Type 0 where
   pub size : length handed ≡ 32
   pub kept : AllKept handed
-  pub same : overOf c (givensFrom handed 0 (calledCount (scopesOf bytes) i k))
-      ≡ overAll (envOf own called) (scopeAt (scopesOf bytes) i) k 0 (calledCount (scopesOf bytes) i k)
+  pub same : handingOf c (givensFrom handed 0 (calledCount (scopesOf bytes) i k))
+      ≡ handing (envOf own called) (scopeAt (scopesOf bytes) i) k 0 (calledVariables (scopesOf bytes) i k)
 
 -- the tables that a run rests on
 pub record World (bytes index links orders : List ℕ) : Type 0 where

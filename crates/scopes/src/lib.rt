@@ -11,6 +11,7 @@ use memo::recall;
 use memo::remember;
 use slices::byte_at;
 use slices::part_of;
+use terms::found;
 use trees::eval_tree;
 use trees::has_clause;
 ghost use Rattle.cells.specs.Codec.{Codes};
@@ -53,7 +54,7 @@ fn step_cell(
     eval_tree(book, index, links, own, called, i, 255, x)
 }
 
-// The cell that variable v of sub-scope k of scope i is handed: what its override tree comes to, nothing where it has no clauses.
+// The cell that variable v of sub-scope k of scope i is handed: what its override tree comes to, and nothing where it has no clauses or is empty.
 fn override_cell(
     book: &[u8],
     index: &[u16],
@@ -70,11 +71,11 @@ fn override_cell(
     if !has_clause(book, index, links, i, k, v) {
         return NOTHING;
     }
-    eval_tree(book, index, links, own, called, i, k, v)
+    found(eval_tree(book, index, links, own, called, i, k, v))
 }
 
-// Hands over the variables of sub-scope k of scope i in their order, up to the first whose override tree has no value: the end's cell,
-// or nothing where each has one.
+// Hands over the variables of sub-scope k of scope i in their order, up to the first whose override tree ends in conflict or out of range:
+// the end's cell, or nothing where none does.
 fn hand_over(
     book: &[u8],
     index: &[u16],

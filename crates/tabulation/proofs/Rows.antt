@@ -34,6 +34,7 @@ use Rattle.answers.specs.declared.Answer.the-variants.{Values}
 use Rattle.acceptance.proofs.Limits.{accepted-within}
 use Rattle.lists.specs.Inputs.{good, inputs}
 use Rattle.lists.specs.Results.{resultLength, results}
+use Rattle.evaluation.specs.Handing.{fallsBack}
 use Rattle.evaluation.specs.Run.{Entered, values, ended, runScope}
 use Rattle.evaluation.specs.Evaluate.{Reply, replyOf, evaluate}
 use Rattle.evaluation.proofs.Types.{inputs-fitting, values-length}
@@ -89,7 +90,7 @@ module _ (bytes : List ℕ) (n i : ℕ) (ok : judge bytes ≡ judged.Accepted n)
       pub row-evaluated : evaluate bytes i (fixed ++ assigned (inOrder chosen variables) a) (resultLength variables)
           ≡ replyOf (runScope (scopesOf bytes) i (giving gs (inOrder chosen variables) a))
       row-evaluated =
-          evaluate-run bytes i (fixed ++ assigned (inOrder chosen variables) a) (resultLength variables) n ok here (giving gs (inOrder chosen variables) a)
+          evaluate-run fallsBack bytes i (fixed ++ assigned (inOrder chosen variables) a) (resultLength variables) n ok here (giving gs (inOrder chosen variables) a)
           row-inputs
           (omega arith)
 

@@ -113,8 +113,8 @@ fn binary(kind: u8, x: u64, y: u64) -> u64
     }
 }
 
-// What one exception comes to: an empty one to nothing.
-fn found(o: u64) -> u64
+// What one exception comes to, or what an override tree hands over: an empty one to nothing.
+pub fn found(o: u64) -> u64
     ensures { λ r. ⌜ OnFound o r ⌝ }
 {
     if o == EMPTY { NOTHING } else { o }

@@ -1,10 +1,10 @@
--- The code of an accepted book is at most seven times as long as the book, and has 185,051 bytes at most.
+-- The code of an accepted book is at most seven times as long as the book, and has 201,435 bytes at most.
 --     steps-length, block-length, blocks-length    the length of code, as a sum
 --     own-cost, called-cost    a target's tree costs no more than its clauses do
 --     targets-cost             each clause has one target, so the targets cost no more than all clauses
---     block-most               a block has two bytes, nine for each variable, four for each sub-scope, 38 for each clause, and for each 14 bytes of
+--     block-most               a block has two bytes, nine for each variable, four for each sub-scope, 42 for each clause, and for each 14 bytes of
 --                              its nodes 46
---     code-bound, code-max     at most seven times the book's length, and 185,051 bytes
+--     code-bound, code-max     at most seven times the book's length, and 201,435 bytes
 -- Assumes nothing.
 use Prim.Native.Nat.{ℕ, zero, suc, _+_, _-_, _*_, _≤_, _<_}
 use mathlib.Core.Path.{_≡_, refl, sym, ap, subst, _∙_}
@@ -42,7 +42,7 @@ use Rattle.acceptance.proofs.Scanning.{scan-sound}
 use Rattle.acceptance.proofs.Acceptance.{accepted-faultless}
 use Rattle.acceptance.proofs.Orders.{accepted-book}
 use Rattle.translation.specs.Code.{size, sizes, code}
-use Rattle.translation.specs.Blocks.{variableCode, overridesCode, callCode, stepCode, stepsCode, variablesCode, subScopesCode, blockCode, blocksCode, codeOf}
+use Rattle.translation.specs.Blocks.{variableCode, overrideCode, overridesCode, callCode, stepCode, stepsCode, variablesCode, subScopesCode, blockCode, blocksCode, codeOf}
 use Rattle.translation.proofs.Sizes.{code-length}
 use Rattle.translation.proofs.Parts.{allOf}
 use Rattle.translation.proofs.Sums.{Below, sum-below}
@@ -58,11 +58,11 @@ variable-length s x k = omega (arith, code-length (tree s (ownTarget x)) (41 ∷
 
 -- what an override adds
 abbrev override : Scope → ℕ → ℕ → ℕ
-override s c v = cond (hasClause s (calledTarget c v)) (size (tree s (calledTarget c v)) + 3) 0
+override s c v = cond (hasClause s (calledTarget c v)) (size (tree s (calledTarget c v)) + 7) 0
 
 overrides-length : (s : Scope) (c v : ℕ) (xs : List Variable) (k : List ℕ)
     → length (overridesCode s c v xs k) ≡ range (override s c) v (length xs) + length k
-unfolding overridesCode range
+unfolding overridesCode range bytesOf
 overrides-length s c v [] k = omega arith
 overrides-length s c v (x ∷ xs) k = go (hasClause s (calledTarget c v)) (overrides-length s c (suc v) xs k)
   where
@@ -70,9 +70,9 @@ overrides-length s c v (x ∷ xs) k = go (hasClause s (calledTarget c v)) (overr
     t = tree s (calledTarget c v)
 
     go : (b : Bool) → length (overridesCode s c (suc v) xs k) ≡ range (override s c) (suc v) (length xs) + length k
-        → length (cond b (code t (42 ∷ c ∷ v ∷ overridesCode s c (suc v) xs k)) (overridesCode s c (suc v) xs k))
-        ≡ cond b (size t + 3) 0 + range (override s c) (suc v) (length xs) + length k
-    go true e = omega (arith, code-length t (42 ∷ c ∷ v ∷ overridesCode s c (suc v) xs k), e)
+        → length (cond b (overrideCode t c v (overridesCode s c (suc v) xs k)) (overridesCode s c (suc v) xs k))
+        ≡ cond b (size t + 7) 0 + range (override s c) (suc v) (length xs) + length k
+    go true e = omega (arith, code-length t (37 ∷ 42 ∷ c ∷ v ∷ overridesCode s c (suc v) xs k), e)
     go false e = omega (arith, e)
 
 module _ (book : List Scope) (s : Scope) where
@@ -139,7 +139,7 @@ module _ (book : List Scope) where
 
 -- 14 times the bytes of a clause: its code as a base, and what stands around the bases of one target, or for these where there are none
 abbrev price : Clause → Term → ℕ
-price c t = cond (eqb (c .parent) 255) (charge t) 0 + 196
+price c t = cond (eqb (c .parent) 255) (charge t) 0 + 252
 
 -- the clauses that have p, with their terms
 unfoldable cost : (Clause → Bool) → List Clause → List Term → ℕ
@@ -150,7 +150,7 @@ cost p (c ∷ cs) (t ∷ ts) = cond (p c) (price c t) 0 + cost p cs ts
 -- 14 times the bytes of bases, with what stands around them
 abbrev worth : Terms → ℕ
 worth none = 0
-worth (also e es) = 14 * (sizes (also e es) + 18)
+worth (also e es) = 14 * (sizes (also e es) + 22)
 
 worth-sizes : (es : Terms) → 14 * sizes es ≤ worth es
 unfolding size
@@ -165,20 +165,20 @@ module _ (t : Target) where
   bases-cost (c ∷ cs) (u ∷ ts) = go (hasTarget t c) (eqb (c .parent) 255) (select (isBase t) cs ts) (bases-cost cs ts)
     where
       go : (a b : Bool) (es : Terms) → worth es ≤ cost (hasTarget t) cs ts
-          → worth (cond (a && b) (also u es) es) ≤ cond a (cond b (charge u) 0 + 196) 0 + cost (hasTarget t) cs ts
+          → worth (cond (a && b) (also u es) es) ≤ cond a (cond b (charge u) 0 + 252) 0 + cost (hasTarget t) cs ts
       go true true es h = omega (arith, worth-sizes es)
       go true false es h = omega arith
       go false b es h = omega arith
 
   -- one clause at least has the target
-  some-cost : (cs : List Clause) (ts : List Term) → length ts ≡ length cs → any (hasTarget t) cs ≡ true → 196 ≤ cost (hasTarget t) cs ts
+  some-cost : (cs : List Clause) (ts : List Term) → length ts ≡ length cs → any (hasTarget t) cs ≡ true → 252 ≤ cost (hasTarget t) cs ts
   unfolding cost any
   some-cost [] ts l e = absurd (false≢true e)
   some-cost (c ∷ cs) [] l e = absurd (omega arith)
   some-cost (c ∷ cs) (u ∷ ts) l e = go (hasTarget t c) e (some-cost cs ts (omega arith))
     where
-      go : (a : Bool) → (a || any (hasTarget t) cs) ≡ true → (any (hasTarget t) cs ≡ true → 196 ≤ cost (hasTarget t) cs ts)
-          → 196 ≤ cond a (price c u) 0 + cost (hasTarget t) cs ts
+      go : (a : Bool) → (a || any (hasTarget t) cs) ≡ true → (any (hasTarget t) cs ≡ true → 252 ≤ cost (hasTarget t) cs ts)
+          → 252 ≤ cond a (price c u) 0 + cost (hasTarget t) cs ts
       go true e r = omega arith
       go false e r = omega (arith, r e)
 
@@ -193,8 +193,8 @@ module _ (t : Target) where
   no-rule [] e = refl
   no-rule (c ∷ cs) e = let h = neither (hasTarget t c) (any (hasTarget t) cs) e in rw (h .0, no-rule cs (h .1))
 
--- a tree, with an override's store
-tree-size : (b : Bool) (ts : Terms) (k : ℕ) → worth ts ≤ k → 196 ≤ k → 14 * (size (cond b (withRules ts) (withoutRules ts)) + 3) ≤ k
+-- a tree, with an override's try and store
+tree-size : (b : Bool) (ts : Terms) (k : ℕ) → worth ts ≤ k → 252 ≤ k → 14 * (size (cond b (withRules ts) (withoutRules ts)) + 7) ≤ k
 unfolding size
 tree-size true none k h l = omega arith
 tree-size true (also u us) k h l = omega arith
@@ -215,7 +215,7 @@ module _ (s : Scope) where
   abbrev costOf : Target → ℕ
   costOf t = cost (hasTarget t) (s .clauses) terms
 
-  tree-cost : (t : Target) → hasClause s t ≡ true → 14 * (size (tree s t) + 3) ≤ costOf t
+  tree-cost : (t : Target) → hasClause s t ≡ true → 14 * (size (tree s t) + 7) ≤ costOf t
   unfolding tree bases
   tree-cost t e =
       tree-size (hasRule s t) (select (isBase t) (s .clauses) terms) (costOf t) (bases-cost t (s .clauses) terms)
@@ -355,14 +355,14 @@ module _ (own subs : ℕ) (theirs : ℕ → ℕ) (few : subs ≤ 255) where
 
 -- The cost of all clauses
 
-roots-cost : (cs : List Clause) (ts : List Term) → cost (λ c. true) cs ts ≤ 196 * length cs + allOf charge (select (λ c. eqb (c .parent) 255) cs ts)
+roots-cost : (cs : List Clause) (ts : List Term) → cost (λ c. true) cs ts ≤ 252 * length cs + allOf charge (select (λ c. eqb (c .parent) 255) cs ts)
 unfolding cost select allOf
 roots-cost [] ts = omega arith
 roots-cost (c ∷ cs) [] = omega arith
 roots-cost (c ∷ cs) (t ∷ ts) = go (eqb (c .parent) 255) (select (λ d. eqb (d .parent) 255) cs ts) (roots-cost cs ts)
   where
-    go : (b : Bool) (es : Terms) → cost (λ d. true) cs ts ≤ 196 * length cs + allOf charge es
-        → cond b (charge t) 0 + 196 + cost (λ d. true) cs ts ≤ 196 * suc (length cs) + allOf charge (cond b (also t es) es)
+    go : (b : Bool) (es : Terms) → cost (λ d. true) cs ts ≤ 252 * length cs + allOf charge es
+        → cond b (charge t) 0 + 252 + cost (λ d. true) cs ts ≤ 252 * suc (length cs) + allOf charge (cond b (also t es) es)
     go true es h = omega arith
     go false es h = omega arith
 
@@ -412,7 +412,7 @@ once-sum f edge n xs c =
 -- code that is short beside the records of a scope
 record Short (size : ℕ) (s : Scope) : Type 0 where
   seven : size ≤ 7 * (1 + inner s)
-  tight : 14 * size ≤ 46 * (1 + inner s) + 33856
+  tight : 14 * size ≤ 46 * (1 + inner s) + 41024
 
 module _ (book : List Scope) (s : Scope) (within : WithinLimits s) (formed : WellFormed book s)
     (complete : CompleteOrder (dependsOn s) (stepCount s) (stepOrder s)) where
@@ -422,7 +422,7 @@ module _ (book : List Scope) (s : Scope) (within : WithinLimits s) (formed : Wel
   abbrev n : ℕ
   n = length (s .subScopes)
 
-  all-cost : cost (λ c. true) (s .clauses) (terms s) ≤ 532 * length (s .clauses) + 46 * allBytes (s .nodes)
+  all-cost : cost (λ c. true) (s .clauses) (terms s) ≤ 588 * length (s .clauses) + 46 * allBytes (s .nodes)
   all-cost =
       let few = within .clauses in
       let nodes = gathered clauseNodes (s .clauses) in
@@ -452,7 +452,7 @@ module _ (book : List Scope) (s : Scope) (within : WithinLimits s) (formed : Wel
       ))
 
   block-most : 14 * (2 + 2 * length (s .variables) + 2 * length (s .subScopes) + sum (stepSize book s) (stepOrder s))
-      ≤ 28 + 126 * length (s .variables) + 56 * length (s .subScopes) + 532 * length (s .clauses) + 46 * allBytes (s .nodes)
+      ≤ 28 + 126 * length (s .variables) + 56 * length (s .subScopes) + 588 * length (s .clauses) + 46 * allBytes (s .nodes)
   unfolding stepCount
   block-most =
       let few = within .subScopes in
@@ -473,7 +473,7 @@ module _ (book : List Scope) (s : Scope) (within : WithinLimits s) (formed : Wel
 
 module _ (f : ℕ → ℕ) where
   range-scopes : (ss : List Scope) (a : ℕ) → ((k : ℕ) → k < length ss → Short (f (a + k)) (getD ss k emptyScope))
-      → (range f a (length ss) ≤ 7 * together ss) × (14 * range f a (length ss) ≤ 46 * together ss + 33856 * length ss)
+      → (range f a (length ss) ≤ 7 * together ss) × (14 * range f a (length ss) ≤ 46 * together ss + 41024 * length ss)
   unfolding range together
   range-scopes [] a h = (omega arith, omega arith)
   range-scopes (s ∷ ss) a h =
@@ -485,7 +485,7 @@ module _ (f : ℕ → ℕ) where
       (omega (arith, here .seven, rest .0), omega (arith, here .tight, rest .1))
 
 module _ (bytes : List ℕ) (n : ℕ) (accepted : judge bytes ≡ Accepted n) where
-  both-bounds : (length (codeOf (scopesOf bytes)) ≤ 7 * length bytes) × (14 * length (codeOf (scopesOf bytes)) ≤ 46 * length bytes + 33856 * n)
+  both-bounds : (length (codeOf (scopesOf bytes)) ≤ 7 * length bytes) × (14 * length (codeOf (scopesOf bytes)) ≤ 46 * length bytes + 41024 * n)
   unfolding codeOf
   both-bounds =
       let book = scopesOf bytes in
@@ -505,7 +505,7 @@ module _ (bytes : List ℕ) (n : ℕ) (accepted : judge bytes ≡ Accepted n) wh
   pub code-bound : length (codeOf (scopesOf bytes)) ≤ 7 * length bytes
   code-bound = both-bounds .0
 
-  pub code-max : length (codeOf (scopesOf bytes)) ≤ 185051
+  pub code-max : length (codeOf (scopesOf bytes)) ≤ 201435
   code-max =
       let a = accepted-book bytes n accepted in
       omega (arith, both-bounds .1, a .size, a .scopes)

@@ -5,6 +5,7 @@ use mathlib.Core.List.{List, [], _∷_, _++_}
 use lib.ListN.{length, getD}
 use lib.Dec.{ltb}
 use Rattle.slices.specs.Bytes.{bytesOf}
+use Rattle.calculus.specs.Terms.{Term}
 use Rattle.book.specs.Syntax.{Scope}
 use Rattle.book.specs.References.{scopeAt}
 use Rattle.book.specs.Trees.{tree, hasClause, ownTarget, calledTarget}
@@ -13,7 +14,7 @@ use Rattle.book.specs.Steps.{stepOrder}
 use Rattle.book.specs.declared.ValueType.{ValueType}
 use Rattle.book.specs.declared.ValueType.the-variants.{YesNo, Numeric}
 use Rattle.book.specs.declared.Variable.{Variable}
-use Rattle.translation.specs.Code.{size, code}
+use Rattle.translation.specs.Code.{far, size, code}
 
 -- "A variable: 44 past its store, tree, 41"
 unfoldable pub variableCode : Scope → ℕ → List ℕ → List ℕ
@@ -21,14 +22,18 @@ variableCode s x k =
     let t = tree s (ownTarget x) in
     44 ∷ x ∷ bytesOf 2 (size t + 2) ++ code t (41 ∷ x ∷ k)
 
--- "each tree with 42": for the variables from v on of the scope that sub-scope c names; a target without clauses has none
+-- "In the fixed translation each override tree has 36 before it and 37, then 42, after it; the try lands past the 42" (paper 02, No. 5)
+abbrev pub overrideCode : Term → ℕ → ℕ → List ℕ → List ℕ
+overrideCode t c v k = far 36 (size t + 4) (code t (37 ∷ 42 ∷ c ∷ v ∷ k))
+
+-- for the variables from v on of the scope that sub-scope c names; a target without clauses has none
 unfoldable pub overridesCode : Scope → ℕ → ℕ → List Variable → List ℕ → List ℕ
 overridesCode s c v [] k = k
 overridesCode s c v (x ∷ xs) k =
     let more = overridesCode s c (suc v) xs k in
-    cond (hasClause s (calledTarget c v)) (code (tree s (calledTarget c v)) (42 ∷ c ∷ v ∷ more)) more
+    cond (hasClause s (calledTarget c v)) (overrideCode (tree s (calledTarget c v)) c v more) more
 
--- "A call: each tree with 42, then 43"
+-- "A call: each tree with 42, then 43", with the amendment
 unfoldable pub callCode : List Scope → Scope → ℕ → List ℕ → List ℕ
 callCode book s c k = overridesCode s c 0 (scopeAt book (getD (s .subScopes) c 0) .variables) (43 ∷ c ∷ k)
 

@@ -68,10 +68,10 @@ unfoldable mutual
   AllSayable none = Unit {0}
   AllSayable (also e es) = Sayable e × AllSayable es
 
--- the term's code can be said, with "two bytes" for every distance, "1,024 stack entries" and "512 open tries"; a variable's code jumps
--- over its tree and two bytes more
+-- the term's code can be said, with "two bytes" for every distance, "1,024 stack entries" and "512 open tries"; an override's code has a try
+-- around its tree, which lands four bytes behind it
 pub record Runnable (t : Term) : Type 0 where
   pub sayable : Sayable t
-  pub near : size t + 2 < 65536
+  pub near : size t + 4 < 65536
   pub shallow : leaves t ≤ 1024
-  pub few : defaults t ≤ 512
+  pub few : defaults t < 512

@@ -15,8 +15,13 @@ returns c = hands-none _ _ _ _ _ _ (sym (c .before .has-clause .ensures) ∙ not
 eval-tree-requires : tie.Need-eval-tree-requires
 eval-tree-requires c κs = c .before .before .before .before .before .before .before .pre
 
+found-requires : tie.Need-found-requires
+found-requires c κs = tt
+
 returns-2 : tie.Need-returns-2
-returns-2 c = hands-tree _ _ _ _ _ _ _ (sym (c .before .before .has-clause .ensures) ∙ not-false _ (c .before .if1 .left)) (c .eval-tree .ensures)
+returns-2 c =
+    hands-tree _ _ _ _ _ _ _ _ (sym (c .before .before .before .has-clause .ensures) ∙ not-false _ (c .before .before .if1 .left))
+    (c .before .eval-tree .ensures) (c .found .ensures)
 
 pub override-cell-spec : {M : Type 1} → statement M
-override-cell-spec = tie.close (tie.spec has-clause-requires returns eval-tree-requires returns-2)
+override-cell-spec = tie.close (tie.spec has-clause-requires returns eval-tree-requires found-requires returns-2)

@@ -1,0 +1,67 @@
+-- The meaning before paper 02, No. 5, "Today an empty override ends the caller", and the runs that meet an empty override under it.
+use Prim.Native.Nat.{ℕ, _-_, _<_, _≤_}
+use mathlib.Core.Path.{_≡_}
+use mathlib.Core.List.{List, _∷_}
+use lib.ListN.{length, getD}
+use Rattle.calculus.specs.Evaluation.{step}
+use Rattle.calculus.specs.declared.Value.{Value}
+use Rattle.answers.specs.declared.Cause.the-variants.{Empty}
+use Rattle.calculus.specs.declared.Outcome.{Outcome}
+use Rattle.calculus.specs.declared.Outcome.the-variants.{Gives, Ends}
+use Rattle.calculus.specs.declared.Given.{Given}
+use Rattle.calculus.specs.declared.Given.the-variants.{Absent, Present}
+use Rattle.book.specs.Syntax.{Scope}
+use Rattle.book.specs.Decode.{scopesOf}
+use Rattle.book.specs.References.{scopeAt}
+use Rattle.book.specs.Trees.{tree, ownTarget}
+use Rattle.book.specs.Steps.{stepOrder}
+use Rattle.evaluation.specs.Handing.{Handed, hands, stops, Handing, handed, failed, handingBy}
+use Rattle.evaluation.specs.Run.{Entered, values, State, envOf, begin, runScopeBy}
+use Rattle.evaluation.specs.Evaluate.{Reply, evaluateBy}
+use Rattle.evaluation.specs.Readiness.{calleeOf, withVariable, withCall}
+use Rattle.evaluation.specs.Answers.{Entering}
+
+-- whatever an override tree ends by ends the run
+abbrev pub endsCaller : Outcome → Handed
+endsCaller (Gives y) = hands (Present y)
+endsCaller (Ends c) = stops c
+
+abbrev pub formerHands : List Scope → Scope → State → ℕ → Handing
+formerHands book s st x = handingBy endsCaller (envOf st) s (x - length (s .variables)) 0 (scopeAt book (calleeOf s x) .variables)
+
+abbrev pub formerScope : List Scope → ℕ → List Given → Entered
+formerScope = runScopeBy endsCaller
+
+abbrev pub formerEvaluate : List ℕ → ℕ → List ℕ → ℕ → Reply
+formerEvaluate = evaluateBy endsCaller
+
+-- "Runs that meet no such override": from a state of scope i on, with these steps left, the former run meets an empty override
+pub data Meets (book : List Scope) : ℕ → List Given → List ℕ → State → Type 0 where
+  -- the first override without a value in the next call is empty
+  here : {i : ℕ} {given : List Given} {x : ℕ} {xs : List ℕ} {st : State} → length (scopeAt book i .variables) ≤ x
+      → formerHands book (scopeAt book i) st x ≡ failed Empty
+      → Meets book i given (x ∷ xs) st
+  -- the scope that the next call enters meets one
+  deeper : {i : ℕ} {given : List Given} {x : ℕ} {xs : List ℕ} {st : State} (gs : List Given) → length (scopeAt book i .variables) ≤ x
+      → formerHands book (scopeAt book i) st x ≡ handed gs
+      → Meets book (calleeOf (scopeAt book i) x) gs (stepOrder (scopeAt book (calleeOf (scopeAt book i) x))) (begin (scopeAt book (calleeOf (scopeAt book i) x)))
+      → Meets book i given (x ∷ xs) st
+  -- the next step, a variable or a call, gives values, and the run meets one later
+  variable : {i : ℕ} {given : List Given} {x : ℕ} {xs : List ℕ} {st : State} (y : Value) → x < length (scopeAt book i .variables)
+      → step (getD given x Absent) (envOf st) (tree (scopeAt book i) (ownTarget x)) ≡ Gives y
+      → Meets book i given xs (withVariable st x y)
+      → Meets book i given (x ∷ xs) st
+  call : {i : ℕ} {given : List Given} {x : ℕ} {xs : List ℕ} {st : State} (gs : List Given) (vs : List Value) (n : ℕ) → length (scopeAt book i .variables) ≤ x
+      → formerHands book (scopeAt book i) st x ≡ handed gs
+      → formerScope book (calleeOf (scopeAt book i) x) gs ≡ values vs n
+      → Meets book i given xs (withCall st (x - length (scopeAt book i .variables)) vs n)
+      → Meets book i given (x ∷ xs) st
+
+-- the former run of scope i with these given variables meets one, at whatever depth
+abbrev pub MeetsEmpty : List Scope → ℕ → List Given → Type 0
+MeetsEmpty book i given = Meets book i given (stepOrder (scopeAt book i)) (begin (scopeAt book i))
+
+-- so does the evaluation that these bytes ask for, where it is not refused
+pub record EvaluationMeets (bytes : List ℕ) (i : ℕ) (list : List ℕ) (room : ℕ) : Type 0 where
+  pub entering : Entering bytes i list room
+  pub meets : MeetsEmpty (scopesOf bytes) i (entering .given)
