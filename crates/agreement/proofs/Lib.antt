@@ -10,3 +10,4 @@ pub mod Memory
 pub mod Steps
 pub mod Blocks
 pub mod Agreement
+pub mod Former

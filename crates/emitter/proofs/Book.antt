@@ -27,7 +27,7 @@ use Rattle.acceptance.specs.Accepted.{AcceptedBook}
 use Rattle.acceptance.proofs.Acceptance.{accepted-faultless}
 use Rattle.acceptance.proofs.Orders.{accepted-book}
 use Rattle.links.specs.Links.{Sound, Blank}
-use Rattle.translation.specs.Code.{size, code}
+use Rattle.translation.specs.Code.{size}
 use Rattle.translation.specs.Blocks.{typeByte, variableCode, overrideCode, overridesCode, callCode, stepCode, stepsCode, variablesCode, subScopesCode, blockCode}
 use Rattle.translation.specs.Blocks.{blocksCode, codeOf}
 use Rattle.translation.proofs.Sizes.{code-length}

@@ -1,12 +1,12 @@
 -- What paper 02, No. 5 changed: "Runs that meet no such override keep their answers".
 --     handing-kept        a call whose overrides do not end empty under the former meaning hands over the same
---     ends-empty          where they do, an override tree with clauses is empty
+--     ends-empty          where they do, the first override tree without a value is empty
 --     run-kept            a run that meets no empty override under the former meaning comes to the same, with the same count
 --     answers-kept        so evaluating answers the same, and writes the same bytes, for all bytes
 -- Assumes nothing.
-use Prim.Native.Nat.{ℕ, suc, _+_, _-_, _<_}
+use Prim.Native.Nat.{ℕ, zero, suc, _+_, _-_, _<_}
 use mathlib.Core.Path.{_≡_, refl, sym, ap, _∙_}
-use mathlib.Core.Bool.{Bool, true, false, cond}
+use mathlib.Core.Bool.{Bool, true, false, cond, false≢true}
 use mathlib.Core.List.{List, [], _∷_}
 use mathlib.Core.Logic.{⊎-elim}
 use native.Mathlib.Omega.{arith}
@@ -29,12 +29,12 @@ use Rattle.book.specs.Steps.{stepOrder}
 use Rattle.book.specs.Judge.{judge}
 use Rattle.book.specs.declared.Variable.{Variable}
 use Rattle.answers.specs.declared.Judged.the-variants.{Accepted}
-use Rattle.evaluation.specs.Handing.{Handed, hands, stops, fallsBack, Handing, handed, failed, inFront, handingBy, handing}
+use Rattle.evaluation.specs.Handing.{hands, fallsBack, Handing, handed, failed, inFront, handingBy, handing}
 use Rattle.evaluation.specs.Run.{Entered, values, ended, State, envOf, onValue, onEntered, onHanding, begin, runStepsBy, runSteps, runScope}
 use Rattle.evaluation.specs.Readiness.{calleeOf, handsOver, withVariable, withCall}
 use Rattle.evaluation.specs.Evaluate.{Reply, replyOf, evaluate}
 use Rattle.evaluation.specs.Answers.{Entering, Replied}
-use Rattle.evaluation.specs.Former.{endsCaller, formerHands, formerScope, formerEvaluate, Meets, MeetsEmpty, EvaluationMeets}
+use Rattle.evaluation.specs.Former.{endsCaller, formerHands, formerScope, formerEvaluate, MeetsHere, Meets, MeetsEmpty, EvaluationMeets}
 use Rattle.evaluation.proofs.Running.{Steps, call-number}
 use Rattle.evaluation.proofs.Entering.{steps-of, accepted-entered-by, accepted-entered-steps, accepted-by-blocks}
 use Rattle.evaluation.proofs.Cases.{evaluate-faulty, evaluate-absent, evaluate-malformed, evaluate-short, evaluate-run}
@@ -69,6 +69,61 @@ handing-kept e s k v (x ∷ xs) never = go (hasClause s (calledTarget k v)) (han
         → inFront (cond b (fallsBack o) (hands Absent)) rest ≡ inFront (cond b (endsCaller o) (hands Absent)) former
     go true same none = front-kept o rest former same none
     go false same none = ap (inFront (hands Absent)) (same (λ q. none (ap (inFront (hands Absent)) q)))
+
+-- a call that fails empty under the former meaning has an empty override
+
+abbrev isEmpty : Handing → Bool
+isEmpty (handed gs) = false
+isEmpty (failed Empty) = true
+isEmpty (failed Conflict) = false
+isEmpty (failed (OutOfRange s)) = false
+
+module _ (e : Env) (s : Scope) (k : ℕ) where
+  abbrev Gives-at : ℕ → Type 0
+  Gives-at v = hasClause s (calledTarget k v) ≡ true → (y : Value) × (eval e (tree s (calledTarget k v)) ≡ Gives y)
+
+  -- the variable in front gives a value, or has no override
+  behind : (v : ℕ) (x : Variable) (xs : List Variable) → Gives-at v → MeetsHere e s k (suc v) xs → MeetsHere e s k v (x ∷ xs)
+  behind v x xs g m =
+      let z : suc v + m .place ≡ v + suc (m .place) = omega arith in
+      record {
+        place = suc (m .place);
+        there = omega (arith, m .there);
+        some = rw z at (m .some);
+        empty = rw z at (m .empty);
+        before = at;
+      }
+    where
+      at : (u : ℕ) → u < suc (m .place) → Gives-at (v + u)
+      at zero l = let z : v + 0 ≡ v = omega arith in rw z g
+      at (suc u) l = let z : v + suc u ≡ suc v + u = omega arith in rw z (m .before u (omega arith))
+
+  front-empty : (g : Given) (h : Handing) → inFront (hands g) h ≡ failed Empty → h ≡ failed Empty
+  front-empty g (handed gs) q = absurd (false≢true (ap isEmpty q))
+  front-empty g (failed c) q = q
+
+  -- the outcome of the override in front
+  by-outcome : (v : ℕ) (x : Variable) (xs : List Variable) (h : Handing) (o : Outcome) → hasClause s (calledTarget k v) ≡ true
+      → eval e (tree s (calledTarget k v)) ≡ o → (h ≡ failed Empty → MeetsHere e s k (suc v) xs) → inFront (endsCaller o) h ≡ failed Empty
+      → MeetsHere e s k v (x ∷ xs)
+  by-outcome v x xs h (Gives y) b p more q = behind v x xs (λ _. (y, p)) (more (front-empty (Present y) h q))
+  by-outcome v x xs h (Ends Empty) b p more q =
+      let z : v + 0 ≡ v = omega arith in
+      record { place = 0; there = omega arith; some = rw z b; empty = rw z p; before = λ u l. absurd (omega arith) }
+  by-outcome v x xs h (Ends Conflict) b p more q = absurd (false≢true (ap isEmpty q))
+  by-outcome v x xs h (Ends (OutOfRange r)) b p more q = absurd (false≢true (ap isEmpty q))
+
+  pub ends-empty : (v : ℕ) (xs : List Variable) → handingBy endsCaller e s k v xs ≡ failed Empty → MeetsHere e s k v xs
+  unfolding handingBy
+  ends-empty v [] q = absurd (false≢true (ap isEmpty q))
+  ends-empty v (x ∷ xs) q =
+      let h = handingBy endsCaller e s k (suc v) xs in
+      ⊎-elim
+      (λ (b : hasClause s (calledTarget k v) ≡ true).
+      by-outcome v x xs h (eval e (tree s (calledTarget k v))) b refl (ends-empty (suc v) xs) (rw b at q))
+      (λ (b : hasClause s (calledTarget k v) ≡ false).
+      behind v x xs (λ t. absurd (false≢true (sym b ∙ t))) (ends-empty (suc v) xs (front-empty Absent h (rw b at q))))
+      (decide (hasClause s (calledTarget k v)))
 
 -- A whole run
 
@@ -115,7 +170,7 @@ module _ (book : List Scope) (i : ℕ) (given : List Given)
       let l = ltb-false x own q in
       rw q
       (on-handing (formerHands book s st x) (handsOver book s st x) (st .count) _ _
-      (handing-kept (envOf st) s k 0 (scopeAt book c .variables) (λ e. never (Meets.here l e)))
+      (handing-kept (envOf st) s k 0 (scopeAt book c .variables) (λ e. never (Meets.here l (ends-empty (envOf st) s k 0 (scopeAt book c .variables) e))))
       (λ gs h. on-entered (formerScope book c gs) (runScope book c gs) (st .count) _ _
       (earlier k (call-number s x (below 0 (omega arith)) l) gs (λ m. never (Meets.deeper gs l h m)))
       (λ vs n e. steps-kept xs later (withCall st k vs n) (λ m. never (Meets.call gs vs n l h e m))))))

@@ -11,3 +11,4 @@ pub mod Meaning
 pub mod Cases
 pub mod Answers
 pub mod Former
+pub mod Overriding

@@ -1,9 +1,10 @@
 -- The meaning before paper 02, No. 5, "Today an empty override ends the caller", and the runs that meet an empty override under it.
-use Prim.Native.Nat.{ℕ, _-_, _<_, _≤_}
+use Prim.Native.Nat.{ℕ, _+_, _-_, _<_, _≤_}
 use mathlib.Core.Path.{_≡_}
+use mathlib.Core.Bool.{true}
 use mathlib.Core.List.{List, _∷_}
 use lib.ListN.{length, getD}
-use Rattle.calculus.specs.Evaluation.{step}
+use Rattle.calculus.specs.Evaluation.{Env, eval, step}
 use Rattle.calculus.specs.declared.Value.{Value}
 use Rattle.answers.specs.declared.Cause.the-variants.{Empty}
 use Rattle.calculus.specs.declared.Outcome.{Outcome}
@@ -13,9 +14,10 @@ use Rattle.calculus.specs.declared.Given.the-variants.{Absent, Present}
 use Rattle.book.specs.Syntax.{Scope}
 use Rattle.book.specs.Decode.{scopesOf}
 use Rattle.book.specs.References.{scopeAt}
-use Rattle.book.specs.Trees.{tree, ownTarget}
+use Rattle.book.specs.Trees.{tree, hasClause, ownTarget, calledTarget}
 use Rattle.book.specs.Steps.{stepOrder}
-use Rattle.evaluation.specs.Handing.{Handed, hands, stops, Handing, handed, failed, handingBy}
+use Rattle.book.specs.declared.Variable.{Variable}
+use Rattle.evaluation.specs.Handing.{Handed, hands, stops, Handing, handed, handingBy}
 use Rattle.evaluation.specs.Run.{Entered, values, State, envOf, begin, runScopeBy}
 use Rattle.evaluation.specs.Evaluate.{Reply, evaluateBy}
 use Rattle.evaluation.specs.Readiness.{calleeOf, withVariable, withCall}
@@ -35,11 +37,19 @@ formerScope = runScopeBy endsCaller
 abbrev pub formerEvaluate : List ℕ → ℕ → List ℕ → ℕ → Reply
 formerEvaluate = evaluateBy endsCaller
 
+-- "an empty override" of the next call, of its variables from v on: the first override tree without a value ends empty
+pub record MeetsHere (e : Env) (s : Scope) (k v : ℕ) (xs : List Variable) : Type 0 where
+  pub place : ℕ
+  pub there : place < length xs
+  pub some : hasClause s (calledTarget k (v + place)) ≡ true
+  pub empty : eval e (tree s (calledTarget k (v + place))) ≡ Ends Empty
+  pub before : (u : ℕ) → u < place → hasClause s (calledTarget k (v + u)) ≡ true → (y : Value) × (eval e (tree s (calledTarget k (v + u))) ≡ Gives y)
+
 -- "Runs that meet no such override": from a state of scope i on, with these steps left, the former run meets an empty override
 pub data Meets (book : List Scope) : ℕ → List Given → List ℕ → State → Type 0 where
-  -- the first override without a value in the next call is empty
+  -- the next call has an empty override
   here : {i : ℕ} {given : List Given} {x : ℕ} {xs : List ℕ} {st : State} → length (scopeAt book i .variables) ≤ x
-      → formerHands book (scopeAt book i) st x ≡ failed Empty
+      → MeetsHere (envOf st) (scopeAt book i) (x - length (scopeAt book i .variables)) 0 (scopeAt book (calleeOf (scopeAt book i) x) .variables)
       → Meets book i given (x ∷ xs) st
   -- the scope that the next call enters meets one
   deeper : {i : ℕ} {given : List Given} {x : ℕ} {xs : List ℕ} {st : State} (gs : List Given) → length (scopeAt book i .variables) ≤ x

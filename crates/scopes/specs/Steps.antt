@@ -5,19 +5,16 @@ use mathlib.Core.Bool.{true, cond}
 use mathlib.Core.List.{List, [], _∷_, reverse}
 use lib.ListN.{length, getD, take, drop}
 use lib.Dec.{ltb}
-use Rattle.calculus.specs.Evaluation.{Env, eval, step}
-use Rattle.answers.specs.declared.Cause.{Cause}
+use Rattle.calculus.specs.Evaluation.{step}
 use Rattle.calculus.specs.declared.Outcome.{Outcome}
-use Rattle.calculus.specs.declared.Outcome.the-variants.{Gives, Ends}
 use Rattle.calculus.specs.declared.Given.{Given}
-use Rattle.calculus.specs.declared.Given.the-variants.{Absent, Present}
 use Rattle.cells.specs.Codec.{emptyCell, causeOf, Kept, AllKept}
 use Rattle.cells.specs.Cells.{givenOf, givenAt}
 use Rattle.book.specs.Syntax.{Scope}
 use Rattle.book.specs.Decode.{scopesOf}
 use Rattle.book.specs.References.{scopeAt}
 use Rattle.book.specs.Scopes.{blocks}
-use Rattle.book.specs.Trees.{tree, hasClause, calledTarget, ownTarget}
+use Rattle.book.specs.Trees.{tree, ownTarget}
 use Rattle.book.specs.Steps.{stepCount, stepOrder}
 use Rattle.book.specs.Judge.{judge}
 use Rattle.book.specs.declared.Variable.{Variable}

@@ -14,7 +14,7 @@ use mathlib.Core.Logic.{⊎-elim}
 use native.Mathlib.Omega.{arith}
 use lib.ListN.{length, getD}
 use lib.Dec.{eqb, ltb}
-use borrow.Author.Tests.{eqb-true, eqb-false, ne-eqb, lt-ltb, le-ltb}
+use borrow.Author.Tests.{eqb-true, ne-eqb, lt-ltb, le-ltb}
 use Rattle.laws.proofs.Booleans.{decide, neither}
 use Rattle.order.specs.Order.{among}
 use Rattle.order.proofs.Among.{among-place}
@@ -41,11 +41,11 @@ use Rattle.acceptance.specs.Accepted.{WithinLimits, WellFormed, CompleteOrder}
 use Rattle.acceptance.proofs.Scanning.{scan-sound}
 use Rattle.acceptance.proofs.Acceptance.{accepted-faultless}
 use Rattle.acceptance.proofs.Orders.{accepted-book}
-use Rattle.translation.specs.Code.{size, sizes, code}
+use Rattle.translation.specs.Code.{size, sizes}
 use Rattle.translation.specs.Blocks.{variableCode, overrideCode, overridesCode, callCode, stepCode, stepsCode, variablesCode, subScopesCode, blockCode, blocksCode, codeOf}
 use Rattle.translation.proofs.Sizes.{code-length}
 use Rattle.translation.proofs.Parts.{allOf}
-use Rattle.translation.proofs.Sums.{Below, sum-below}
+use Rattle.translation.proofs.Sums.{sum-below}
 use Rattle.translation.proofs.Bounds.{weightOf, ownOf, named-weight}
 use Rattle.translation.proofs.Hefts.{bytes, nodeBytes, made-bytes, charge, named, clause-code}
 use Rattle.translation.proofs.Bytes.{allBytes, inner, together, scopes-bytes}
