@@ -1,9 +1,11 @@
 //! A short explanation: what decided each result. Inputs stand in the heading, variables
-//! with one definition in one line; of a called scope only what is read of it is told.
+//! with one definition in one line; of a called scope only what is read of it, or what an
+//! override fell back to, is told.
 
-use crate::evaluation::{enter, Entry, Fate, Joined, Row, Taken, Tree, Trial};
+use crate::evaluation::{enter, Entry, Fate, Joined, Taken, Tree, Trial};
 use crate::explain::{deciding, ending, heading, line, Explanation};
 use crate::inputs::Given;
+use crate::overrides::Fallback;
 use crate::rulebook::Rulebook;
 use crate::words;
 use second::kind::NONE;
@@ -25,9 +27,6 @@ pub fn explain_briefly(book: &Rulebook, file: &str, scope: usize, given: Given) 
     };
     text + &format!("{end}; scopes entered: {}\n", entry.count())
 }
-
-/// Of so many clauses it is said why they did not hold.
-const SHOWN: usize = 3;
 
 struct Brief<'a> {
     book: &'a Rulebook,
@@ -83,32 +82,43 @@ impl Brief<'_> {
         called: Option<&Entry>,
     ) {
         let scope = words.entry.scope;
-        let name = self.book.names[scope].subscopes[usize::from(k)]
-            .text
-            .clone();
         let callee = self.book.callee(scope, k);
-        let handed = handed_over(self.book, scope, overrides);
-        let mut heading = format!("{name}: scope {}", self.book.names[callee].scope.text);
-        if !handed.is_empty() {
-            heading += &format!(", with {}", handed.join(", "));
-        }
         let given = given_to(self.book, callee, overrides);
-        let known = self
-            .calls
-            .iter()
-            .find(|(_, s, g)| *s == callee && *g == given);
-        if let (Some((other, _, _)), Some(_)) = (known, called) {
-            heading += &format!(", the same as {other}");
-            return line(text, depth, &heading);
+        let mut known = self.calls.iter();
+        let known = known.find(|(_, s, g)| called.is_some() && *s == callee && *g == given);
+        let same = known.map(|(other, _, _)| format!(", the same as {other}"));
+        let heading = call_heading(self.book, scope, k, overrides);
+        line(text, depth, &(heading + same.as_deref().unwrap_or("")));
+        for tree in overrides {
+            if let Some(fallback) = Fallback::of(tree, called) {
+                let over = words.passed_over(&tree.bases);
+                line(text, depth + 1, &(words.fell_back(tree, &fallback) + &over));
+            } else if same.is_none() && !is_plain(self.book, scope, tree) {
+                line(text, depth + 1, &words.decided(tree));
+            }
         }
-        line(text, depth, &heading);
-        self.calls.push((name, callee, given));
-        let decided = overrides.iter().filter(|t| !is_plain(self.book, scope, t));
-        decided.for_each(|tree| line(text, depth + 1, &words.decided(tree)));
+        if same.is_some() {
+            return;
+        }
+        let name = &self.book.names[scope].subscopes[usize::from(k)].text;
+        self.calls.push((name.clone(), callee, given));
         if let Some(called) = called {
-            let read = reads_of(self.book, scope, k);
+            let mut read = reads_of(self.book, scope, k);
+            let fallen = overrides.iter().filter(|tree| tree.result.is_err());
+            read.extend(fallen.map(|tree| tree.target.variable));
             self.entry(text, depth + 1, called, Some(&read));
         }
+    }
+}
+
+/// `print: scope film, with shrunken = yes`.
+fn call_heading(book: &Rulebook, scope: usize, k: u8, overrides: &[Tree]) -> String {
+    let name = &book.names[scope].subscopes[usize::from(k)].text;
+    let called = &book.names[book.callee(scope, k)].scope.text;
+    let handed = handed_over(book, scope, overrides);
+    match handed.is_empty() {
+        true => format!("{name}: scope {called}"),
+        false => format!("{name}: scope {called}, with {}", handed.join(", ")),
     }
 }
 
@@ -179,20 +189,6 @@ impl Explanation<'_> {
                 format!("{name} is {}: {why}{over}", words::failure(failure))
             }
         }
-    }
-
-    /// The first clauses of a row of which none held, and why.
-    fn passed_over(&self, row: &Row) -> String {
-        if row.joined != Joined::Nothing {
-            return String::new();
-        }
-        let clauses = &self.book.scopes[self.entry.scope].clauses;
-        let said = row.trials.iter().take(SHOWN).map(|trial| {
-            let clause = &clauses[usize::from(trial.clause)];
-            let name = self.clause_name(trial.clause);
-            format!("; {name} was {}", self.fate(clause, trial))
-        });
-        said.collect()
     }
 
     /// Why a clause held, and what it says where that is to be worked out.

@@ -79,7 +79,8 @@ pub struct Tree {
 pub enum Taken {
     Given(u8, Value),
     Variable(Tree),
-    /// Overrides in variable order; no entry where one of them has no value.
+    /// Overrides in variable order; an empty one hands nothing over. There is no entry
+    /// where one ended in conflict, above or below the range.
     Call(u8, Vec<Tree>, Option<Entry>),
 }
 
@@ -171,6 +172,7 @@ impl Run<'_> {
         Taken::Variable(tree)
     }
 
+    /// The called scope uses its own tree for what is not handed over.
     fn call(&mut self, subscope: u8) -> Taken {
         let callee = usize::from(self.scope.subscopes[usize::from(subscope)]);
         let mut given = vec![None; self.book.scopes[callee].variables.len()];
@@ -182,12 +184,13 @@ impl Run<'_> {
                 continue;
             }
             let tree = self.tree(target);
-            *given = tree.result.ok();
-            self.entry.failure = tree.result.err();
+            let result = tree.result;
             overrides.push(tree);
-            if self.entry.failure.is_some() {
+            if ends(result) {
+                self.entry.failure = result.err();
                 return Taken::Call(subscope, overrides, None);
             }
+            *given = result.ok();
         }
         let entry = enter(self.book, callee, given);
         self.entry.failure = entry.failure;
@@ -276,7 +279,7 @@ impl Run<'_> {
     }
 }
 
-/// Conflict, above and below end a row; empty does not.
+/// Conflict, above and below end a row and a call; empty does not.
 fn ends(result: Evaluated) -> bool {
     matches!(result, Err(failure) if failure != Failure::Empty)
 }

@@ -3,6 +3,7 @@
 
 use crate::evaluation::{enter, Entry, Fate, Joined, Row, Taken, Tree, Trial};
 use crate::inputs::{given_words, Given};
+use crate::overrides::Fallback;
 use crate::printer::Expressions;
 use crate::rulebook::Rulebook;
 use crate::terms::Terms;
@@ -70,7 +71,7 @@ impl Explanation<'_> {
                     let value = words::value(*value);
                     line(text, depth, &format!("{name} = {value}, {}", self.given));
                 }
-                Taken::Variable(tree) => self.tree(text, depth, "", tree),
+                Taken::Variable(tree) => self.tree(text, depth, &self.came_to(tree), tree),
                 Taken::Call(subscope, overrides, entry) => {
                     self.call(text, depth, *subscope, overrides, entry.as_ref());
                 }
@@ -103,7 +104,11 @@ impl Explanation<'_> {
         let name = &self.book.names[self.entry.scope].subscopes[usize::from(subscope)].text;
         line(text, depth, &format!("call of {name}, scope {called}"));
         for tree in overrides {
-            self.tree(text, depth + 1, "override ", tree);
+            let heading = match Fallback::of(tree, entry) {
+                Some(fallback) => self.fell_back(tree, &fallback),
+                None => self.came_to(tree),
+            };
+            self.tree(text, depth + 1, &format!("override {heading}"), tree);
         }
         if let Some(entry) = entry {
             let inner = Explanation {
@@ -115,17 +120,22 @@ impl Explanation<'_> {
         }
     }
 
-    fn tree(&self, text: &mut String, depth: usize, before: &str, tree: &Tree) {
+    /// The heading and a line for each clause.
+    fn tree(&self, text: &mut String, depth: usize, heading: &str, tree: &Tree) {
+        line(text, depth, heading);
+        self.row(text, depth + 1, NONE, tree.target, &tree.bases);
+    }
+
+    /// What a target came to, and by which clause.
+    fn came_to(&self, tree: &Tree) -> String {
         let name = self.book.target_name(self.entry.scope, tree.target);
-        let heading = match tree.result {
+        match tree.result {
             Ok(value) => format!("{name} = {}, {}", words::value(value), self.by(&tree.bases)),
             Err(failure) => {
                 let why = self.why_none(&tree.bases);
                 format!("{name} is {}: {why}", words::failure(failure))
             }
-        };
-        line(text, depth, &format!("{before}{heading}"));
-        self.row(text, depth + 1, NONE, tree.target, &tree.bases);
+        }
     }
 
     /// What gave a target its value.
@@ -220,9 +230,25 @@ impl Explanation<'_> {
         let word = words::failure(failure);
         let is = self.is(node, word);
         match (failure, self.beyond(node, failure)) {
-            (Failure::Empty, _) => format!("passed over, {is}"),
+            (Failure::Empty, _) => format!("passed over, {is}{}", self.empty_part(node)),
             (_, Some(beyond)) => format!("{word}, {beyond}"),
             _ => format!("{word}, {is}"),
+        }
+    }
+
+    fn terms(&self) -> Terms<'_> {
+        Terms {
+            nodes: &self.book.scopes[self.entry.scope].nodes,
+            entry: self.entry,
+        }
+    }
+
+    /// The part by which an expression is empty, unless it is the whole.
+    fn empty_part(&self, node: u8) -> String {
+        let part = self.terms().origin(node, Failure::Empty);
+        match part == node {
+            true => String::new(),
+            false => format!(", since {} is", self.expression(part).0),
         }
     }
 
@@ -230,11 +256,7 @@ impl Explanation<'_> {
     /// bound that it passes: `'a + 1' is above 2147483647`.
     pub(crate) fn beyond(&self, node: u8, failure: Failure) -> Option<String> {
         let bound = words::bound(failure)?;
-        let terms = Terms {
-            nodes: &self.book.scopes[self.entry.scope].nodes,
-            entry: self.entry,
-        };
-        Some(self.is(terms.origin(node, failure), &bound))
+        Some(self.is(self.terms().origin(node, failure), &bound))
     }
 
     pub(crate) fn is(&self, node: u8, value: &str) -> String {

@@ -7,7 +7,8 @@
 //!   `names`, `typing`, `numbering` and `cycles` make it a `rulebook`; `writer` gives
 //!   the bytes
 //! - book to text: `printer`, and `records` for books that the judge refuses
-//! - `explain`, `brief` and `reason` with `evaluation` and `terms`; `draw` and `map` with `shape`; `report`, `html`
+//! - `explain`, `brief` and `reason` with `evaluation`, `terms` and `overrides`; `draw`
+//!   and `map` with `shape`; `report`, `html`
 //! - `table` of `cases`, which the `evaluator` gives to the proved `library` or program
 //! - `warnings` from a `search` over `choices` of inputs, with `thresholds`, `ending`
 //!   and `conditions`
@@ -43,6 +44,7 @@ pub mod nearest;
 pub mod numbering;
 pub mod operations;
 pub mod output;
+pub mod overrides;
 pub mod parser;
 pub mod place;
 pub mod printer;

@@ -1,4 +1,4 @@
-//! Expressions of an entered scope: their values, and where one leaves the range.
+//! Expressions of an entered scope: their values, and in which part one fails.
 
 use crate::evaluation::{Entry, Evaluated};
 use second::kind::NONE;
@@ -61,19 +61,25 @@ impl Terms<'_> {
         self.entry.value(subscope, variable).ok_or(Failure::Empty)
     }
 
-    /// The operation in an expression above or below the range that gave this result.
-    pub fn origin(&self, number: u8, side: Failure) -> u8 {
+    /// The part of an expression that is empty, above or below the range, in which that
+    /// began.
+    pub fn origin(&self, number: u8, failure: Failure) -> u8 {
         let node = &self.nodes[usize::from(number)];
         let operands: Vec<u8> = match *node {
             Node::If(condition, then, other) => match self.branch(condition, then, other) {
                 Ok(taken) => vec![taken],
                 Err(_) => vec![condition],
             },
+            Node::Default(_, j, c) if failure == Failure::Empty => match self.node(j) {
+                Ok(Value::YesNo(true)) => vec![c],
+                Ok(_) => Vec::new(),
+                Err(_) => vec![j],
+            },
             _ => node.operands().collect(),
         };
         let mut failed = operands.into_iter();
-        match failed.find(|&operand| self.node(operand) == Err(side)) {
-            Some(operand) => self.origin(operand, side),
+        match failed.find(|&operand| self.node(operand) == Err(failure)) {
+            Some(operand) => self.origin(operand, failure),
             None => number,
         }
     }

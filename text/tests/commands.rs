@@ -159,7 +159,7 @@ fn evaluate_says_why_there_are_no_values() {
                     the exception 'safe' at none.rules:13:3 both held\n";
     assert_eq!((ran.status, ran.out.as_str()), (1, expected));
     let ran = text("evaluate none.rules film shrunken=yes");
-    let expected = "empty: nitrate, since it is not given and nothing defines it\n";
+    let expected = "empty: nitrate, since it is not given and scope film does not define it\n";
     assert_eq!((ran.status, ran.out.as_str()), (1, expected));
 }
 
