@@ -1,13 +1,16 @@
 //! The default tree of a target as SVG: a box a clause with its condition and
 //! consequence, exceptions below what they are exceptions to. With inputs, the clause that
-//! held is marked and those passed over are grey.
+//! held is marked and those passed over are grey; below an override that fell back stands
+//! the called scope's own tree.
 
-use crate::evaluation::{enter, Entry, Fate, Row, Taken, Tree};
+use crate::evaluation::{enter, Entry, Tree};
 use crate::inputs::{given_words, variable_named, Given};
+use crate::marks::{fallback_of, tree_of, Marks};
 use crate::nearest::did_you_mean;
+use crate::overrides::{can_be_empty, Fallback};
 use crate::printer::Expressions;
 use crate::rulebook::Rulebook;
-use crate::shape::{svg, Mark, Shape};
+use crate::shape::{svg, text, Mark, Shape, GAP, LETTER, LINE};
 use crate::words::{self, wrapped};
 use second::kind::NONE;
 use second::scope::{Clause, Consequence, Target};
@@ -42,51 +45,96 @@ impl<'a> Drawing<'a> {
 
     /// The tree as it is written.
     pub fn plain(&self) -> String {
-        self.painted(None, &[])
+        let (scope, target) = decider(self.book, self.scope, self.target);
+        let root = self.tree(scope, None, target);
+        self.painted(&[], root, None)
     }
 
-    /// The tree with what became of its clauses.
+    /// The tree with what became of its clauses; below an override that fell back, the tree
+    /// that it fell back to.
     pub fn with(&self, given: Given) -> String {
         let inputs = given_words(self.book, self.scope, &given);
         let entry = enter(self.book, self.scope, given);
-        let name = self.book.target_name(self.scope, self.target);
+        let fallback = fallback_of(&entry, self.target);
         let tree = tree_of(&entry, self.target);
-        let outcome = match (self.value(&entry), tree.map(|tree| tree.result)) {
-            (Some(value), _) => format!("{name} = {value}"),
-            (None, Some(Err(failure))) => format!("{name} is {}", words::failure(failure)),
-            _ => format!("{name} is not reached"),
-        };
+        let outcome = self.outcome(&entry, tree, fallback.as_ref());
         let inputs = match inputs.is_empty() {
             true => format!("nothing given: {outcome}"),
             false => format!("given {}: {outcome}", inputs.join(", ")),
         };
-        self.painted(Some(&Marks { tree }), &[inputs])
+        let (scope, target) = decider(self.book, self.scope, self.target);
+        let root = self.tree(scope, Some(&Marks { tree }), target);
+        let own = match fallback {
+            Some(Fallback::Own(own)) => {
+                let callee = self.book.callee(self.scope, self.target.subscope);
+                Some(self.tree(callee, Some(&Marks { tree: Some(own) }), own.target))
+            }
+            _ => None,
+        };
+        self.painted(&[inputs], root, own)
     }
 
-    fn value(&self, entry: &Entry) -> Option<String> {
+    fn tree(&self, scope: usize, marks: Option<&Marks>, target: Target) -> Shape {
+        let book = self.book;
+        Trees { book, scope, marks }.root(target)
+    }
+
+    /// What the target came to, and whether its override fell back.
+    fn outcome(&self, entry: &Entry, tree: Option<&Tree>, fallback: Option<&Fallback>) -> String {
         let Target { subscope, variable } = self.target;
-        entry.value(subscope, variable).map(words::value)
+        let result = match fallback {
+            None => tree.map(|tree| tree.result),
+            Some(Fallback::Own(own)) => Some(own.result),
+            Some(Fallback::NotEntered | Fallback::NotReached) => None,
+        };
+        let name = self.book.target_name(self.scope, self.target);
+        let outcome = match (entry.value(subscope, variable), result) {
+            (Some(value), _) => format!("{name} = {}", words::value(value)),
+            (None, Some(Err(failure))) => format!("{name} is {}", words::failure(failure)),
+            _ => format!("{name} is not reached"),
+        };
+        match fallback {
+            Some(_) => format!("{outcome}, the override falls back to {}", self.called()),
+            None => outcome,
+        }
     }
 
-    fn painted(&self, marks: Option<&Marks>, more: &[String]) -> String {
+    /// `scope film`, of a target of a sub-scope.
+    fn called(&self) -> String {
+        let callee = self.book.callee(self.scope, self.target.subscope);
+        format!("scope {}", self.book.names[callee].scope.text)
+    }
+
+    fn title(&self) -> String {
         let (scope, target) = decider(self.book, self.scope, self.target);
         let name = self.book.target_name(self.scope, self.target);
-        let scope_name = |scope: usize| &self.book.names[scope].scope.text;
-        let mut title = format!("{name} in scope {}", scope_name(self.scope));
+        let title = format!("{name} in scope {}", self.book.names[self.scope].scope.text);
         if scope != self.scope {
-            title += &format!(", as scope {} decides it", scope_name(scope));
+            return format!("{title}, as {} decides it", self.called());
         }
-        let mut lines = wrapped(&format!("{title}, {}", self.file), TITLE, "  ");
+        let open = target.subscope != NONE && can_be_empty(&self.book.scopes[scope], target);
+        match open {
+            true => format!("{title}, otherwise as {} decides it", self.called()),
+            false => title,
+        }
+    }
+
+    /// A tree with its title, and the called scope's own tree below it.
+    fn painted(&self, more: &[String], root: Shape, own: Option<Shape>) -> String {
+        let title = format!("{}, {}", self.title(), self.file);
+        let mut lines = wrapped(&title, TITLE, "  ");
         lines.extend(more.iter().flat_map(|line| wrapped(line, TITLE, "  ")));
-        let root = Trees {
-            book: self.book,
-            scope,
-            marks,
-        }
-        .root(target);
-        let mut boxes = String::new();
+        let (mut width, mut height, mut boxes) = (root.span, root.depth, String::new());
         root.paint(0, 0, &mut boxes);
-        svg(&lines, root.span, root.depth, &boxes)
+        if let Some(own) = own {
+            let heading = format!("{} decides it:", self.called());
+            boxes += &text(0, height + GAP + LINE, &heading, true, "black");
+            let top = height + GAP + LINE + GAP / 2;
+            own.paint(0, top, &mut boxes);
+            width = width.max(own.span).max(heading.chars().count() * LETTER);
+            height = top + own.depth;
+        }
+        svg(&lines, width, height, &boxes)
     }
 }
 
@@ -125,55 +173,6 @@ fn decider(book: &Rulebook, scope: usize, target: Target) -> (usize, Target) {
     (book.callee(scope, target.subscope), own)
 }
 
-/// The tree of a target as tried, in the entered scope or in the one that it calls.
-fn tree_of(entry: &Entry, target: Target) -> Option<&Tree> {
-    entry.taken.iter().find_map(|taken| match taken {
-        Taken::Variable(tree) if tree.target == target => Some(tree),
-        Taken::Call(k, overrides, called) if *k == target.subscope => {
-            let own = Target {
-                subscope: NONE,
-                ..target
-            };
-            let overridden = overrides.iter().find(|tree| tree.target == target);
-            overridden.or_else(|| tree_of(called.as_ref()?, own))
-        }
-        _ => None,
-    })
-}
-
-/// What became of the clauses of a tree, where it was reached.
-struct Marks<'a> {
-    tree: Option<&'a Tree>,
-}
-
-impl Marks<'_> {
-    fn of(&self, clause: u8) -> Mark {
-        match self.tree {
-            Some(tree) => in_row(&tree.bases, clause, tree.result.is_ok()),
-            None => Mark::Passed,
-        }
-    }
-}
-
-/// A clause that held gave the value, or met another one where the tree has none.
-fn in_row(row: &Row, clause: u8, has_value: bool) -> Mark {
-    for trial in &row.trials {
-        if trial.clause == clause {
-            return match (trial.fate, trial.result) {
-                (Some(Fate::Held), _) if has_value => Mark::Held,
-                (Some(Fate::Held), _) => Mark::Ended,
-                (Some(_), Err(failure)) if failure != second::value::Failure::Empty => Mark::Ended,
-                _ => Mark::Passed,
-            };
-        }
-        let below = in_row(&trial.exceptions, clause, has_value);
-        if below != Mark::Passed {
-            return below;
-        }
-    }
-    Mark::Passed
-}
-
 /// Clauses as boxes.
 struct Trees<'a> {
     book: &'a Rulebook,
@@ -190,13 +189,18 @@ impl Trees<'_> {
         if below.len() == 1 && !rules {
             return below.remove(0);
         }
-        let otherwise = match (rules, below.is_empty()) {
-            (true, _) => "no, unless a rule holds",
-            (false, true) => "empty, unless given",
-            (false, false) => "empty, unless one holds",
+        let otherwise = match (rules, below.is_empty(), target.subscope) {
+            (true, ..) => "no, unless a rule holds".to_string(),
+            (false, true, _) => "empty, unless given".to_string(),
+            (false, false, NONE) => "empty, unless one holds".to_string(),
+            (false, false, subscope) => {
+                let callee = self.book.callee(self.scope, subscope);
+                let scope = &self.book.names[callee].scope.text;
+                format!("as scope {scope} decides, unless one holds")
+            }
         };
         let name = self.book.target_name(self.scope, target);
-        Shape::new(vec![name, otherwise.to_string()], Mark::Plain, below)
+        Shape::new(vec![name, otherwise], Mark::Plain, below)
     }
 
     fn row(&self, wanted: impl Fn(&Clause) -> bool) -> Vec<Shape> {

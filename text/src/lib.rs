@@ -8,7 +8,7 @@
 //!   the bytes
 //! - book to text: `printer`, and `records` for books that the judge refuses
 //! - `explain`, `brief` and `reason` with `evaluation`, `terms` and `overrides`; `draw`
-//!   and `map` with `shape`; `report`, `html`
+//!   with `marks`, and `map`, with `shape`; `report`, `html`
 //! - `table` of `cases`, which the `evaluator` gives to the proved `library` or program
 //! - `warnings` from a `search` over `choices` of inputs, with `thresholds`, `ending`
 //!   and `conditions`
@@ -39,6 +39,7 @@ pub mod lexer;
 pub mod library;
 pub mod locate;
 pub mod map;
+pub mod marks;
 pub mod names;
 pub mod nearest;
 pub mod numbering;

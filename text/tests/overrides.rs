@@ -1,6 +1,7 @@
-//! Overrides that do not hold: what is evaluated and explained, word for word.
+//! Overrides that do not hold: what is evaluated, explained and drawn, word for word.
 
 use text::brief::explain_briefly;
+use text::draw::Drawing;
 use text::evaluation::enter;
 use text::explain::explain;
 use text::inputs::{read_inputs, Given};
@@ -225,4 +226,55 @@ by its one definition: n = 8
 every variable has a value; scopes entered: 3
 ";
     assert_eq!(briefly(text, &["y=no"]), expected);
+}
+
+fn drawn(target: &str, inputs: &[&str]) -> String {
+    let (book, given) = asked(TEXT, inputs);
+    let drawing = Drawing::of(&book, "f", 0, target).expect("a target");
+    match inputs.is_empty() {
+        true => drawing.plain(),
+        false => drawing.with(given),
+    }
+}
+
+/// Boxes, marked ones and grey ones.
+fn boxes(svg: &str) -> (usize, usize, usize) {
+    let count = |what: &str| svg.matches(what).count();
+    (
+        count("<rect x="),
+        count("stroke=\"#1c6b1c\""),
+        count("fill=\"white\" stroke=\"#bbb\""),
+    )
+}
+
+#[test]
+fn a_drawing_shows_what_an_override_fell_back_to() {
+    let svg = drawn("k.a", &[]);
+    assert!(
+        svg.contains(">k.a in scope s, otherwise as scope t decides it, f<"),
+        "{svg}"
+    );
+    assert_eq!(boxes(&svg), (1, 0, 0));
+    let svg = drawn("k.a", &["y=yes", "z=yes"]);
+    assert!(svg.contains(": k.a = 7<"), "{svg}");
+    assert_eq!(boxes(&svg), (1, 1, 0));
+    let svg = drawn("k.a", &["y=no", "z=yes"]);
+    assert!(
+        svg.contains(": k.a = 4, the override falls back to scope t<"),
+        "{svg}"
+    );
+    assert!(svg.contains(">scope t decides it:<"), "{svg}");
+    assert_eq!(boxes(&svg), (3, 1, 2));
+    let svg = drawn("k.b", &["y=no", "z=no"]);
+    assert!(
+        svg.contains(": k.b is empty, the override falls back to scope t<"),
+        "{svg}"
+    );
+    assert_eq!(boxes(&svg), (2, 0, 1));
+    let svg = drawn("k.a", &["y=no", "z=no"]);
+    assert!(
+        svg.contains(": k.a is not reached, the override falls back to scope t<"),
+        "{svg}"
+    );
+    assert_eq!(boxes(&svg), (1, 0, 1));
 }
