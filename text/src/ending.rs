@@ -2,8 +2,10 @@
 
 use crate::evaluation::{Entry, Fate, Joined, Row, Taken, Tree};
 use crate::explain::giver;
+use crate::overrides::empty_override;
 use crate::rulebook::Rulebook;
 use crate::words;
+use second::kind::NONE;
 use second::scope::Target;
 
 /// What ended a run; clauses are numbers in their scope.
@@ -31,6 +33,8 @@ pub struct Ending {
     pub cause: Cause,
     /// The clauses that held, of a clash.
     pub held: Option<(u8, u8)>,
+    /// Whether the caller overrides the variable, and the override was empty.
+    pub fell_back: bool,
 }
 
 /// Where the run of an entered scope ended, if it has no values.
@@ -40,12 +44,18 @@ pub fn ending_of(book: &Rulebook, entry: &Entry) -> Option<Ending> {
         Taken::Given(..) => None,
         Taken::Variable(tree) => in_tree(entry.scope, tree),
         Taken::Call(_, overrides, None) => in_tree(entry.scope, overrides.last()?),
-        Taken::Call(k, _, Some(inner)) => {
+        Taken::Call(k, overrides, Some(inner)) => {
             let name = &book.names[entry.scope].subscopes[usize::from(*k)].text;
             let inner = ending_of(book, inner)?;
+            let Target { subscope, variable } = inner.target;
+            let own = inner.call.is_none() && subscope == NONE;
             Some(Ending {
                 call: Some(*k),
                 path: format!("{name}.{}", inner.path),
+                fell_back: match own {
+                    true => empty_override(overrides, variable).is_some(),
+                    false => inner.fell_back,
+                },
                 ..inner
             })
         }
@@ -66,6 +76,7 @@ fn in_tree(scope: usize, tree: &Tree) -> Option<Ending> {
         target: tree.target,
         cause,
         held,
+        fell_back: false,
     })
 }
 

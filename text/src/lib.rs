@@ -10,8 +10,8 @@
 //! - `explain`, `brief` and `reason` with `evaluation`, `terms` and `overrides`; `draw`
 //!   with `marks`, and `map`, with `shape`; `report`, `html`
 //! - `table` of `cases`, which the `evaluator` gives to the proved `library` or program
-//! - `warnings` from a `search` over `choices` of inputs, with `thresholds`, `ending`
-//!   and `conditions`
+//! - `warnings` and `override_warnings` from a `search` over `choices` of inputs, with
+//!   `thresholds`, `ending`, `handed` and `conditions`
 //! - `answers`: what the proved `programs` say, in names and words; `locate` for refusals
 //! - `inputs`, `files`, `output`, `place`, `words`; `commands` and `usage`
 //! - checking: `roundtrip`, `damage`, `examples` and `runs`, `self_check`, `compare`, `tally`
@@ -33,6 +33,7 @@ pub mod examples;
 pub mod explain;
 pub mod expression;
 pub mod files;
+pub mod handed;
 pub mod html;
 pub mod inputs;
 pub mod lexer;
@@ -45,6 +46,7 @@ pub mod nearest;
 pub mod numbering;
 pub mod operations;
 pub mod output;
+pub mod override_warnings;
 pub mod overrides;
 pub mod parser;
 pub mod place;

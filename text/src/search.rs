@@ -1,12 +1,11 @@
 //! A scope evaluated for every choice of its inputs: how runs without values ended, which
-//! clauses held and which overrides made a difference.
+//! clauses held and what overrides handed over.
 
 use crate::choices::{typed, Choices};
 use crate::ending::{ending_of, Cause, Ending};
-use crate::evaluation::{enter, Entry, Fate, Row, Taken, Tree, Trial};
+use crate::evaluation::{enter, Entry, Fate, Row, Taken, Trial};
+use crate::handed::Overrides;
 use crate::rulebook::Rulebook;
-use second::kind::NONE;
-use second::value::Value;
 use std::collections::{BTreeMap, BTreeSet};
 
 /// What the runs of a scope showed.
@@ -21,8 +20,7 @@ pub struct Found {
     pub trials: Vec<(u64, u64)>,
     /// Clauses of called scopes that held.
     pub held_below: BTreeSet<(usize, u8)>,
-    /// For each override, whether the called scope's own rule always gave the same.
-    pub repeats: BTreeMap<(u8, u8), bool>,
+    pub overrides: Overrides,
 }
 
 /// Tries every choice of a scope's inputs, or as many as may be.
@@ -34,17 +32,18 @@ pub fn search(book: &Rulebook, scope: usize) -> Found {
         endings: BTreeMap::new(),
         trials: vec![(0, 0); book.scopes[scope].clauses.len()],
         held_below: BTreeSet::new(),
-        repeats: BTreeMap::new(),
+        overrides: Overrides::default(),
     };
     for number in 0..choices.count {
         let given = choices.given(number);
         let entry = enter(book, scope, given.clone());
+        let typed = || typed(book, scope, &given);
         if let Some(ending) = ending_of(book, &entry) {
             let key = (ending.path.clone(), ending.scope, ending.cause);
-            let example = || (ending, typed(book, scope, &given));
+            let example = || (ending, typed());
             found.endings.entry(key).or_insert_with(example);
         }
-        found.entry(book, &entry);
+        found.entry(book, &entry, typed);
     }
     found
 }
@@ -56,17 +55,16 @@ impl Found {
         self.endings.keys().any(own)
     }
 
-    fn entry(&mut self, book: &Rulebook, entry: &Entry) {
+    fn entry(&mut self, book: &Rulebook, entry: &Entry, typed: impl Fn() -> String) {
         for taken in &entry.taken {
             match taken {
                 Taken::Given(..) => {}
                 Taken::Variable(tree) => self.row(&tree.bases),
-                Taken::Call(subscope, overrides, called) => {
+                Taken::Call(_, overrides, called) => {
+                    let called = called.as_ref();
                     overrides.iter().for_each(|tree| self.row(&tree.bases));
-                    if let Some(called) = called {
-                        self.below(called);
-                        self.repeated(book, *subscope, overrides, called);
-                    }
+                    called.into_iter().for_each(|called| self.below(called));
+                    self.overrides.add(book, overrides, called, &typed);
                 }
             }
         }
@@ -106,24 +104,6 @@ impl Found {
         *tried += 1;
         *held += u64::from(holds(trial));
         self.row(&trial.exceptions);
-    }
-
-    /// Compares each override with what the called scope gives without it.
-    fn repeated(&mut self, book: &Rulebook, k: u8, overrides: &[Tree], entry: &Entry) {
-        for tree in overrides {
-            let variable = tree.target.variable;
-            let same = self.repeats.entry((k, variable)).or_insert(true);
-            if !*same {
-                continue;
-            }
-            let mut given: Vec<Option<Value>> = vec![None; entry.values.len()];
-            for other in overrides {
-                given[usize::from(other.target.variable)] = other.result.ok();
-            }
-            given[usize::from(variable)] = None;
-            let without = enter(book, entry.scope, given);
-            *same = without.value(NONE, variable) == tree.result.ok();
-        }
     }
 }
 

@@ -1,6 +1,7 @@
 //! Which values of a scope's number inputs decide every condition. There are such values
 //! where each number that is given is compared with constants only.
 
+use crate::overrides::can_be_empty;
 use crate::rulebook::Rulebook;
 use second::kind::{self, NONE};
 use second::scope::{Clause, Consequence, Node, Scope, Target};
@@ -56,12 +57,19 @@ pub fn thresholds(book: &Rulebook, scope: usize) -> Option<Vec<Vec<i32>>> {
     Some(values)
 }
 
+/// What is handed over for a variable; where it can be empty, the own tree counts, too.
+#[derive(Clone, Copy)]
+struct Handed {
+    source: Source,
+    can_be_empty: bool,
+}
+
 /// The sources of a scope's variables; nothing where a comparison is not decided. `given`
 /// are those handed over, `inputs` those of variables that nothing defines.
 fn sources_of(
     book: &Rulebook,
     scope: usize,
-    given: &[Option<Source>],
+    given: &[Option<Handed>],
     inputs: &[Source],
     values: &mut [Vec<i32>],
 ) -> Option<Vec<Source>> {
@@ -74,14 +82,18 @@ fn sources_of(
     for step in step_order(own).ok()? {
         match step {
             Step::Variable(v) => {
-                let defined = given[v].or_else(|| known.target(NONE, v as u8));
-                known.own[v] = defined.unwrap_or(inputs[v]);
+                let own = known.target(NONE, v as u8).unwrap_or(inputs[v]);
+                known.own[v] = match given[v] {
+                    None => own,
+                    Some(handed) if handed.can_be_empty => handed.source.or(own),
+                    Some(handed) => handed.source,
+                };
             }
             Step::Call(k) => {
                 let callee = book.callee(scope, k as u8);
                 let count = book.scopes[callee].variables.len();
-                let overrides = (0..count).map(|v| known.target(k as u8, v as u8));
-                let overrides: Vec<Option<Source>> = overrides.collect();
+                let overrides = (0..count).map(|v| known.handed(k as u8, v as u8));
+                let overrides: Vec<Option<Handed>> = overrides.collect();
                 let inputs = vec![Source::Fixed; count];
                 known.called[k] = sources_of(book, callee, &overrides, &inputs, values)?;
             }
@@ -110,6 +122,14 @@ impl Known<'_> {
         };
         let sources = clauses.filter(|c| c.target == target).map(of);
         sources.reduce(Source::or)
+    }
+
+    /// Of an override.
+    fn handed(&self, subscope: u8, variable: u8) -> Option<Handed> {
+        Some(Handed {
+            source: self.target(subscope, variable)?,
+            can_be_empty: can_be_empty(self.scope, Target { subscope, variable }),
+        })
     }
 
     fn node(&self, number: u8) -> Source {
@@ -170,7 +190,9 @@ mod tests {
         let text = format!(
             "scope s variable n : number variable m : number variable p : number
              variable y : yes/no variable z : yes/no sub-scope k : t {clauses}
-             scope t variable a : number variable b : yes/no rule b under condition a < 5"
+             scope t variable a : number variable b : yes/no rule b under condition a < 5
+             variable c : number define c as d + 1 variable d : number
+             rule b under condition c = 7"
         );
         thresholds(&to_rulebook(&text).expect("a sound text"), 0)
     }
@@ -195,6 +217,22 @@ mod tests {
         );
         decides("define k.a as n", &[4, 5]);
         decides("define k.a as if z then n else 3", &[4, 5]);
+    }
+
+    /// An override that can be empty leaves it to the called scope's own definition.
+    #[test]
+    fn an_override_can_fall_back() {
+        decides("define k.d as n define k.c as n", &[6, 7, 8]);
+        decides("define k.c under condition z as n", &[6, 7, 8]);
+        for clauses in [
+            "define k.d as n",
+            "define k.d as n define k.c under condition z as 3",
+            "define k.d as n define k.c as if z then 3 else empty",
+            "define k.d as n define k.c as default [ | z : 3]",
+        ] {
+            assert_eq!(of(clauses), None, "{clauses}");
+        }
+        decides("define k.d as n define k.c as if z then 3 else 4", &[]);
     }
 
     #[test]

@@ -43,7 +43,7 @@ pub fn warnings(book: &Rulebook) -> (Vec<Fault>, Vec<String>) {
         about.possible_conflicts(&mut all);
         about.possibly_empty(&mut all);
         about.never(&found, &mut all);
-        about.repeats(&mut all);
+        about.overrides(&found, &mut all);
         about.unused(&mut all);
         tried.push(about.tried());
     }
@@ -52,9 +52,9 @@ pub fn warnings(book: &Rulebook) -> (Vec<Fault>, Vec<String>) {
 }
 
 /// Words for the clauses of a scope.
-struct Words<'a> {
-    book: &'a Rulebook,
-    scope: usize,
+pub(crate) struct Words<'a> {
+    pub(crate) book: &'a Rulebook,
+    pub(crate) scope: usize,
 }
 
 impl Words<'_> {
@@ -62,7 +62,7 @@ impl Words<'_> {
         &self.book.scopes[self.scope].clauses[usize::from(number)]
     }
 
-    fn place(&self, clause: u8) -> Place {
+    pub(crate) fn place(&self, clause: u8) -> Place {
         self.book.names[self.scope].clauses[usize::from(clause)].place
     }
 
@@ -86,13 +86,13 @@ impl Words<'_> {
         format!("the {} at {}", self.called(clause), self.place(clause))
     }
 
-    fn target(&self, clause: u8) -> String {
+    pub(crate) fn target(&self, clause: u8) -> String {
         let target = self.clause(clause).target;
         self.book.target_name(self.scope, target)
     }
 
     /// The first clause of a target.
-    fn first_clause(&self, target: Target) -> Option<u8> {
+    pub(crate) fn first_clause(&self, target: Target) -> Option<u8> {
         let clauses = self.book.scopes[self.scope].clauses.iter();
         let found = clauses.zip(0u8..).find(|(c, _)| c.target == target);
         found.map(|(_, number)| number)
@@ -108,11 +108,25 @@ impl Words<'_> {
         clause.map_or_else(Place::default, |clause| self.place(clause))
     }
 
+    /// The place of what ended a run in a called scope: the override that fell back, or the
+    /// sub-scope.
+    fn place_of_call(&self, call: u8, ending: &Ending) -> Place {
+        let subscope = &self.book.names[self.scope].subscopes[usize::from(call)];
+        let target = Target {
+            subscope: call,
+            ..ending.target
+        };
+        let here = ending.fell_back && ending.path == format!("{}.", subscope.text);
+        let clause = here.then(|| self.first_clause(target)).flatten();
+        clause.map_or(subscope.place, |clause| self.place(clause))
+    }
+
     /// Why a variable can be without a value. `this` says a clause that the warning stands
     /// at.
     fn ended(&self, ending: &Ending, this: impl Fn(u8) -> String) -> String {
         let name = self.book.target_name(self.scope, ending.target);
         let name = format!("{}{name}", ending.path);
+        let scope = &self.book.names[self.scope].scope.text;
         match (ending.cause, ending.held) {
             (Cause::Clause(clause, failure), _) => {
                 format!("{name} can be {failure}: so is {} by itself", this(clause))
@@ -121,18 +135,26 @@ impl Words<'_> {
                 let (a, b) = (self.there(a), this(b));
                 format!("{name} can be in conflict: {b} and {a} both hold")
             }
+            (Cause::NotGiven(_), _) if ending.fell_back => format!(
+                "{name} can be empty: no definition of its override holds, \
+                 and scope {scope} does not define it"
+            ),
             (Cause::NotGiven(_), _) => {
                 format!("{name} can be empty: it is not overridden, and nothing defines it")
             }
+            _ if ending.fell_back => format!(
+                "{name} can be empty: neither its override nor a definition of scope \
+                 {scope} gives a value"
+            ),
             _ => format!("{name} can be empty: none of its definitions gives a value"),
         }
     }
 }
 
 /// What was found about a scope.
-struct About<'a> {
-    words: Words<'a>,
-    found: &'a Found,
+pub(crate) struct About<'a> {
+    pub(crate) words: Words<'a>,
+    pub(crate) found: &'a Found,
 }
 
 impl About<'_> {
@@ -148,7 +170,7 @@ impl About<'_> {
         }
     }
 
-    fn clauses(&self) -> &[Clause] {
+    pub(crate) fn clauses(&self) -> &[Clause] {
         &self.words.book.scopes[self.words.scope].clauses
     }
 
@@ -174,8 +196,7 @@ impl About<'_> {
                         scope: ending.scope,
                     };
                     let message = inner.ended(ending, |clause| inner.there(clause)) + &example;
-                    let subscopes = &words.book.names[words.scope].subscopes;
-                    Fault::at(subscopes[usize::from(call)].place, message)
+                    Fault::at(words.place_of_call(call, ending), message)
                 }
             };
             all.push(warning);
@@ -226,11 +247,13 @@ impl About<'_> {
         let conditions = self.conditions();
         for (clause, number) in self.clauses().iter().zip(0u8..) {
             let target = clause.target;
-            let cause = Cause::Empty(target.subscope, target.variable);
-            let open = self.words.first_clause(target) == Some(number) && !clause.is_rule();
-            if open && !self.found.has(cause) && conditions.can_be_empty(target) {
+            if self.words.first_clause(target) != Some(number) || clause.is_rule() {
+                continue;
+            }
+            let open = self.without_definition(target);
+            if let Some(more) = open.filter(|_| conditions.can_be_empty(target)) {
                 let message = format!(
-                    "{} may be empty: possibly none of its definitions gives a value; {}",
+                    "{} may be empty: possibly none of its definitions gives a value{more}; {}",
                     self.words.target(number),
                     self.no_example()
                 );
@@ -239,19 +262,24 @@ impl About<'_> {
         }
     }
 
-    /// Clauses that never held; a general case that always has an exception is none.
+    /// Whether a clause held where another scope calls this one.
+    pub(crate) fn held_in_call(&self, found: &[Found], clause: u8) -> bool {
+        let key = (self.words.scope, clause);
+        found.iter().any(|found| found.held_below.contains(&key))
+    }
+
+    /// Clauses that never held; a general case that always has an exception is none, and
+    /// an override that always falls back is warned of as a whole.
     fn never(&self, found: &[Found], all: &mut Vec<Fault>) {
         let conditions = self.conditions();
-        let called = |clause: u8| {
-            let key = (self.words.scope, clause);
-            found.iter().any(|found| found.held_below.contains(&key))
-        };
         for (number, &(tried, held)) in (0u8..).zip(&self.found.trials) {
             let clause = self.words.clause(number);
-            if clause.parent == NONE && clause.condition == NONE {
+            let general = clause.parent == NONE && clause.condition == NONE;
+            if general || self.always_falls_back(found, clause.target) {
                 continue;
             }
-            let never = self.found.exact && tried > 0 && held == 0 && !called(number);
+            let called = self.held_in_call(found, number);
+            let never = self.found.exact && tried > 0 && held == 0 && !called;
             let cases = match never {
                 true => format!("in none of the {} cases", self.found.tried),
                 false => "whatever is given".to_string(),
@@ -260,24 +288,6 @@ impl About<'_> {
                 let what = self.words.called(number);
                 let message = format!("this {what} never holds, {cases}");
                 all.push(Fault::at(self.words.place(number), message));
-            }
-        }
-    }
-
-    /// Overrides that give what the called scope gives by itself.
-    fn repeats(&self, all: &mut Vec<Fault>) {
-        let words = &self.words;
-        let same = self.found.repeats.iter().filter(|(_, &same)| same);
-        for (&(subscope, variable), _) in same.filter(|_| self.found.exact) {
-            let target = Target { subscope, variable };
-            if let Some(clause) = words.first_clause(target) {
-                let callee = words.book.callee(words.scope, subscope);
-                let scope = &words.book.names[callee].scope.text;
-                let message = format!(
-                    "this override of {} repeats scope {scope}'s own rule: it changes nothing",
-                    words.target(clause)
-                );
-                all.push(Fault::at(words.place(clause), message));
             }
         }
     }
@@ -297,7 +307,7 @@ impl About<'_> {
 }
 
 /// `, for instance with a=yes`.
-fn for_instance(example: &str) -> String {
+pub(crate) fn for_instance(example: &str) -> String {
     match example.is_empty() {
         true => ", with no inputs".to_string(),
         false => format!(", for instance with {example}"),

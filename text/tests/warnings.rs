@@ -138,6 +138,103 @@ fn what_is_unused_never_holds_or_repeats() {
     );
 }
 
+/// A scope that overrides, and the scope `t` that it calls, from line 4 on.
+fn overriding(clauses: &str, called: &str) -> String {
+    warned(&format!(
+        "scope s variable x : number variable a : yes/no variable b : yes/no sub-scope k : t
+{clauses}
+define x as if k.y or a or b then k.n else 1
+scope t variable n : number variable y : yes/no
+{called}"
+    ))
+}
+
+/// The warnings about both are these.
+fn warns_overriding(clauses: &str, called: &str, expected: &[&str]) {
+    let said = overriding(clauses, called);
+    let lines: Vec<&str> = said.lines().filter(|line| line.starts_with("f:")).collect();
+    assert_eq!(lines, expected, "for\n{clauses}\n{called}");
+}
+
+/// An override that does not hold is the usual way to write, and no warning.
+#[test]
+fn overrides_that_fall_back() {
+    let own = "define n as 4 rule y";
+    warns_overriding("define k.n under condition a as 7", own, &[]);
+    warns_overriding(
+        "define k.n under condition a as 7",
+        "rule y",
+        &["f:2:1: k.n can be empty: no definition of its override holds, and scope t does not define it, for instance with a=no b=no"],
+    );
+    warns_overriding(
+        "define k.n under condition a as 7 define k.y as no",
+        "define n under condition y as 4 rule y",
+        &["f:2:1: k.n can be empty: neither its override nor a definition of scope t gives a value, for instance with a=no b=no"],
+    );
+    warns_overriding(
+        "define k.n under condition a as 7\nexception define k.n under condition b and not b as 8",
+        own,
+        &["f:3:1: this exception never holds, in none of the 4 cases"],
+    );
+}
+
+#[test]
+fn overrides_that_change_nothing() {
+    let own = "define n as 4 rule y";
+    let always = "f:2:1: this override of k.n always falls back to scope t: it gives no value in any of the 4 cases";
+    for clauses in [
+        "define k.n under condition a and not a as 7",
+        "define k.n as if a then empty else default [ | a : 3]",
+        "define k.n under condition empty as 3",
+    ] {
+        warns_overriding(clauses, own, &[always]);
+    }
+    let repeats = "f:2:1: this override of k.n repeats scope t's own rule: it changes nothing";
+    for clauses in [
+        "define k.n as 4",
+        "define k.n under condition a as 4",
+        "define k.n under condition a as 3 + 1",
+    ] {
+        warns_overriding(clauses, own, &[repeats]);
+    }
+}
+
+#[test]
+fn rules_that_hand_over_no() {
+    warns_overriding(
+        "rule k.y under condition a",
+        "define n as 4 rule y",
+        &["f:2:1: k.y is no where no rule of this override holds, though scope t says yes by itself, for instance with a=no b=no; rules do not fall back to scope t, definitions do"],
+    );
+    for clauses in [
+        "define k.y under condition not a as no",
+        "rule k.y under condition a rule not k.y under condition not a",
+    ] {
+        warns_overriding(clauses, "define n as 4 rule y", &[]);
+    }
+    warns_overriding("rule k.y under condition a", "define n as 4", &[]);
+}
+
+/// Where not all cases are tried, an override is possibly empty only if the called scope
+/// does not define the variable.
+#[test]
+fn overrides_that_are_possibly_empty() {
+    let clauses = "define k.n under condition x2 - 5 < 101 as 7 variable x2 : number";
+    warns_overriding(clauses, "define n as 4 rule y", &[]);
+    let said = overriding(clauses, "rule y");
+    assert!(
+        said.starts_with("f:2:1: k.n may be empty: possibly none of its definitions gives a value, and scope t does not define it; none of the "),
+        "{said}"
+    );
+    let clauses = clauses.replace("- 5", "+ 5");
+    let said = overriding(&clauses, "rule y");
+    assert!(
+        said.starts_with("f:2:1: k.n can be empty: no definition of"),
+        "{said}"
+    );
+    assert!(said.contains("\n1 warning\n"), "{said}");
+}
+
 /// A run with random values for the inputs ends only as the search found.
 fn look(book: &Rulebook, scope: usize, found: &[Found], rng: &mut Random) {
     let own = &book.scopes[scope];
