@@ -4,12 +4,13 @@
 use crate::brief::explain_briefly;
 use crate::damage::{damaged, is_book_or_placed};
 use crate::draw::Drawing;
-use crate::evaluation::{enter, Joined, Taken};
+use crate::evaluation::{enter, Joined, Taken, Tree};
 use crate::examples::{run_examples, Program};
 use crate::explain::explain;
 use crate::files::{read_text, rule_files};
 use crate::inputs::{input_records, Given};
 use crate::locate::located;
+use crate::overrides::{count_fallbacks, Fallback};
 use crate::printer::to_text;
 use crate::reading::{to_book, to_rulebook};
 use crate::roundtrip::{book_survives, fault_is_placed, text_survives};
@@ -23,7 +24,7 @@ use second::cases::{self, Case, Service};
 use second::decode::{decode, MAX_VARIABLES};
 use second::kind::NONE;
 use second::records::read_inputs;
-use second::scope::Clause;
+use second::scope::{Clause, Target};
 use std::collections::BTreeMap;
 
 /// Refusals that a text in the language can have.
@@ -33,8 +34,10 @@ struct Check {
     tally: Tally,
     /// How many books of each refusal went there and back; 0 for accepted ones.
     met: BTreeMap<u8, usize>,
-    /// How the evaluations that were explained ended.
+    /// How the evaluations that were explained ended, and in how many of them overrides
+    /// fell back.
     ended: Met,
+    fell_back: Met,
     /// Damaged texts that are books all the same, and those with faults.
     whole: usize,
     faulty: usize,
@@ -48,6 +51,7 @@ pub fn self_check(count: u64, folder: &str) -> Result<Tally, String> {
         tally: run_examples(Program::Second, folder)?,
         met: BTreeMap::new(),
         ended: Met::default(),
+        fell_back: Met::default(),
         whole: 0,
         faulty: 0,
     };
@@ -105,10 +109,12 @@ impl Check {
             Err(faults) => self.tally.count(Err(format!("{faults:?}"))),
             Ok(book) => {
                 let ended = explained(&book, case);
-                ended
-                    .iter()
-                    .flatten()
-                    .for_each(|&outcome| self.ended.add(outcome));
+                for &(outcome, fallbacks) in ended.iter().flatten() {
+                    self.ended.add(outcome);
+                    if fallbacks > 0 {
+                        self.fell_back.add(outcome);
+                    }
+                }
                 self.tally.count(ended.map(|_| ()));
                 self.tally.count(drawn(&book, case.scope));
                 self.tally.count(marked(&book, case));
@@ -141,6 +147,8 @@ impl Check {
                 .count((times > 0).then_some(()).ok_or_else(wrong));
         }
         self.tally.met("explained evaluations", &self.ended);
+        let fell_back = "explained evaluations in which an override fell back";
+        self.tally.met(fell_back, &self.fell_back);
         self.tally.say(format!(
             "damaged texts: {} books, {} with faults",
             self.whole, self.faulty
@@ -165,29 +173,47 @@ fn marked(book: &Rulebook, case: &Case) -> Result<(), String> {
     let Some(given) = given_in(book, case)? else {
         return Ok(());
     };
-    for taken in enter(book, case.scope, given.clone()).taken {
-        let Taken::Variable(tree) = taken else {
-            continue;
-        };
-        let drawing = Drawing {
-            book,
-            file: "book",
-            scope: case.scope,
-            target: tree.target,
-        };
-        let svg = drawing.with(given.clone());
-        let held = svg.matches("stroke=\"#1c6b1c\"").count();
-        let one = matches!(tree.bases.joined, Joined::One(_));
-        if held != usize::from(one && tree.result.is_ok()) {
-            return Err(format!("{held} boxes are marked in\n{svg}"));
+    for taken in &enter(book, case.scope, given.clone()).taken {
+        for (target, decided) in decided_by(taken) {
+            let drawing = Drawing {
+                book,
+                file: "book",
+                scope: case.scope,
+                target,
+            };
+            let svg = drawing.with(given.clone());
+            let held = svg.matches("stroke=\"#1c6b1c\"").count();
+            let one = |tree: &Tree| matches!(tree.bases.joined, Joined::One(_));
+            let has_value = |tree: &&Tree| one(tree) && tree.result.is_ok();
+            if held != usize::from(decided.filter(has_value).is_some()) {
+                return Err(format!("{held} boxes are marked in\n{svg}"));
+            }
         }
     }
     Ok(())
 }
 
-/// Outcome, count and results of an explained evaluation are the second program's; the
-/// outcome, if the scope is there.
-fn explained(book: &Rulebook, case: &Case) -> Result<Option<Outcome>, String> {
+/// The targets of a step, each with the tree that decided it: of an override that fell
+/// back the called scope's, where that was reached.
+fn decided_by(taken: &Taken) -> Vec<(Target, Option<&Tree>)> {
+    match taken {
+        Taken::Given(..) => Vec::new(),
+        Taken::Variable(tree) => vec![(tree.target, Some(tree))],
+        Taken::Call(_, overrides, called) => {
+            let decided = |tree| match Fallback::of(tree, called.as_ref()) {
+                None => Some(tree),
+                Some(Fallback::Own(own)) => Some(own),
+                Some(Fallback::NotEntered | Fallback::NotReached) => None,
+            };
+            let trees = overrides.iter();
+            trees.map(|tree| (tree.target, decided(tree))).collect()
+        }
+    }
+}
+
+/// Outcome, count and results of an explained evaluation are the second program's; so many
+/// overrides are said to fall back. The outcome and their number, if the scope is there.
+fn explained(book: &Rulebook, case: &Case) -> Result<Option<(Outcome, usize)>, String> {
     let Some(given) = given_in(book, case)? else {
         return Ok(None);
     };
@@ -202,12 +228,14 @@ fn explained(book: &Rulebook, case: &Case) -> Result<Option<Outcome>, String> {
         None => input_records(&entry.values),
         Some(_) => Vec::new(),
     };
+    let fallbacks = count_fallbacks(&entry);
     let same = (outcome, entry.count()) == (answer.outcome, answer.count)
+        && words.matches(" falls back to scope ").count() == fallbacks
         && written == results[..answer.length]
         && words.ends_with(&format!("; scopes entered: {}\n", answer.count))
         && brief.lines().last() == words.lines().last();
     let wrong = || format!("{answer:?} and results {results:02x?}, explained as\n{words}");
-    same.then_some(Some(outcome)).ok_or_else(wrong)
+    same.then_some(Some((outcome, fallbacks))).ok_or_else(wrong)
 }
 
 /// The drawing of each own variable has a box for each of its clauses, and one more
