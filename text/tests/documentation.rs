@@ -1,4 +1,4 @@
-//! The example of docs/LANGUAGE.md is a book, and its explanation is the printed one.
+//! The example of docs/LANGUAGE.md is a book, and its explanations are the printed ones.
 
 use text::brief::explain_briefly;
 use text::explain::explain;
@@ -43,6 +43,17 @@ fn the_example_is_explained_as_printed() {
         "scope film, given shrunken = yes, polyester = no",
     );
     assert_eq!(explain(&book, "vault.rules", film, given), printed);
+}
+
+#[test]
+fn an_override_that_does_not_hold_is_explained_as_printed() {
+    let document = document();
+    let book = to_rulebook(&block(&document, "scope film")).expect("a book");
+    let store = find_scope(&book, "store").expect("scope store");
+    let given = read_inputs(&book, store, &["humid=no", "shrunken=yes"]).expect("inputs");
+    let first = "vault.rules: scope store, given humid = no, shrunken = yes";
+    let printed = block(&document, first);
+    assert_eq!(explain_briefly(&book, "vault.rules", store, given), printed);
 }
 
 #[test]
