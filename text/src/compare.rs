@@ -3,10 +3,12 @@
 
 use crate::answers::{evaluate, judged, Outcome};
 use crate::cases::{Cases, MOST};
+use crate::evaluation::enter;
 use crate::evaluator::Evaluator;
 use crate::inputs::{input_records, Given};
 use crate::library::TABULATE;
 use crate::output::Answer;
+use crate::overrides::count_fallbacks;
 use crate::printer::to_text;
 use crate::programs::find;
 use crate::reading::to_rulebook;
@@ -32,7 +34,7 @@ const FEWEST: usize = 1;
 /// as many by the engine's library.
 pub fn compare(count: u64) -> Tally {
     let mut tally = Tally::default();
-    let (mut evaluations, mut rows) = (Met::default(), Met::default());
+    let (mut evaluations, mut rows) = (Evaluations::default(), Met::default());
     let library = TABULATE.map(Evaluator::Library);
     if library.is_none() {
         let remedy = "run 'rt staticlib capi', then build text again";
@@ -49,11 +51,20 @@ pub fn compare(count: u64) -> Tally {
             tally.count(compare_table(library, most, rng, &mut rows));
         }
     }
-    tally.met("evaluations", &evaluations);
+    tally.met("evaluations", &evaluations.all);
+    let fell_back = "evaluations in which an override fell back";
+    tally.met(fell_back, &evaluations.fell_back);
     if library.is_some() {
         tally.met("rows of tables", &rows);
     }
     tally
+}
+
+/// How evaluations ended: all, and those in which an override fell back.
+#[derive(Default)]
+struct Evaluations {
+    all: Met,
+    fell_back: Met,
 }
 
 /// The answer begins as the second program's, and is good where that accepts.
@@ -74,7 +85,7 @@ fn begins(answer: &Answer, good: bool, expected: &str) -> Result<(), String> {
 }
 
 /// Values are the second program's, each under its name; so is the failure.
-fn compare_evaluating(case: &Case, met: &mut Met) -> Result<(), String> {
+fn compare_evaluating(case: &Case, met: &mut Evaluations) -> Result<(), String> {
     let (book, scope) = (rulebook(&case.bytes)?, case.scope);
     let Some(types) = book.scopes.get(scope).map(|scope| &scope.variables) else {
         return Ok(());
@@ -82,7 +93,10 @@ fn compare_evaluating(case: &Case, met: &mut Met) -> Result<(), String> {
     let given = read(types, &case.inputs)?;
     let answer = evaluate(&book, "book", scope, given.clone())?;
     let expected = expected(&case.bytes, scope, types, &given)?;
-    met.add(named(&expected));
+    met.all.add(named(&expected));
+    if count_fallbacks(&enter(&book, scope, given)) > 0 {
+        met.fell_back.add(named(&expected));
+    }
     match expected {
         Ok(values) => begins(&answer, true, &lines(&values)),
         Err(failure) => begins(&answer, false, &format!("{}: ", words::outcome(failure))),
