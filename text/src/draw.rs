@@ -7,7 +7,7 @@ use crate::evaluation::{enter, Entry, Tree};
 use crate::inputs::{given_words, variable_named, Given};
 use crate::marks::{fallback_of, tree_of, Marks};
 use crate::nearest::did_you_mean;
-use crate::overrides::{can_be_empty, Fallback};
+use crate::overrides::{can_fall_back, Fallback};
 use crate::printer::Expressions;
 use crate::rulebook::Rulebook;
 use crate::shape::{svg, text, Mark, Shape, GAP, LETTER, LINE};
@@ -112,7 +112,7 @@ impl<'a> Drawing<'a> {
         if scope != self.scope {
             return format!("{title}, as {} decides it", self.called());
         }
-        let open = target.subscope != NONE && can_be_empty(&self.book.scopes[scope], target);
+        let open = target.subscope != NONE && can_fall_back(&self.book.scopes[scope], target);
         match open {
             true => format!("{title}, otherwise as {} decides it", self.called()),
             false => title,

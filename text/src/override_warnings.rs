@@ -5,7 +5,7 @@ use crate::ending::Cause;
 use crate::handed::Handed;
 use crate::place::Fault;
 use crate::search::Found;
-use crate::warnings::About;
+use crate::warnings::{for_instance, About};
 use second::kind::NONE;
 use second::scope::Target;
 
@@ -21,10 +21,13 @@ impl About<'_> {
             let (name, scope) = (words.target(clause), self.called(target));
             let mut warn = |message| all.push(Fault::at(words.place(clause), message));
             if self.always_falls_back(found, target) {
-                let tried = self.found.tried;
+                let cases = match self.found.tried {
+                    1 => "its one case".to_string(),
+                    tried => format!("any of the {tried} cases"),
+                };
                 warn(format!(
                     "this override of {name} always falls back to scope {scope}: \
-                     it gives no value in any of the {tried} cases"
+                     it gives no value in {cases}"
                 ));
             }
             if known.handed == Handed::Same && self.found.exact {
@@ -37,7 +40,7 @@ impl About<'_> {
                     "{name} is no where no rule of this override holds, though scope {scope} \
                      says yes by itself{}; rules do not fall back to scope {scope}, \
                      definitions do",
-                    crate::warnings::for_instance(example)
+                    for_instance(example)
                 ));
             }
         }
@@ -60,9 +63,8 @@ impl About<'_> {
         self.found.exact && nothing && !clauses.any(|(_, number)| self.held_in_call(found, number))
     }
 
-    /// Why a target of definitions that may all be no has no value then; nothing where an
-    /// override falls back to definitions, which are warned of by themselves, or a run
-    /// showed it.
+    /// What to add to the warning that a target may be empty. There is no such warning where
+    /// a run showed it, or where an override falls back to clauses of the called scope.
     pub(crate) fn without_definition(&self, target: Target) -> Option<String> {
         let Target { subscope, variable } = target;
         if subscope == NONE {

@@ -57,9 +57,9 @@ pub fn count_fallbacks(entry: &Entry) -> usize {
     calls.sum()
 }
 
-/// Whether a target can be empty as far as its clauses tell: it has no rules, and no base
+/// Whether an override can be empty as far as its clauses tell: it has no rules, and no base
 /// without condition that always has a value.
-pub fn can_be_empty(scope: &Scope, target: Target) -> bool {
+pub fn can_fall_back(scope: &Scope, target: Target) -> bool {
     let mut clauses = scope.clauses.iter().filter(|c| c.target == target);
     !clauses.any(|clause| {
         let always = clause.parent == NONE && clause.condition == NONE;

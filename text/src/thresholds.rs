@@ -1,7 +1,7 @@
 //! Which values of a scope's number inputs decide every condition. There are such values
 //! where each number that is given is compared with constants only.
 
-use crate::overrides::can_be_empty;
+use crate::overrides::can_fall_back;
 use crate::rulebook::Rulebook;
 use second::kind::{self, NONE};
 use second::scope::{Clause, Consequence, Node, Scope, Target};
@@ -57,11 +57,11 @@ pub fn thresholds(book: &Rulebook, scope: usize) -> Option<Vec<Vec<i32>>> {
     Some(values)
 }
 
-/// What is handed over for a variable; where it can be empty, the own tree counts, too.
+/// The source of an override; where it can fall back, the own tree counts, too.
 #[derive(Clone, Copy)]
-struct Handed {
+struct OverrideSource {
     source: Source,
-    can_be_empty: bool,
+    can_fall_back: bool,
 }
 
 /// The sources of a scope's variables; nothing where a comparison is not decided. `given`
@@ -69,7 +69,7 @@ struct Handed {
 fn sources_of(
     book: &Rulebook,
     scope: usize,
-    given: &[Option<Handed>],
+    given: &[Option<OverrideSource>],
     inputs: &[Source],
     values: &mut [Vec<i32>],
 ) -> Option<Vec<Source>> {
@@ -85,15 +85,15 @@ fn sources_of(
                 let own = known.target(NONE, v as u8).unwrap_or(inputs[v]);
                 known.own[v] = match given[v] {
                     None => own,
-                    Some(handed) if handed.can_be_empty => handed.source.or(own),
-                    Some(handed) => handed.source,
+                    Some(over) if over.can_fall_back => over.source.or(own),
+                    Some(over) => over.source,
                 };
             }
             Step::Call(k) => {
                 let callee = book.callee(scope, k as u8);
                 let count = book.scopes[callee].variables.len();
-                let overrides = (0..count).map(|v| known.handed(k as u8, v as u8));
-                let overrides: Vec<Option<Handed>> = overrides.collect();
+                let overrides = (0..count).map(|v| known.overridden(k as u8, v as u8));
+                let overrides: Vec<Option<OverrideSource>> = overrides.collect();
                 let inputs = vec![Source::Fixed; count];
                 known.called[k] = sources_of(book, callee, &overrides, &inputs, values)?;
             }
@@ -125,10 +125,10 @@ impl Known<'_> {
     }
 
     /// Of an override.
-    fn handed(&self, subscope: u8, variable: u8) -> Option<Handed> {
-        Some(Handed {
+    fn overridden(&self, subscope: u8, variable: u8) -> Option<OverrideSource> {
+        Some(OverrideSource {
             source: self.target(subscope, variable)?,
-            can_be_empty: can_be_empty(self.scope, Target { subscope, variable }),
+            can_fall_back: can_fall_back(self.scope, Target { subscope, variable }),
         })
     }
 
