@@ -3,7 +3,7 @@
 use crate::value::Failure;
 
 /// How a run ended; the discriminant is its number.
-#[derive(Clone, Copy, Debug, PartialEq, Eq)]
+#[derive(Clone, Copy, Debug, PartialEq, Eq, PartialOrd, Ord)]
 #[repr(u8)]
 pub enum Outcome {
     Values = 0,
@@ -14,6 +14,14 @@ pub enum Outcome {
 }
 
 impl Outcome {
+    pub const ALL: [Outcome; 5] = [
+        Outcome::Values,
+        Outcome::Empty,
+        Outcome::Conflict,
+        Outcome::Above,
+        Outcome::Below,
+    ];
+
     pub fn is_out_of_range(self) -> bool {
         matches!(self, Outcome::Above | Outcome::Below)
     }

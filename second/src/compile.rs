@@ -2,6 +2,7 @@
 
 use crate::book::Book;
 use crate::kind::{self, NONE};
+use crate::overriding::Overriding;
 use crate::refusal::Refusal;
 use crate::scope::{Node, Scope, Target};
 use crate::steps::Step;
@@ -17,12 +18,18 @@ pub fn compile(book: &[u8], code: &mut [u8]) -> Result<usize, u8> {
 
 /// The code of a book, or refusals 1 to 12.
 pub fn code_of(book: &[u8]) -> Result<Vec<u8>, u8> {
+    code_by(Overriding::FallsBack, book)
+}
+
+/// The translation for a meaning of empty overrides.
+pub fn code_by(overriding: Overriding, book: &[u8]) -> Result<Vec<u8>, u8> {
     let book = Book::accept(book)?;
     let mut code = Vec::new();
     for &number in &book.order {
         let scope = &book.scopes[number];
         let trees = Trees::of(scope);
         let mut block = Block {
+            overriding,
             book: &book,
             scope,
             trees: &trees,
@@ -35,6 +42,7 @@ pub fn code_of(book: &[u8]) -> Result<Vec<u8>, u8> {
 
 /// Writes the block of one scope.
 struct Block<'a> {
+    overriding: Overriding,
     book: &'a Book,
     scope: &'a Scope,
     trees: &'a Trees,
@@ -77,12 +85,26 @@ impl Block<'_> {
                 variable: variable as u8,
             };
             if let Some(tree) = self.trees.tree(self.scope, target) {
-                self.part(tree);
-                self.code
-                    .extend([kind::OVERRIDE, target.subscope, target.variable]);
+                self.override_tree(tree, target);
             }
         }
         self.code.extend([kind::ENTER, subscope as u8]);
+    }
+
+    /// "Each override tree has 36 before it and 37, then 42, after it; the try lands past
+    /// the 42."
+    fn override_tree(&mut self, tree: Part, target: Target) {
+        let falls_back = self.overriding == Overriding::FallsBack;
+        let past = falls_back.then(|| self.branch(kind::TRY));
+        self.part(tree);
+        if falls_back {
+            self.code.push(kind::END_TRY);
+        }
+        let Target { subscope, variable } = target;
+        self.code.extend([kind::OVERRIDE, subscope, variable]);
+        if let Some(past) = past {
+            self.land(past);
+        }
     }
 
     fn part(&mut self, part: Part) {

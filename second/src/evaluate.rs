@@ -4,6 +4,7 @@ use crate::answer::{Answer, Outcome};
 use crate::book::Book;
 use crate::kind::NONE;
 use crate::layout::Layout;
+use crate::overriding::Overriding;
 use crate::records::{prepare, write_results};
 use crate::refusal::Refusal;
 use crate::scope::{Node, Scope, Target};
@@ -18,23 +19,50 @@ pub fn evaluate(
     inputs: &[u8],
     results: &mut [u8],
 ) -> Result<Answer, u8> {
-    observed_evaluate(book, scope, inputs, results, |_, _| ())
+    observed_evaluate(Overriding::FallsBack, book, scope, inputs, results, &())
 }
 
-/// The same, with every failure told to an observer in each place that it is met in.
+/// What an override tree comes to.
+#[derive(Clone, Copy, Debug)]
+pub struct Override {
+    /// Scopes entered from the one asked for down to the caller: 1 is the one asked for.
+    pub depth: usize,
+    /// Whether an override of the same call was empty before it.
+    pub after_empty: bool,
+    /// Whether its clauses are rules: "a rule is never empty".
+    pub rules: bool,
+    pub result: Result<Value, Failure>,
+}
+
+/// Told of what an evaluation meets.
+pub trait Observer {
+    /// A failure, in each place that it is met in.
+    fn fails(&self, _place: Place, _failure: Failure) {}
+
+    fn overrides(&self, _override: Override) {}
+
+    /// How an entered sub-scope ends of which an override was empty.
+    fn falls_back(&self, _ended: Result<(), Failure>) {}
+}
+
+/// Observes nothing.
+impl Observer for () {}
+
+/// Evaluates under a meaning of empty overrides, told to an observer.
 pub fn observed_evaluate(
+    overriding: Overriding,
     book: &[u8],
     scope: usize,
     inputs: &[u8],
     results: &mut [u8],
-    observer: impl Fn(Place, Failure),
+    observer: &impl Observer,
 ) -> Result<Answer, u8> {
     let book = Book::accept(book)?;
     let asked = book.scopes.get(scope).ok_or(Refusal::NoSuchScope)?;
     let mut slots = vec![None; asked.variables.len()];
     let length = prepare(&asked.variables, inputs, results.len(), &mut slots)?;
-    let mut run = Evaluation::new(&book, slots, observer);
-    let ended = run.enter(scope, 0);
+    let mut run = Evaluation::new(overriding, &book, slots, observer);
+    let ended = run.enter(scope, 0, 1);
     let (outcome, length) = match ended {
         Ok(()) => {
             write_results(&run.slots, results);
@@ -57,25 +85,33 @@ struct Frame {
     scope: usize,
     own: usize,
     subscopes: usize,
+    depth: usize,
 }
 
-/// A book with what its runs need, the slots of a run, and who is told of failures.
+/// A book with what its runs need, the slots of a run, and who is told of it.
 pub(crate) struct Evaluation<'a, O> {
+    overriding: Overriding,
     book: &'a Book,
     trees: Vec<Trees>,
     layouts: Vec<Layout>,
     pub(crate) slots: Vec<Option<Value>>,
     count: usize,
-    observer: O,
+    observer: &'a O,
 }
 
-impl<'a, O: Fn(Place, Failure)> Evaluation<'a, O> {
-    pub(crate) fn new(book: &'a Book, slots: Vec<Option<Value>>, observer: O) -> Self {
+impl<'a, O: Observer> Evaluation<'a, O> {
+    pub(crate) fn new(
+        overriding: Overriding,
+        book: &'a Book,
+        slots: Vec<Option<Value>>,
+        observer: &'a O,
+    ) -> Self {
         let layout = |scope: &Scope| {
             let called = scope.subscopes.iter().map(|&s| usize::from(s));
             Layout::of(called.map(|s| book.scopes[s].variables.len()))
         };
         Evaluation {
+            overriding,
             book,
             trees: book.scopes.iter().map(Trees::of).collect(),
             layouts: book.scopes.iter().map(layout).collect(),
@@ -87,17 +123,18 @@ impl<'a, O: Fn(Place, Failure)> Evaluation<'a, O> {
 
     /// Tells the observer of a failure met in a place.
     fn met<T>(&self, place: Place, result: Result<T, Failure>) -> Result<T, Failure> {
-        result.inspect_err(|&failure| (self.observer)(place, failure))
+        result.inspect_err(|&failure| self.observer.fails(place, failure))
     }
 
     /// Runs a scope whose variables stand from `own` on, given ones filled in.
-    pub(crate) fn enter(&mut self, scope: usize, own: usize) -> Result<(), Failure> {
+    pub(crate) fn enter(&mut self, scope: usize, own: usize, depth: usize) -> Result<(), Failure> {
         self.count += 1;
         let book = self.book;
         let frame = Frame {
             scope,
             own,
             subscopes: self.slots.len(),
+            depth,
         };
         let size = self.layouts[scope].size;
         self.slots.resize(frame.subscopes + size, None);
@@ -128,18 +165,43 @@ impl<'a, O: Fn(Place, Failure)> Evaluation<'a, O> {
         let scope = &self.book.scopes[frame.scope];
         let callee = usize::from(scope.subscopes[subscope]);
         let own = frame.subscopes + self.layouts[frame.scope].offsets[subscope];
+        let mut empty = false;
         for variable in 0..self.book.scopes[callee].variables.len() {
             let target = Target {
                 subscope: subscope as u8,
                 variable: variable as u8,
             };
             if let Some(tree) = self.trees[frame.scope].tree(scope, target) {
-                let value = self.met(Place::Override, self.part(frame, tree))?;
-                self.slots[own + variable] = Some(value);
+                let value = self.handed(frame, tree, empty)?;
+                empty |= value.is_none();
+                self.slots[own + variable] = value;
             }
         }
-        let entered = self.enter(callee, own);
+        let entered = self.enter(callee, own, frame.depth + 1);
+        if empty {
+            self.observer.falls_back(entered);
+        }
         self.met(Place::Call, entered)
+    }
+
+    /// What an override tree hands over: its value, or nothing if it is empty.
+    fn handed(
+        &self,
+        frame: Frame,
+        tree: Part,
+        after_empty: bool,
+    ) -> Result<Option<Value>, Failure> {
+        let result = self.met(Place::Override, self.part(frame, tree));
+        self.observer.overrides(Override {
+            depth: frame.depth,
+            after_empty,
+            rules: matches!(tree, Part::Bases { rules: true, .. }),
+            result,
+        });
+        match (result, self.overriding) {
+            (Err(Failure::Empty), Overriding::FallsBack) => Ok(None),
+            _ => result.map(Some),
+        }
     }
 
     fn part(&self, frame: Frame, part: Part) -> Evaluated {

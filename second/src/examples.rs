@@ -4,10 +4,12 @@
 
 use crate::answer::{Answer, Outcome};
 use crate::cases::lend;
+use crate::evaluate::observed_evaluate;
 use crate::rulerun::rulerun;
-use crate::{code_of, compile, evaluate, judge, run, tabulate};
+use crate::{code_by, compile, evaluate, judge, run, tabulate, Overriding};
 
-/// The example lines of the readings, in their order.
+/// The example lines of the readings, in their order. `@4` asks for the meaning and the
+/// translation before request 5, `@5` for those since.
 pub const READINGS: &[&str] = &[
     "judge 0102094d = refused 5",
     "judge 014d0209 = refused 2",
@@ -46,14 +48,14 @@ pub const READINGS: &[&str] = &[
     "evaluate 010201080114ff00ff0001 0 - = value 1 3 010000",
     "evaluate 01020114ff00ffff00 0 - = value 1 3 010000",
     "evaluate 01020114ff00ffff0114ff00ffff01 0 - = conflict 1 0",
-    "evaluate 0102010103000801130000ffff00 1 - = empty 1 0",
+    "evaluate@4 0102010103000801130000ffff00 1 - = empty 1 0",
     "evaluate 010201040008010c000113ff00ffff02 0 - = empty 1 0",
     "evaluate 0102010801040104011100010213ff00ffff03 0 - = empty 1 0",
     "evaluate 010201080113ff00ffff00010201020103000401090113ff00ffff0013ff01ffff01 1 - = conflict 1 0",
     "evaluate 01020102010201060108010c00010401090113ff00ffff0213ff01ffff0313ff02ffff04 0 - = empty 1 0",
     "evaluate 010201090113ff00ffff00010201030007000013ff00ffff00 1 010001 = conflict 2 0",
     "evaluate 010201020102010602060009010c0102080113ff00ffff0013ff01ffff0313ff02ffff04 0 010001 = empty 1 0",
-    "evaluate 0102010103000801130000ffff00 1 - = empty 1 0",
+    "evaluate@4 0102010103000801130000ffff00 1 - = empty 1 0",
     "evaluate 010201080113ff00ffff00010300 1 - = empty 2 0",
     "compile - = -",
     "compile 0103020101 = 01010102010003022b00",
@@ -106,6 +108,23 @@ pub const SIDES: &[&str] = &[
     "evaluate 010202058000000005000000010e0001057fffffff05000000010d030413ff00ffff0213ff00ffff05 0 - = below 1 0",
     "evaluate 01020205800000000b0013ff00ffff01 0 - = above 1 0",
     "sheet 01020102020600057fffffff05000000010d0102058000000005000000010e04051100030613ff01ffff07 0 00 - = ok 20 0400000000000000000003000000000000000000",
+];
+
+/// The example lines of the readings of request 5, in their order.
+pub const FALLBACKS: &[&str] = &[
+    "evaluate@4 010202050000000913ff00ffff0001020203000802070000130000ffff0013ff00ffff01 1 - = empty 1 0",
+    "evaluate@5 010202050000000913ff00ffff0001020203000802070000130000ffff0013ff00ffff01 1 - = value 2 6 020000000009",
+    "evaluate 010202050000000913ff00ffff000102020300050000000408020d0001070000130000ffff0213ff00ffff03 1 - = value 2 6 020000000009",
+    "evaluate 010202050000000913ff00ffff0001020203000902070000130000ffff0013ff00ffff01 1 - = conflict 1 0",
+    "evaluate@4 01020202020500000009050000000813ff00ffff0013ff01ffff01010202030008020902070000130000ffff00130001ffff0113ff00ffff02 1 - = empty 1 0",
+    "evaluate 01020202020500000009050000000813ff00ffff0013ff01ffff01010202030008020902070000130000ffff00130001ffff0113ff00ffff02 1 - = conflict 1 0",
+    "evaluate@4 01020201020203000802070000130000ffff0013ff00ffff01 1 - = empty 1 0",
+    "evaluate 01020201020203000802070000130000ffff0013ff00ffff01 1 - = empty 2 0",
+    "evaluate 010201040113ff00ffff0001020103000801070000140000ff000113ff00ffff01 1 - = value 2 3 010000",
+    "compile@4 010202050000000913ff00ffff0001020203000802070000130000ffff0013ff00ffff01 = 010002022c00001004012300080500000009220001202900010102020300040123000420220001202a00002b002c00000e0401230006070000220001202900",
+    "compile@5 010202050000000913ff00ffff0001020203000802070000130000ffff0013ff00ffff01 = 010002022c0000100401230008050000000922000120290001010202030024000e04012300042022000120252a00002b002c00000e0401230006070000220001202900",
+    "evaluate 0102020202050000000113ff01ffff0001020203000500000005070000130001ffff0013ff00ffff01 1 - = empty 2 0",
+    "evaluate 010202050000000913ff00ffff00010202030008020802130000ffff0013ff00ffff01 1 - = empty 1 0",
 ];
 
 /// The paper's trial terms a to m, each the one definition of a number variable.
@@ -231,6 +250,26 @@ fn compiled(book: &[u8]) -> String {
     }
 }
 
+/// Evaluating as it was before request 5.
+fn evaluate_before(
+    book: &[u8],
+    scope: usize,
+    inputs: &[u8],
+    results: &mut [u8],
+) -> Result<Answer, u8> {
+    observed_evaluate(Overriding::EndsCaller, book, scope, inputs, results, &())
+}
+
+/// The answers of evaluating and of running what the book is compiled to.
+fn both(overriding: Overriding, book: &[u8], words: &[&str]) -> Vec<String> {
+    let service = match overriding {
+        Overriding::FallsBack => evaluate,
+        Overriding::EndsCaller => evaluate_before,
+    };
+    let code = code_by(overriding, book).unwrap_or_default();
+    vec![entered(service, book, words), entered(run, &code, words)]
+}
+
 /// Answers to a line, which must all be the expected one: an evaluation is also
 /// compiled and run.
 fn answers(line: &str) -> Vec<String> {
@@ -241,14 +280,14 @@ fn answers(line: &str) -> Vec<String> {
             Ok(scopes) => format!("ok {scopes}"),
             Err(refusal) => format!("refused {refusal}"),
         }],
-        "compile" => vec![compiled(&bytes)],
+        "compile" | "compile@5" => vec![compiled(&bytes)],
         "run" => vec![entered(run, &bytes, &words)],
         "sheet" => vec![tabulated(&bytes, &words)],
-        _ => {
-            let evaluated = entered(evaluate, &bytes, &words);
-            let code = code_of(&bytes).unwrap_or_default();
-            vec![evaluated, entered(run, &code, &words)]
-        }
+        "compile@4" => vec![digits(
+            &code_by(Overriding::EndsCaller, &bytes).unwrap_or_default(),
+        )],
+        "evaluate@4" => both(Overriding::EndsCaller, &bytes, &words),
+        _ => both(Overriding::FallsBack, &bytes, &words),
     }
 }
 
@@ -262,7 +301,8 @@ fn wrong(line: &str) -> Option<String> {
 
 /// Everything that is wrong with the tables, and how many lines they have.
 pub fn check() -> (usize, Vec<String>) {
-    let readings = READINGS.iter().chain(TABLES).chain(SIDES).copied();
+    let readings = READINGS.iter().chain(TABLES).chain(SIDES);
+    let readings = readings.chain(FALLBACKS).copied();
     let trials = TRIALS.iter().map(|&(_, line)| line);
     let lines: Vec<&str> = readings.chain(trials).collect();
     let mut faults: Vec<String> = lines.iter().copied().filter_map(wrong).collect();

@@ -10,6 +10,7 @@ pub mod evaluate;
 pub mod kind;
 pub mod layout;
 pub mod machine;
+pub mod overriding;
 pub mod reader;
 pub mod records;
 pub mod references;
@@ -31,7 +32,8 @@ pub mod selfcheck;
 
 pub use answer::{Answer, Outcome};
 pub use book::{judge, steps_of, weights_of};
-pub use compile::{code_of, compile};
+pub use compile::{code_by, code_of, compile};
 pub use evaluate::evaluate;
+pub use overriding::Overriding;
 pub use run::run;
 pub use tabulate::tabulate;

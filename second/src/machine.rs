@@ -57,12 +57,14 @@ pub fn join_cases() -> impl Iterator<Item = (Side, Side)> {
         .flat_map(move |left| sides.map(|right| (left, right)))
 }
 
-/// Told of every instruction before it is done, of the case of every join, and of every
-/// operator that leaves the range, in an entered sub-scope as a call too.
+/// Told of every instruction before it is done, of the case of every join, of every
+/// operator that leaves the range, in an entered sub-scope as a call too, and of every empty
+/// that a try catches: how many blocks are entered, and where in the code it lands.
 pub trait Observer {
     fn executes(&mut self, kind: u8);
     fn joins(&mut self, case: (Side, Side));
     fn leaves(&mut self, place: Place, failure: Failure);
+    fn catches(&mut self, depth: usize, code: &[u8], landing: usize);
 }
 
 /// Observes nothing.
@@ -70,6 +72,7 @@ impl Observer for () {
     fn executes(&mut self, _kind: u8) {}
     fn joins(&mut self, _case: (Side, Side)) {}
     fn leaves(&mut self, _place: Place, _failure: Failure) {}
+    fn catches(&mut self, _depth: usize, _code: &[u8], _landing: usize) {}
 }
 
 /// An entry of the stack.
@@ -390,6 +393,8 @@ impl<'a, O: Observer> Machine<'a, O> {
         self.tries.truncate(self.frame.tries + latest);
         self.stack.truncate(caught.height);
         self.frame.position = caught.landing;
+        let (depth, code) = (self.callers.len() + 1, self.code.bytes);
+        self.observer.catches(depth, code, caught.landing);
         Ok(())
     }
 

@@ -3,7 +3,8 @@
 
 use crate::answer::Outcome;
 use crate::book::Book;
-use crate::evaluate::Evaluation;
+use crate::evaluate::{Evaluation, Observer};
+use crate::overriding::Overriding;
 use crate::records::{read_inputs, results_length, write_results};
 use crate::refusal::Refusal;
 use crate::value::{Failure, Type, Value};
@@ -19,6 +20,25 @@ pub fn tabulate(
     inputs: &[u8],
     table: &mut [u8],
 ) -> Result<usize, u8> {
+    observed_tabulate(
+        Overriding::FallsBack,
+        book,
+        scope,
+        (chosen, inputs),
+        table,
+        &(),
+    )
+}
+
+/// Tabulates under a meaning of empty overrides, every row told to an observer.
+pub fn observed_tabulate(
+    overriding: Overriding,
+    book: &[u8],
+    scope: usize,
+    (chosen, inputs): (&[u8], &[u8]),
+    table: &mut [u8],
+    observer: &impl Observer,
+) -> Result<usize, u8> {
     let book = Book::accept(book)?;
     let asked = book.scopes.get(scope).ok_or(Refusal::NoSuchScope)?;
     let mut fixed = vec![None; asked.variables.len()];
@@ -27,12 +47,12 @@ pub fn tabulate(
     let row_length = 1 + results_length(&asked.variables);
     let length = row_length << chosen.len();
     let table = table.get_mut(..length).ok_or(Refusal::BufferTooSmall)?;
-    let mut run = Evaluation::new(&book, Vec::new(), |_, _| ());
+    let mut run = Evaluation::new(overriding, &book, Vec::new(), observer);
     for (number, row) in table.chunks_exact_mut(row_length).enumerate() {
         run.slots.clear();
         run.slots.extend_from_slice(&fixed);
         assign(&chosen, number, &mut run.slots);
-        let ended = run.enter(scope, 0);
+        let ended = run.enter(scope, 0, 1);
         write_row(ended, &run.slots, row);
     }
     Ok(length)

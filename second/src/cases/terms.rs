@@ -10,19 +10,13 @@ use crate::answer::Outcome;
 /// What a part of a term comes to.
 pub type Sort = Outcome;
 
-pub const SORTS: [Sort; 5] = [
-    Outcome::Values,
-    Outcome::Empty,
-    Outcome::Conflict,
-    Outcome::Above,
-    Outcome::Below,
-];
+pub const SORTS: [Sort; 5] = Outcome::ALL;
 
 /// A book of one scope with one variable, and the outcome of its evaluation.
 pub type Term = (Draft, Outcome);
 
 /// A node of a type that comes to a sort; a yes/no value is `yes`.
-fn part(scope: &mut DraftScope, of: u8, sort: Sort, yes: bool) -> u8 {
+pub(super) fn part(scope: &mut DraftScope, of: u8, sort: Sort, yes: bool) -> u8 {
     match (sort, of) {
         (Outcome::Empty, _) => scope.node(&[8, of]),
         (Outcome::Conflict, _) => scope.node(&[9, of]),

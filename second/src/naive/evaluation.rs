@@ -3,12 +3,14 @@
 
 use super::Scope;
 use crate::answer::Outcome;
+use crate::overriding::Overriding;
 use crate::steps::Step;
 
 type Result = std::result::Result<i64, Outcome>;
 
 /// A book with the order of the steps of each scope.
 pub struct Rules<'a> {
+    pub overriding: Overriding,
     pub scopes: &'a [Scope],
     pub steps: &'a [Vec<Step>],
     /// Scopes entered.
@@ -56,7 +58,10 @@ impl Rules<'_> {
         let callee = scope.subscopes[k];
         let mut given = Vec::new();
         for v in 0..self.scopes[callee].variables.len() {
-            given.push(target(scope, environment, k as u8, v).transpose()?);
+            given.push(match target(scope, environment, k as u8, v) {
+                Some(Err(Outcome::Empty)) if self.overriding == Overriding::FallsBack => None,
+                handed => handed.transpose()?,
+            });
         }
         self.enter(callee, given)
     }

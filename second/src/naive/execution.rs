@@ -36,7 +36,7 @@ pub struct Blocks {
     pub count: usize,
 }
 
-fn length(kind: u8) -> usize {
+pub(super) fn length(kind: u8) -> usize {
     match kind {
         1..=4 | 6 | 41 | 43 => 2,
         7 | 34..=36 | 40 | 42 => 3,

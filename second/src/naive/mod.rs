@@ -1,11 +1,12 @@
 //! The paper's definitions once more, as plain as possible and without regard to
 //! speed. The self-check compares the services with them; of the services they share
-//! only the names of steps and outcomes, and a table is defined by evaluations.
+//! only the names of steps, outcomes and meanings, and a table is defined by evaluations.
 
 pub mod evaluation;
 pub mod execution;
 pub mod relations;
 pub mod tabulation;
+pub mod tries;
 
 /// Bytes behind each kind of book record, by kind.
 const LENGTHS: [usize; 21] = [

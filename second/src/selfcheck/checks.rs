@@ -1,19 +1,28 @@
 //! What must hold of one case.
 
 use super::coverage::{may_refuse, Coverage};
+use super::fallbacks::{in_table, tried, FORMER, TABULATED};
+use super::former::Former;
 use super::leaving::COMPILED;
 use crate::answer::{Answer, Outcome};
 use crate::cases::{lend, Case, Reply, Service, Success};
 use crate::code::accept;
 use crate::naive::evaluation::Rules;
 use crate::naive::execution::{Blocks, End};
+use crate::naive::tries::tried_overrides;
 use crate::naive::{self, relations, tabulation};
 use crate::rulerun::rulerun;
 use crate::run::observed_run;
-use crate::{code_of, compile, evaluate, judge, steps_of, weights_of};
+use crate::{code_by, code_of, compile, evaluate, judge, steps_of, weights_of, Overriding};
 
-/// The longest code of a book, by count.
-const MAX_CODE: usize = 184_681;
+/// No code of a book is longer: a scope of 1 byte becomes 2, a variable of 2 becomes 9, a
+/// sub-scope of 2 becomes 4, a clause of 6 at most 42 (a rule on an override), and nodes at
+/// most 46 for each 14 (a default term with its five operands, four of them no terms).
+const MAX_CODE: usize = {
+    let (scopes, variables, subscopes, clauses) = (32, 32 * 32, 32 * 8, 32 * 128);
+    let nodes = 32_768 - scopes - 2 * variables - 2 * subscopes - 6 * clauses;
+    2 * scopes + 9 * variables + 4 * subscopes + 42 * clauses + nodes * 46 / 14
+};
 
 type Check = Result<(), String>;
 
@@ -33,9 +42,14 @@ pub fn check(case: &Case, coverage: &mut Coverage) -> Check {
     check_memory(case, &reply)?;
     match (case.service, reply.result) {
         (Service::Run, _) => return check_run(case, &reply, coverage),
-        (Service::Compile, Ok(Success::Code(length))) => check_code(case, &reply.memory[..length])?,
+        (Service::Compile, Ok(Success::Code(length))) => {
+            check_code(case, &reply.memory[..length], coverage)?
+        }
         (Service::Evaluate, _) => check_evaluation(case, &reply, coverage)?,
-        (Service::Tabulate, result) => check_table(case, result, &reply.memory)?,
+        (Service::Tabulate, _) => {
+            check_table(case, reply.result, &reply.memory)?;
+            check_former_table(case, &reply, coverage)?;
+        }
         _ => {}
     }
     check_judgement(case, reply.result, coverage)
@@ -123,8 +137,9 @@ fn check_order(case: &Case, scopes: &[naive::Scope]) -> Check {
     ensure(weights == relations::weights(scopes), "weights")
 }
 
-/// Compiled code is accepted, its blocks are in order, and a byte less of room is 15.
-fn check_code(case: &Case, code: &[u8]) -> Check {
+/// Compiled code is accepted, its blocks are in order, each of its override trees has its
+/// try, and a byte less of room is 15.
+fn check_code(case: &Case, code: &[u8], coverage: &mut Coverage) -> Check {
     ensure(code_of(&case.bytes).as_deref() == Ok(code), "code differs")?;
     let accepted = accept(code).map_err(|fault| format!("compiled code refused: {fault:?}"))?;
     ensure(code.len() <= MAX_CODE, "code too long")?;
@@ -138,6 +153,10 @@ fn check_code(case: &Case, code: &[u8]) -> Check {
         relations::is_block_order(&scopes, &order),
         "order of blocks",
     )?;
+    let overrides: Vec<_> = scopes.iter().flat_map(tried).collect();
+    let found = tried_overrides(code);
+    ensure(found == Some(overrides.len()), "tries of overrides")?;
+    coverage.fallbacks().compiled(overrides);
     if let Some(room) = code.len().checked_sub(1) {
         let mut short = lend(room);
         ensure(
@@ -167,12 +186,55 @@ fn check_evaluation(case: &Case, reply: &Reply, coverage: &mut Coverage) -> Chec
     let Ok(Success::Answer(answer)) = reply.result else {
         return Ok(());
     };
-    if answer.outcome.is_out_of_range() {
-        coverage.evaluated(case);
-    }
+    coverage.evaluated(case, answer.outcome);
     let weights = weights_of(&case.bytes).map_err(|_| "no weights")?;
     check_count(answer, weights[case.scope])?;
-    check_answer(case, answer, &reply.memory[..answer.length])
+    check_answer(Overriding::FallsBack, case, answer, &reply.memory)?;
+    check_former(case, reply, coverage)
+}
+
+/// The evaluation under the former meaning, by definition and by the former translation;
+/// "runs that meet no such override keep their answers".
+fn check_former(case: &Case, reply: &Reply, coverage: &mut Coverage) -> Check {
+    let before = Overriding::EndsCaller;
+    let former = Former::evaluation(case);
+    ensure(
+        former.is_kept(reply),
+        "answer changed without an empty override",
+    )?;
+    coverage
+        .fallbacks()
+        .former(Service::Evaluate, former.any_empty);
+    let Ok(Success::Answer(answer)) = former.reply.result else {
+        return Err("refused under the former meaning".to_string());
+    };
+    check_answer(before, case, answer, &former.reply.memory)?;
+    let code = code_by(before, &case.bytes).map_err(|_| "no former code")?;
+    let mut memory = lend(case.room);
+    let executed = coverage.executed(FORMER);
+    let ran = observed_run(&code, case.scope, &case.inputs, &mut memory, executed);
+    let result = ran.map(Success::Answer).map_err(u8::from);
+    ensure(
+        Reply { result, memory } == former.reply,
+        "run of former code",
+    )
+}
+
+/// Rows that meet no empty override under the former meaning keep their bytes.
+fn check_former_table(case: &Case, reply: &Reply, coverage: &mut Coverage) -> Check {
+    let former = Former::table(case);
+    ensure(
+        former.is_kept(reply),
+        "table changed without an empty override",
+    )?;
+    let kept = former.keeps_rows(case.chosen.len(), reply);
+    ensure(kept, "row changed without an empty override")?;
+    if reply.result.is_ok() {
+        let fallbacks = coverage.fallbacks();
+        fallbacks.former(Service::Tabulate, former.any_empty);
+        fallbacks.meet(TABULATED, in_table(case));
+    }
+    Ok(())
 }
 
 /// The table, byte for byte, or the refusal, as the definition has it.
@@ -199,12 +261,13 @@ fn check_count(answer: Answer, weight: usize) -> Check {
 }
 
 /// Outcome, count and result bytes as the definitions have them.
-fn check_answer(case: &Case, answer: Answer, results: &[u8]) -> Check {
+fn check_answer(overriding: Overriding, case: &Case, answer: Answer, memory: &[u8]) -> Check {
     let scopes = naive::parse(&case.bytes).ok_or("unreadable")?;
     let steps = steps_of(&case.bytes).map_err(|_| "no steps")?;
     let types = &scopes[case.scope].variables;
     let given = given_values(types.len(), &case.inputs);
     let mut rules = Rules {
+        overriding,
         scopes: &scopes,
         steps: &steps,
         count: 0,
@@ -215,7 +278,7 @@ fn check_answer(case: &Case, answer: Answer, results: &[u8]) -> Check {
     };
     ensure(outcome == answer.outcome, "outcome by definition")?;
     ensure(rules.count == answer.count, "count by definition")?;
-    ensure(bytes == results, "results by definition")
+    ensure(bytes == memory[..answer.length], "results by definition")
 }
 
 /// The values of a good input list.

@@ -1,5 +1,6 @@
-//! What the cases met: refusals, outcomes, causes, kinds and sides of the range.
+//! What the cases met: refusals, outcomes, causes, kinds, sides of the range and overrides.
 
+use super::fallbacks::{caught, executed, in_evaluation, Fallbacks};
 use super::leaving::{expected_leaving, places, Leaving, EVALUATED};
 use crate::answer::Outcome;
 use crate::cases::{Case, Reply, Service, Success};
@@ -28,11 +29,12 @@ pub struct Coverage {
     digest: u64,
 }
 
-/// Counts instructions by kind, joins by case, and where the range is left.
+/// Counts instructions by kind, joins by case, where the range is left, and overrides.
 pub struct Executed {
     kinds: [u64; 256],
     joins: BTreeMap<(Side, Side), usize>,
     leaving: BTreeMap<Leaving, usize>,
+    pub fallbacks: Fallbacks,
     /// The label of what runs.
     label: &'static str,
 }
@@ -43,6 +45,7 @@ impl Default for Executed {
             kinds: [0; 256],
             joins: BTreeMap::new(),
             leaving: BTreeMap::new(),
+            fallbacks: Fallbacks::default(),
             label: "",
         }
     }
@@ -51,6 +54,7 @@ impl Default for Executed {
 impl Observer for &mut Executed {
     fn executes(&mut self, kind: u8) {
         self.kinds[usize::from(kind)] += 1;
+        self.fallbacks.meet(self.label, executed(kind));
     }
 
     fn joins(&mut self, case: (Side, Side)) {
@@ -59,6 +63,11 @@ impl Observer for &mut Executed {
 
     fn leaves(&mut self, place: Place, side: Failure) {
         *self.leaving.entry((self.label, place, side)).or_default() += 1;
+    }
+
+    fn catches(&mut self, depth: usize, code: &[u8], landing: usize) {
+        self.fallbacks
+            .meet(self.label, caught(depth, code, landing));
     }
 }
 
@@ -96,12 +105,20 @@ impl Coverage {
         &mut self.executed
     }
 
-    /// Where an evaluation leaves the range.
-    pub fn evaluated(&mut self, case: &Case) {
+    /// What an evaluation meets of overrides, and where it leaves the range.
+    pub fn evaluated(&mut self, case: &Case, outcome: Outcome) {
         let mut evaluated = self.executed(EVALUATED);
-        for (place, side) in places(case) {
-            evaluated.leaves(place, side);
+        evaluated.fallbacks.meet(EVALUATED, in_evaluation(case));
+        if outcome.is_out_of_range() {
+            for (place, side) in places(case) {
+                evaluated.leaves(place, side);
+            }
         }
+    }
+
+    /// Counts of overrides.
+    pub fn fallbacks(&mut self) -> &mut Fallbacks {
+        &mut self.executed.fallbacks
     }
 
     pub fn reply(&mut self, case: &Case, reply: &Reply) {
@@ -208,6 +225,7 @@ impl Coverage {
             let times = hits(&self.executed.leaving, &class);
             all.push((format!("out of range, {class:?}"), times));
         }
+        all.extend(self.executed.fallbacks.classes());
         all
     }
 
@@ -215,6 +233,7 @@ impl Coverage {
         self.print_services();
         self.print_causes();
         self.print_executed();
+        self.executed.fallbacks.print();
         println!("digest of cases and replies {:016x}", self.digest);
     }
 
@@ -315,17 +334,10 @@ fn expected_refusals() -> Vec<(Service, u8)> {
 }
 
 fn expected_outcomes() -> Vec<(Service, u8)> {
-    let outcomes = [
-        Outcome::Values,
-        Outcome::Empty,
-        Outcome::Conflict,
-        Outcome::Above,
-        Outcome::Below,
-    ];
     let services = [Service::Evaluate, Service::Run, Service::Tabulate];
     let pairs = services
         .iter()
-        .flat_map(|&s| outcomes.map(|o| (s, o as u8)));
+        .flat_map(|&s| Outcome::ALL.map(|o| (s, o as u8)));
     pairs.collect()
 }
 

@@ -1,8 +1,9 @@
 //! Where evaluations and runs leave the range, and on which side.
 
 use crate::cases::{lend, Case};
-use crate::evaluate::observed_evaluate;
+use crate::evaluate::{observed_evaluate, Observer};
 use crate::value::{Failure, Place};
+use crate::Overriding;
 use std::cell::RefCell;
 
 /// What leaves the range, an evaluation or code by the label of its case; where; the side.
@@ -41,18 +42,24 @@ pub fn expected_leaving() -> Vec<Vec<Leaving>> {
     all
 }
 
+/// Keeps where the range is left.
+#[derive(Default)]
+struct Places(RefCell<Vec<(Place, Failure)>>);
+
+impl Observer for Places {
+    fn fails(&self, place: Place, failure: Failure) {
+        if matches!(failure, Failure::Above | Failure::Below) {
+            self.0.borrow_mut().push((place, failure));
+        }
+    }
+}
+
 /// Where the evaluation of a case leaves the range: at an operator, and at all that it is
 /// part of.
 pub fn places(case: &Case) -> Vec<(Place, Failure)> {
-    let met = RefCell::new(Vec::new());
-    let observer = |place, failure| {
-        if matches!(failure, Failure::Above | Failure::Below) {
-            met.borrow_mut().push((place, failure));
-        }
-    };
-    let mut memory = lend(case.room);
-    let (scope, inputs) = (case.scope, &case.inputs);
+    let (met, mut memory) = (Places::default(), lend(case.room));
+    let (now, scope, inputs) = (Overriding::FallsBack, case.scope, &case.inputs);
     // The answer is compared elsewhere.
-    let _ = observed_evaluate(&case.bytes, scope, inputs, &mut memory, observer);
-    met.into_inner()
+    let _ = observed_evaluate(now, &case.bytes, scope, inputs, &mut memory, &met);
+    met.0.into_inner()
 }

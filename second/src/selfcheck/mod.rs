@@ -3,6 +3,8 @@
 
 mod checks;
 mod coverage;
+mod fallbacks;
+mod former;
 mod leaving;
 
 use crate::cases::{case, fixed, foreign_code, standard_input, tables, tabulation, Case};
@@ -10,6 +12,9 @@ use coverage::Coverage;
 use std::panic::{catch_unwind, AssertUnwindSafe};
 
 pub use coverage::{expected_code_faults, expected_stuck};
+pub use fallbacks::{caught, executed, in_evaluation, in_table, tried};
+pub use fallbacks::{expected_overridden, Met, Overridden, FORMER, TABULATED, TRIED};
+pub use former::Former;
 pub use leaving::{expected_leaving, places, Leaving, COMPILED, EVALUATED};
 
 /// Most failures that are printed in full.
