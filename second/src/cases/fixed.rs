@@ -1,13 +1,14 @@
 //! The fixed cases: every limit met and passed, extreme shapes, every way of each
-//! fault, the tables of directed code, every case of the join, and every way to leave the
-//! range.
+//! fault, the tables of directed code, every case of the join, every way to leave the range,
+//! and overrides that come to anything.
 
 use super::books::{book, Plan};
 use super::draft::{results_length, Draft, DraftScope, CLAUSES, NODES, NUMBER, YES_NO};
 use super::faults::{fault, two_faults, WAYS};
 use super::mix::{evaluate_term, run_directed};
 use super::random::Random;
-use super::{badcode, deepest, heavy, inputs, joins, shapes, sides, stuck, terms};
+use super::{badcode, deepest, fallbacks, heavy, inputs};
+use super::{joins, shapes, sides, stuck, terms};
 use super::{Case, Expected, Service};
 use crate::answer::Outcome;
 use crate::code_of;
@@ -20,6 +21,9 @@ pub fn fixed() -> Vec<Case> {
     passed_limits(&mut cases);
     cases.extend(terms::all().iter().map(evaluate_term));
     cases.extend(sides::evaluations());
+    cases.extend(fallbacks::evaluations());
+    cases.extend(fallbacks::compilations());
+    cases.extend(fallbacks::former_runs());
     every_fault(&mut cases);
     every_pair(&mut cases);
     every_bad_list(&mut cases);
@@ -106,6 +110,7 @@ fn met_limits(cases: &mut Vec<Case>) {
         accepted(cases, "weight 4,096", &heaviest, 12);
         accepted(cases, "weight 4,095", &heaviest, 11);
     }
+    accepted(cases, "longest code", &shapes::longest_code(), 31);
 }
 
 fn extreme_shapes(cases: &mut Vec<Case>) {

@@ -3,6 +3,7 @@
 use super::books::{any_book, book, Plan};
 use super::damage::{damage, noise};
 use super::draft::{results_length, Draft};
+use super::fallbacks::FORMER;
 use super::faults::{self, fault, WAYS};
 use super::handmade::{handmade, Handmade};
 use super::inputs;
@@ -11,9 +12,9 @@ use super::sequences::sequence;
 use super::spoiled::{self, spoil};
 use super::stuck::Directed;
 use super::terms::Term;
-use super::{badcode, shapes, stuck, terms};
+use super::{badcode, overridden, shapes, stuck, terms};
 use super::{Case, Expected, Service};
-use crate::code_of;
+use crate::{code_by, code_of, Overriding};
 
 /// Makes cases from seeds; keeps the tables of directed code at hand.
 pub struct Mix {
@@ -65,7 +66,8 @@ impl Mix {
             10..=29 => sequence_run(rng),
             30..=49 => handmade_run(rng),
             50..=79 => spoiled_run(rng),
-            80..=87 => damaged_run(rng),
+            80..=85 => damaged_run(rng),
+            86..=87 => former_run(rng),
             88..=94 => self.directed_run(rng),
             _ => self.unaccepted_run(rng),
         };
@@ -128,7 +130,7 @@ fn enough(rng: &mut Random, length: usize) -> usize {
     length + rng.pick(&[0, 0, 1, 7, 64])
 }
 
-/// An accepted book, now and then a large or extreme one.
+/// An accepted book, now and then a large or extreme one, or one of empty overrides.
 pub fn some_book(rng: &mut Random) -> Draft {
     match rng.below(400) {
         0 => {
@@ -136,6 +138,7 @@ pub fn some_book(rng: &mut Random) -> Draft {
             book(rng, plan)
         }
         1 => shapes::heaviest(rng, true),
+        2..=31 => overridden::any(rng),
         _ => any_book(rng),
     }
 }
@@ -256,14 +259,22 @@ fn any_bytes(rng: &mut Random) -> Case {
     run_bytes(bytes)
 }
 
-/// The code of an accepted book, run.
 fn compiled_run(rng: &mut Random) -> Case {
+    translated_run(rng, "compiled code", Overriding::FallsBack)
+}
+
+fn former_run(rng: &mut Random) -> Case {
+    translated_run(rng, FORMER, Overriding::EndsCaller)
+}
+
+/// The code of an accepted book by one of the translations, run.
+fn translated_run(rng: &mut Random, label: &'static str, by: Overriding) -> Case {
     let draft = some_book(rng);
-    let code = code_of(&draft.bytes()).unwrap_or_default();
+    let code = code_by(by, &draft.bytes()).unwrap_or_default();
     let (scope, types) = asked(rng, &draft);
     let list = inputs::good(rng, &types);
     let room = enough(rng, results_length(&types));
-    Case::new("compiled code", Service::Run, code)
+    Case::new(label, Service::Run, code)
         .expecting(Expected::Accepted)
         .asking(scope, list, room)
 }

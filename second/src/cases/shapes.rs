@@ -169,6 +169,56 @@ pub fn longest(rng: &mut Random) -> Draft {
     draft
 }
 
+/// Default nodes with three exceptions, each the first exception of the next.
+fn terms_in_terms(scope: &mut DraftScope, count: usize) -> u8 {
+    let mut node = scope.constant(true);
+    for _ in 0..count {
+        let [a, b, c, d] = [(); 4].map(|_| scope.constant(true));
+        node = scope.node(&[18, node, a, b, c, d]);
+    }
+    node
+}
+
+/// The condition of the first rule: as many default nodes as a scope has room for, until
+/// the book has 32,768 bytes.
+fn filling(scope: &mut DraftScope, number: usize) -> u8 {
+    match number {
+        1..=8 => terms_in_terms(scope, 49),
+        9 => {
+            let node = terms_in_terms(scope, 7);
+            let [a, b, c] = [(); 3].map(|_| scope.constant(true));
+            scope.node(&[18, node, a, 255, b, c])
+        }
+        _ => 255,
+    }
+}
+
+/// The longest code known of a book: all variables and clauses that there may be, the
+/// clauses rules on overrides but for the scope that all others call, and default nodes.
+pub fn longest_code() -> Draft {
+    let mut called = DraftScope {
+        variables: vec![YES_NO; 32],
+        ..DraftScope::default()
+    };
+    for i in 0..CLAUSES as u8 {
+        let parent = i.checked_sub(32).unwrap_or(255);
+        called.clauses.push([20, 255, i % 32, parent, 255, 1]);
+    }
+    let mut scopes = vec![called];
+    for number in 1..32 {
+        let mut scope = DraftScope {
+            variables: vec![YES_NO; 32],
+            subscopes: vec![0; 8],
+            ..DraftScope::default()
+        };
+        let condition = filling(&mut scope, number);
+        scope.rule(0, 0, condition, 1);
+        (1..CLAUSES as u8).for_each(|i| scope.rule(i % 8, i / 8, 255, 1));
+        scopes.push(scope);
+    }
+    Draft { scopes }
+}
+
 /// Scopes that call the one before them twice: weights 1, 3, 7 to 2^count - 1.
 fn doubling(count: usize) -> Draft {
     let calls = |i: usize| vec![i.wrapping_sub(1) as u8; 2 * usize::from(i > 0)];
@@ -278,5 +328,12 @@ mod tests {
         }
         assert_eq!(deep_scopes(true).scopes.len(), 32);
         assert_eq!(wide().scopes[0].clauses.len(), 128);
+    }
+
+    #[test]
+    fn the_longest_code_has_198709_bytes() {
+        let book = longest_code().bytes();
+        assert_eq!(book.len(), BOOK);
+        assert_eq!(crate::code_of(&book).map(|code| code.len()), Ok(198_709));
     }
 }

@@ -2,7 +2,7 @@
 
 use super::assembler::{MANY, NOTHING, ONE, YES};
 use super::random::Random;
-use super::{sides, Expected};
+use super::{fallback_codes, sides, Expected};
 use crate::answer::Outcome;
 use crate::examples::hex;
 
@@ -129,8 +129,8 @@ fn directed(code: Vec<u8>, expected: Expected) -> Directed {
     }
 }
 
-/// Everything: the table, each way to leave the range, each operation on each entry, joins,
-/// and the limits.
+/// Everything: the table, each way to leave the range, tries around overrides, each operation
+/// on each entry, joins, and the limits.
 pub fn all() -> Vec<Directed> {
     let table = TABLE
         .iter()
@@ -142,6 +142,7 @@ pub fn all() -> Vec<Directed> {
         });
     let mut cases: Vec<Directed> = table.collect();
     cases.extend(sides::codes());
+    cases.extend(fallback_codes::codes());
     operations(&mut cases);
     joins(&mut cases);
     stack_limit(&mut cases);

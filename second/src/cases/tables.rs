@@ -1,6 +1,6 @@
 //! The fixed tabulations: every number of chosen, the longest rows and tables, every way
-//! of refusals 18, 14 and 13, the shapes that evaluation has at its limits, and every way
-//! to leave the range.
+//! of refusals 18, 14 and 13, the shapes that evaluation has at its limits, every way to
+//! leave the range, and overrides that come to anything.
 
 use super::branching::{branching, Branching};
 use super::draft::{Draft, DraftScope, NUMBER, YES_NO};
@@ -8,7 +8,7 @@ use super::faults::{fault, WAYS};
 use super::fixed::lone;
 use super::random::Random;
 use super::tabulations::{spoil_choice, Asked, CHOICES, HUGE};
-use super::{deepest, inputs, shapes, sides, terms};
+use super::{deepest, fallbacks, inputs, shapes, sides, terms};
 use super::{Case, Expected};
 
 /// All fixed tabulations, always the same.
@@ -19,6 +19,7 @@ pub fn tables() -> Vec<Case> {
     no_variables(&mut cases);
     extreme_shapes(&mut cases);
     cases.extend(sides::tables());
+    cases.extend(fallbacks::tables());
     every_bad_choice(&mut cases);
     every_bad_list(&mut cases);
     absent_scopes(&mut cases);

@@ -1,10 +1,11 @@
 //! What must hold of one case.
 
 use super::coverage::{may_refuse, Coverage};
-use super::fallbacks::{in_table, tried, FORMER, TABULATED};
+use super::fallbacks::{in_table, tried, TABULATED};
 use super::former::Former;
 use super::leaving::COMPILED;
 use crate::answer::{Answer, Outcome};
+use crate::cases::fallbacks::FORMER;
 use crate::cases::{lend, Case, Reply, Service, Success};
 use crate::code::accept;
 use crate::naive::evaluation::Rules;

@@ -89,6 +89,7 @@ const LABELS: &[&str] = &[
     "spoiled code",
     "directed code",
     "code of the acceptance table",
+    "former code",
     "tabulated",
     "table longer than memory",
     "bad choice",

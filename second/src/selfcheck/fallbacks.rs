@@ -2,6 +2,7 @@
 //! books are compiled to.
 
 use crate::answer::Outcome;
+use crate::cases::fallbacks::FORMER;
 use crate::cases::{lend, Case, Service};
 use crate::evaluate::{observed_evaluate, Observer, Override};
 use crate::kind;
@@ -15,8 +16,6 @@ use std::collections::BTreeMap;
 use super::leaving::{COMPILED, EVALUATED};
 
 pub const TABULATED: &str = "tabulated";
-/// Code of the translation before request 5.
-pub const FORMER: &str = "former code";
 
 /// How deep a caller is told apart: the scope asked for, its sub-scopes, those of these and
 /// deeper ones.

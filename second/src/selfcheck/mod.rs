@@ -13,7 +13,7 @@ use std::panic::{catch_unwind, AssertUnwindSafe};
 
 pub use coverage::{expected_code_faults, expected_stuck};
 pub use fallbacks::{caught, executed, in_evaluation, in_table, tried};
-pub use fallbacks::{expected_overridden, Met, Overridden, FORMER, TABULATED, TRIED};
+pub use fallbacks::{expected_overridden, Met, Overridden, TABULATED, TRIED};
 pub use former::Former;
 pub use leaving::{expected_leaving, places, Leaving, COMPILED, EVALUATED};
 
