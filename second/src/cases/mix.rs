@@ -3,7 +3,7 @@
 use super::books::{any_book, book, Plan};
 use super::damage::{damage, noise};
 use super::draft::{results_length, Draft};
-use super::fallbacks::FORMER;
+use super::fallbacks::{self, FORMER};
 use super::faults::{self, fault, WAYS};
 use super::handmade::{handmade, Handmade};
 use super::inputs;
@@ -12,7 +12,7 @@ use super::sequences::sequence;
 use super::spoiled::{self, spoil};
 use super::stuck::Directed;
 use super::terms::Term;
-use super::{badcode, overridden, shapes, stuck, terms};
+use super::{badcode, shapes, stuck, terms};
 use super::{Case, Expected, Service};
 use crate::{code_by, code_of, Overriding};
 
@@ -138,7 +138,7 @@ pub fn some_book(rng: &mut Random) -> Draft {
             book(rng, plan)
         }
         1 => shapes::heaviest(rng, true),
-        2..=31 => overridden::any(rng),
+        2..=31 => fallbacks::books::any(rng),
         _ => any_book(rng),
     }
 }

@@ -2,7 +2,7 @@
 
 use super::assembler::{MANY, NOTHING, ONE, YES};
 use super::random::Random;
-use super::{fallback_codes, sides, Expected};
+use super::{fallbacks, sides, Expected};
 use crate::answer::Outcome;
 use crate::examples::hex;
 
@@ -142,7 +142,7 @@ pub fn all() -> Vec<Directed> {
         });
     let mut cases: Vec<Directed> = table.collect();
     cases.extend(sides::codes());
-    cases.extend(fallback_codes::codes());
+    cases.extend(fallbacks::codes::codes());
     operations(&mut cases);
     joins(&mut cases);
     stack_limit(&mut cases);

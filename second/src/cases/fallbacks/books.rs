@@ -1,10 +1,10 @@
 //! Random books in which overrides are often empty: callers over one another, each with a
 //! few overrides in its calls.
 
-use super::draft::{Draft, DraftScope, NUMBER, YES_NO};
+use super::super::draft::{variables_of, Draft, DraftScope, NUMBER, YES_NO};
+use super::super::random::Random;
+use super::super::terms;
 use super::empties::{write, Target, WAYS};
-use super::random::Random;
-use super::terms;
 use crate::answer::Outcome;
 
 /// Most callers over one another.
@@ -14,17 +14,18 @@ const DEPTH: usize = 3;
 const SWITCHES: u8 = 2;
 
 pub fn any(rng: &mut Random) -> Draft {
-    let mut scopes = vec![switched(rng, DraftScope::default())];
-    for called in 0..rng.range(1, DEPTH) {
-        let caller = DraftScope {
-            subscopes: vec![called as u8; rng.range(1, 2)],
-            ..DraftScope::default()
-        };
-        let mut caller = switched(rng, caller);
-        call(rng, &mut caller, &scopes[called].variables);
-        scopes.push(caller);
+    let mut scopes: Vec<DraftScope> = Vec::new();
+    for number in 0..=rng.range(1, DEPTH) {
+        let mut scope = switched(rng);
+        let called = number.checked_sub(1);
+        let types = called.map_or(Vec::new(), |called| scopes[called].variables.clone());
+        if let Some(called) = called {
+            scope.subscopes = vec![called as u8; rng.range(1, 2)];
+            call(rng, &mut scope, &types);
+        }
+        define(rng, &mut scope, &types);
+        scopes.push(scope);
     }
-    scopes.iter_mut().for_each(|scope| define(rng, scope));
     Draft { scopes }
 }
 
@@ -36,9 +37,12 @@ fn outcome(rng: &mut Random, mostly: Outcome) -> Outcome {
     }
 }
 
-/// Switches, mostly with a rule, and a few variables behind them.
-fn switched(rng: &mut Random, mut scope: DraftScope) -> DraftScope {
-    scope.variables = vec![YES_NO; SWITCHES.into()];
+/// Switches with a rule, and a few variables behind them.
+fn switched(rng: &mut Random) -> DraftScope {
+    let mut scope = DraftScope {
+        variables: vec![YES_NO; SWITCHES.into()],
+        ..DraftScope::default()
+    };
     for switch in 0..SWITCHES {
         let yes = rng.below(2) as u8;
         scope.rule(255, switch, 255, yes);
@@ -50,22 +54,33 @@ fn switched(rng: &mut Random, mut scope: DraftScope) -> DraftScope {
     scope
 }
 
-/// The variables that have no definition yet: read from a sub-scope, a constant, or empty.
-fn define(rng: &mut Random, scope: &mut DraftScope) {
+/// A node that mostly has a value.
+fn part(rng: &mut Random, scope: &mut DraftScope, of: u8) -> u8 {
+    match (outcome(rng, Outcome::Values), of) {
+        (Outcome::Values, NUMBER) => scope.number(rng.number(5)),
+        (sort, _) => terms::part(scope, of, sort, rng.percent(50)),
+    }
+}
+
+/// The variables behind the switches: read from a sub-scope, whose variables have these
+/// types, or a value, or empty.
+fn define(rng: &mut Random, scope: &mut DraftScope, types: &[u8]) {
     for v in SWITCHES..scope.variables.len() as u8 {
         let of = scope.variables[usize::from(v)];
-        let node = match rng.below(8) {
+        let fitting = variables_of(types, of);
+        let node = match rng.below(10) {
             0 => scope.node(&[8, of]),
-            _ => {
-                let sort = outcome(rng, Outcome::Values);
-                terms::part(scope, of, sort, rng.percent(50))
+            1..=7 if !fitting.is_empty() => {
+                let k = rng.below(scope.subscopes.len()) as u8;
+                scope.subscope(k, rng.pick(&fitting))
             }
+            _ => part(rng, scope, of),
         };
         scope.define(255, v, 255, node);
     }
 }
 
-/// Overrides of most variables of each sub-scope; variables of the type read them.
+/// Overrides of most variables of each sub-scope.
 fn call(rng: &mut Random, scope: &mut DraftScope, types: &[u8]) {
     for k in 0..scope.subscopes.len() as u8 {
         for (v, &of) in (0..).zip(types) {
@@ -83,8 +98,7 @@ fn override_variable(rng: &mut Random, scope: &mut DraftScope, target: Target, o
     match rng.below(10) {
         0 | 1 if of == YES_NO => scope.rule(k, v, condition, rng.below(2) as u8),
         0..=2 => {
-            let sort = outcome(rng, Outcome::Values);
-            let node = terms::part(scope, of, sort, rng.percent(50));
+            let node = part(rng, scope, of);
             scope.define(k, v, 255, node);
         }
         3 => {

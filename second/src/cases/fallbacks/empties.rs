@@ -1,7 +1,7 @@
 //! Ways for an override to be empty.
 
-use super::draft::{DraftScope, YES_NO};
-use super::workbench::{constant, over};
+use super::super::draft::{DraftScope, YES_NO};
+use super::super::workbench::{constant, over};
 
 /// How an override tree is a value where its condition is yes and empty where it is no.
 #[derive(Clone, Copy, Debug)]
@@ -91,7 +91,8 @@ fn conditional_value(scope: &mut DraftScope, of: u8, way: Way, condition: u8) ->
             let some = over(scope, 17, &[condition, value, empty]);
             let other = constant(scope, of);
             let both = over(scope, of + 11, &[other, some]);
-            over(scope, of + 9, &[both])
+            let turned = over(scope, of + 9, &[both]);
+            over(scope, of + 9, &[turned])
         }
         Way::Justification => over(scope, 18, &[255, empty, 255, condition, value]),
         Way::NodeException => {

@@ -1,7 +1,7 @@
 //! Code with tries around overrides, as the translation has them and otherwise.
 
-use super::stuck::Directed;
-use super::Expected;
+use super::super::stuck::Directed;
+use super::super::Expected;
 use crate::answer::Outcome;
 use crate::examples::hex;
 
