@@ -3,6 +3,7 @@
 //! the code fits exactly, that is longer, and that is too short by one.
 
 use crate::engine;
+use crate::overriding;
 use crate::tally::{Done, Tally};
 use second::cases::{lend, Case};
 
@@ -32,6 +33,7 @@ fn compare(tally: &mut Tally, book: &[u8], room: usize, label: &str) {
 fn compare_all(tally: &mut Tally, book: &[u8], label: &str) {
     match second::code_of(book) {
         Ok(code) => {
+            overriding::note_compiled(tally, book);
             compare(tally, book, code.len(), label);
             compare(tally, book, code.len() + 7, label);
             if let Some(short) = code.len().checked_sub(1) {
@@ -42,7 +44,8 @@ fn compare_all(tally: &mut Tally, book: &[u8], label: &str) {
     }
 }
 
-/// All fixed cases and `random` generated ones; each answer must be met.
+/// All fixed cases and `random` generated ones; each answer must be met, and override trees
+/// that can be empty and that cannot.
 pub fn run(random: u64) -> bool {
     let each = |tally: &mut Tally, case: &Case, label: &str| compare_all(tally, &case.bytes, label);
     let mut tally = Tally::of_cases(random, each);
@@ -50,5 +53,6 @@ pub fn run(random: u64) -> bool {
     for refusal in (1..=12).chain([15]) {
         tally.expect_met(&format!("refused {refusal}"));
     }
+    overriding::expect_compiled(&mut tally);
     tally.finish()
 }

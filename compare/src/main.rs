@@ -9,6 +9,7 @@ mod evaluating;
 mod family;
 mod judging;
 mod ocaml;
+mod overriding;
 mod running;
 mod runs;
 mod stack;

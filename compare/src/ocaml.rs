@@ -5,12 +5,15 @@
 
 use crate::engine;
 use crate::evaluating::{outcome, OUTCOMES};
+use crate::overriding;
+use crate::running::run_of;
 use crate::tally::Tally;
 use second::book::Book;
-use second::cases::books;
 use second::cases::random::Random;
+use second::cases::{books, fallbacks};
 use second::kind;
 use second::scope::{Node, Scope, Target};
+use second::selfcheck::{in_evaluation, EVALUATED};
 use second::steps::Step;
 use second::trees::{node_term, Part, Term, Trees};
 use second::value::Type;
@@ -36,6 +39,10 @@ let process_exceptions exceptions =
 let in_range n =
   if n > 2147483647 then raise Above else if n < -2147483648 then raise Below else n
 let absent () = raise Empty
+let handed tree =
+  match tree () with
+  | value -> (fun () -> value)
+  | exception Empty -> absent
 let number variable n = Printf.printf \"%d %d\\n\" variable n
 let yes_no variable b = Printf.printf \"%d %s\\n\" variable (if b then \"yes\" else \"no\")
 ";
@@ -119,8 +126,9 @@ impl Writer<'_> {
         self.put(" in\n");
     }
 
-    /// C-CALL: the overrides are evaluated, the call gets them as thunks. Figure 7 begins
-    /// each with an exception that is always empty; it is left out.
+    /// C-CALL: the overrides are evaluated, the call gets them as thunks, an empty one as a
+    /// thunk that is empty. Figure 7 begins each with an exception that is always empty; it is
+    /// left out.
     fn call(&mut self, k: usize) {
         let callee = usize::from(self.scope.subscopes[k]);
         let variables = &self.book.scopes[callee].variables;
@@ -132,10 +140,10 @@ impl Writer<'_> {
             };
             match self.trees.tree(self.scope, target) {
                 Some(tree) => {
-                    self.put(&format!("  let s{k}_{v} = "));
+                    self.put(&format!("  let s{k}_{v} = handed (fun () -> "));
                     self.part(tree);
-                    self.put(" in\n");
-                    thunks += &format!(" (fun () -> s{k}_{v})");
+                    self.put(") in\n");
+                    thunks += &format!(" s{k}_{v}");
                 }
                 None => thunks += " absent",
             }
@@ -330,7 +338,7 @@ pub fn expected(book: &[u8], asked: usize) -> String {
 const TOGETHER: usize = 200;
 
 /// `cases` generated books: the engine's outcome and values of the last scope of each,
-/// and OCaml's.
+/// and OCaml's. Each outcome and all that may become of an override must be met.
 pub fn run(cases: u64) -> bool {
     let all: Vec<(Vec<u8>, Book)> = (0..cases).filter_map(generated).collect();
     let mut tally = Tally::default();
@@ -340,12 +348,18 @@ pub fn run(cases: u64) -> bool {
     OUTCOMES
         .iter()
         .for_each(|outcome| tally.expect_met(outcome));
+    overriding::expect(&mut tally, EVALUATED);
     tally.finish()
 }
 
-/// A generated book that has scopes.
+/// A generated book that has scopes; every fourth has empty overrides.
 fn generated(seed: u64) -> Option<(Vec<u8>, Book)> {
-    let bytes = books::any_book(&mut Random::new(seed)).bytes();
+    let rng = &mut Random::new(seed);
+    let draft = match seed % 4 {
+        0 => fallbacks::books::any(rng),
+        _ => books::any_book(rng),
+    };
+    let bytes = draft.bytes();
     let book = Book::accept(&bytes).ok()?;
     (!book.scopes.is_empty()).then_some((bytes, book))
 }
@@ -365,5 +379,13 @@ fn compare_some(tally: &mut Tally, some: &[(Vec<u8>, Book)]) {
         let on = || format!("engine {ours:?}, OCaml {theirs:?}: {bytes:02x?}");
         let ending = ours.lines().next().unwrap_or_default();
         tally.count(ending, (ours == theirs).then_some(()).ok_or_else(on));
+        note_overrides(tally, bytes, book.scopes.len() - 1);
     }
+}
+
+/// Notes what becomes of the overrides of a book.
+fn note_overrides(tally: &mut Tally, book: &[u8], asked: usize) {
+    let mut case = run_of(EVALUATED, book.to_vec());
+    (case.scope, case.room) = (asked, 192);
+    overriding::note(tally, EVALUATED, in_evaluation(&case));
 }

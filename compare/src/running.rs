@@ -1,19 +1,23 @@
 //! Running: the engine's answer and memory and the second program's. Code that the
-//! engine compiled from accepted books, on every scope, is compared with evaluating too.
-//! Then code that no compiler wrote, and named code for each way of refusals 16 and 17.
+//! engine compiled from accepted books, on every scope, is compared with evaluating too, and
+//! their code of the translation before request 5 with the evaluation of that time. Then
+//! code that no compiler wrote, and named code for each way of refusals 16 and 17.
 
 use crate::engine;
 use crate::evaluating::{done, outcome, OUTCOMES};
+use crate::overriding;
 use crate::tally::{Done, Tally};
 use second::cases::draft::results_length;
+use second::cases::fallbacks::FORMER;
 use second::cases::random::Random;
 use second::cases::{self, damage, inputs, lend, mix, Case, Expected, Service, Success};
 use second::machine::{join_cases, Observer, Side};
 use second::run::{observed_run, Denial};
+use second::selfcheck::{caught, executed, in_evaluation, Former, Overridden};
 use second::selfcheck::{expected_code_faults, expected_leaving, expected_stuck};
 use second::selfcheck::{places, Leaving, COMPILED, EVALUATED};
 use second::value::{Failure, Place};
-use second::Answer;
+use second::{code_by, Answer, Overriding};
 use std::collections::BTreeSet;
 
 type Ran = Done<Result<Answer, u8>>;
@@ -42,15 +46,18 @@ fn described(case: &Case, label: &str) -> String {
     format!("{label}, scope {scope}, inputs {inputs:02x?}, room {room}, {all} bytes: {code:02x?}")
 }
 
-/// The cases of the join that a run met, and where it left the range.
+/// The cases of the join that a run met, where it left the range, and its overrides.
 #[derive(Default)]
 struct Met {
     joins: BTreeSet<(Side, Side)>,
     leaving: Vec<(Place, Failure)>,
+    overrides: BTreeSet<Overridden>,
 }
 
 impl Observer for &mut Met {
-    fn executes(&mut self, _kind: u8) {}
+    fn executes(&mut self, kind: u8) {
+        self.overrides.extend(executed(kind));
+    }
 
     fn joins(&mut self, case: (Side, Side)) {
         self.joins.insert(case);
@@ -58,6 +65,10 @@ impl Observer for &mut Met {
 
     fn leaves(&mut self, place: Place, side: Failure) {
         self.leaving.push((place, side));
+    }
+
+    fn catches(&mut self, depth: usize, code: &[u8], landing: usize) {
+        self.overrides.extend(caught(depth, code, landing));
     }
 }
 
@@ -87,6 +98,7 @@ fn compare(tally: &mut Tally, case: &Case, label: &str) -> (Ran, Option<Denial>)
         .into_iter()
         .for_each(|case| tally.meet(&joined(case)));
     note_leaving(tally, case.label, met.leaving);
+    overriding::note(tally, case.label, met.overrides);
     let theirs = Done {
         answer: ran.map_err(u8::from),
         memory,
@@ -96,7 +108,8 @@ fn compare(tally: &mut Tally, case: &Case, label: &str) -> (Ran, Option<Denial>)
     (ours, ran.err())
 }
 
-fn run_of(label: &'static str, bytes: Vec<u8>) -> Case {
+/// Bytes as a case, without inputs and memory.
+pub fn run_of(label: &'static str, bytes: Vec<u8>) -> Case {
     Case {
         label,
         service: Service::Run,
@@ -120,25 +133,28 @@ fn compiled(tally: &mut Tally, book: &[u8], label: &str) -> Vec<u8> {
     code
 }
 
-/// A book and its code, each as the case of its service.
+/// A book and its code, each as the case of its service; and its former code.
 struct Pair<'a> {
     book: Case,
     code: Case,
+    former: Case,
     label: &'a str,
 }
 
 impl Pair<'_> {
     fn of<'a>(tally: &mut Tally, book: &[u8], label: &'a str) -> Pair<'a> {
+        let former = code_by(Overriding::EndsCaller, book).unwrap_or_default();
         Pair {
             book: run_of(EVALUATED, book.to_vec()),
             code: run_of(COMPILED, compiled(tally, book, label)),
+            former: run_of(FORMER, former),
             label,
         }
     }
 
     /// Runs the code, and evaluates the book on the same: "equal result memories".
     fn compare(&mut self, tally: &mut Tally, scope: usize, inputs: &[u8], room: usize) {
-        for case in [&mut self.book, &mut self.code] {
+        for case in [&mut self.book, &mut self.code, &mut self.former] {
             (case.scope, case.room) = (scope, room);
             case.inputs = inputs.to_vec();
         }
@@ -151,12 +167,25 @@ impl Pair<'_> {
         };
         let agreed = (ran == evaluated).then_some(()).ok_or_else(difference);
         tally.count("as evaluated", agreed);
-        if ran
-            .answer
-            .is_ok_and(|answer| answer.outcome.is_out_of_range())
-        {
+        let Ok(answer) = ran.answer else { return };
+        overriding::note(tally, EVALUATED, in_evaluation(&self.book));
+        if answer.outcome.is_out_of_range() {
             note_leaving(tally, EVALUATED, places(&self.book));
         }
+        self.compare_former(tally);
+    }
+
+    /// Runs the former code: "code compiled before runs as before".
+    fn compare_former(&self, tally: &mut Tally) {
+        let (ran, _) = compare(tally, &self.former, self.label);
+        let (ran, former) = (ran.reply(), Former::evaluation(&self.book).reply);
+        let difference = || {
+            let (run, evaluated) = (ran.result, former.result);
+            let on = described(&self.book, self.label);
+            format!("former code {run:?}, evaluated before {evaluated:?}, or their memories: {on}")
+        };
+        let agreed = (ran == former).then_some(()).ok_or_else(difference);
+        tally.count("former code, as evaluated before", agreed);
     }
 }
 
@@ -216,8 +245,8 @@ fn compare_long(tally: &mut Tally, case: &Case) {
 }
 
 /// All fixed and named cases, a megabyte of code, `random` generated codes that no
-/// compiler wrote and a fifth as many books; each answer, each cause, each case of the join
-/// and each side of the range in each place must be met.
+/// compiler wrote and a fifth as many books; each answer, each cause, each case of the join,
+/// each side of the range in each place and all that may become of an override must be met.
 pub fn run(random: u64) -> bool {
     let mut tally = Tally::default();
     cases::named()
@@ -241,6 +270,9 @@ pub fn run(random: u64) -> bool {
     join_cases().for_each(|case| tally.expect_met(&joined(case)));
     for class in expected_leaving().concat() {
         tally.expect_met(&left(class));
+    }
+    for label in [EVALUATED, COMPILED, FORMER] {
+        overriding::expect(&mut tally, label);
     }
     let faults = expected_code_faults().into_iter().map(Denial::BadCode);
     let stuck = expected_stuck().into_iter().map(Denial::Stuck);

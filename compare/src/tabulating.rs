@@ -3,8 +3,10 @@
 
 use crate::engine;
 use crate::evaluating::OUTCOMES;
+use crate::overriding;
 use crate::tally::{Done, Tally};
-use second::cases::{lend, tables, tabulation, Case};
+use second::cases::{lend, tables, tabulation, Case, Reply, Success};
+use second::selfcheck::{in_table, Former, TABULATED};
 use second::tabulate::MAX_CHOSEN;
 
 type Tabulate = fn(&[u8], usize, &[u8], &[u8], &mut [u8]) -> Result<usize, u8>;
@@ -53,10 +55,18 @@ fn compare(tally: &mut Tally, case: &Case, label: &str) {
     note(tally, case, &theirs);
     let on = || format!("{label}: {case:02x?}");
     tally.agree(&shown(theirs.answer), (&ours, &theirs), on);
+    if theirs.answer.is_ok() {
+        overriding::note(tally, TABULATED, in_table(case));
+        let reply = Reply {
+            result: ours.answer.map(Success::Table),
+            memory: ours.memory,
+        };
+        overriding::compare_former(tally, &Former::table(case), &reply, on);
+    }
 }
 
-/// All fixed tabulations and `random` generated ones; each answer, each outcome of a row
-/// and each number of chosen must be met.
+/// All fixed tabulations and `random` generated ones; each answer, each outcome of a row,
+/// each number of chosen and all that may become of an override must be met.
 pub fn run(random: u64) -> bool {
     let mut tally = Tally::default();
     for case in tables() {
@@ -75,5 +85,7 @@ pub fn run(random: u64) -> bool {
     for chosen in 0..=MAX_CHOSEN + 1 {
         tally.expect_met(&number(chosen));
     }
+    overriding::expect(&mut tally, TABULATED);
+    overriding::expect_former(&mut tally);
     tally.finish()
 }

@@ -1,6 +1,7 @@
 //! Counts of what agreed and what did not, and of the answers met.
 
-use second::cases::{self, Case};
+use second::cases::{self, Case, Reply, Success};
+use second::Answer;
 use std::collections::BTreeMap;
 use std::fmt::Debug;
 
@@ -16,6 +17,15 @@ pub struct Tally {
 pub struct Done<A> {
     pub answer: A,
     pub memory: Vec<u8>,
+}
+
+impl Done<Result<Answer, u8>> {
+    pub fn reply(self) -> Reply {
+        Reply {
+            result: self.answer.map(Success::Answer),
+            memory: self.memory,
+        }
+    }
 }
 
 impl Tally {
