@@ -29,7 +29,7 @@ pub struct Override {
     pub depth: usize,
     /// Whether an override of the same call was empty before it.
     pub after_empty: bool,
-    /// Whether its clauses are rules: "a rule is never empty".
+    /// Whether its clauses are rules, which are never empty.
     pub rules: bool,
     pub result: Result<Value, Failure>,
 }

@@ -307,7 +307,7 @@ const SERVICES: [Service; 5] = [
     Service::Tabulate,
 ];
 
-fn hits<K: Ord>(counts: &BTreeMap<K, usize>, key: &K) -> usize {
+pub fn hits<K: Ord>(counts: &BTreeMap<K, usize>, key: &K) -> usize {
     counts.get(key).copied().unwrap_or(0)
 }
 

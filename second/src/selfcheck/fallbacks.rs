@@ -1,19 +1,19 @@
 //! What becomes of override trees: in evaluations and tables, in runs of code, and in what
 //! books are compiled to.
 
+use super::coverage::hits;
+use super::leaving::{COMPILED, EVALUATED};
 use crate::answer::Outcome;
 use crate::cases::fallbacks::FORMER;
 use crate::cases::{lend, Case, Service};
 use crate::evaluate::{observed_evaluate, Observer, Override};
 use crate::kind;
-use crate::naive::{named, Scope};
+use crate::naive::Scope;
 use crate::tabulate::observed_tabulate;
 use crate::value::{Failure, Value};
 use crate::Overriding;
 use std::cell::RefCell;
 use std::collections::BTreeMap;
-
-use super::leaving::{COMPILED, EVALUATED};
 
 pub const TABULATED: &str = "tabulated";
 
@@ -49,10 +49,8 @@ pub fn expected_overridden() -> Vec<Vec<Met>> {
     trees.extend(Outcome::ALL.map(BehindEmpty));
     trees.extend(Outcome::ALL.map(SubscopeEnds));
     trees.extend(depths().chain([RulesHandNo]));
-    let code = [By(Outcome::Values)].into_iter().chain(depths());
-    let of =
-        |label: &'static str, all: &[Overridden]| all.iter().map(|&one| (label, one)).collect();
-    let code: Vec<Overridden> = code.collect();
+    let code: Vec<Overridden> = [By(Outcome::Values)].into_iter().chain(depths()).collect();
+    let of = |label, all: &[Overridden]| all.iter().map(|&one| (label, one)).collect();
     vec![
         of(EVALUATED, &trees),
         of(TABULATED, &trees),
@@ -150,7 +148,7 @@ pub fn tried(scope: &Scope) -> Vec<Tried> {
     let of = |base: &&Vec<u8>| {
         let same = |clause: &&Vec<u8>| clause[1..3] == base[1..3];
         let alone = scope.clauses.iter().filter(same).count() == 1;
-        let always = base[4] == 255 && named(base).len() == 1;
+        let always = base[4] == 255;
         match base[0] {
             20 => Tried::Rules,
             _ if alone && always && scope.nodes[usize::from(base[5])][0] < 6 => Tried::Constant,
@@ -191,34 +189,32 @@ impl Fallbacks {
 
     /// Every class that must be met, with how often it was.
     pub fn classes(&self) -> Vec<(String, usize)> {
-        let hits = |class: &Met| self.met.get(class).copied().unwrap_or(0);
-        let expected = expected_overridden().concat();
-        let met = expected
-            .iter()
-            .map(|class| (format!("override, {class:?}"), hits(class)));
-        let tried = TRIED.map(|tree| {
-            let times = self.tried.get(&tree).copied().unwrap_or(0);
-            (format!("compiled override {tree:?}"), times)
-        });
-        let former = FORMER_CLASSES.map(|class| {
-            let times = self.former.get(&class).copied().unwrap_or(0);
-            (format!("empty override before request 5 {class:?}"), times)
-        });
-        met.chain(tried).chain(former).collect()
+        let mut all = Vec::new();
+        for class in expected_overridden().concat() {
+            all.push((format!("override, {class:?}"), hits(&self.met, &class)));
+        }
+        for tree in TRIED {
+            let times = hits(&self.tried, &tree);
+            all.push((format!("compiled override {tree:?}"), times));
+        }
+        for class in FORMER_CLASSES {
+            let times = hits(&self.former, &class);
+            all.push((format!("empty override before request 5 {class:?}"), times));
+        }
+        all
     }
 
     pub fn print(&self) {
         for classes in expected_overridden() {
-            let hits = |class| self.met.get(class).copied().unwrap_or(0);
             let shown = classes
                 .iter()
-                .map(|class| format!("{:?} {}", class.1, hits(class)));
+                .map(|class| format!("{:?} {}", class.1, hits(&self.met, class)));
             let shown: Vec<String> = shown.collect();
             println!("overrides, {}: {}", classes[0].0, shown.join(", "));
         }
         println!("compiled overrides {:?}", self.tried);
         for (service, any_empty) in FORMER_CLASSES {
-            let times = self.former.get(&(service, any_empty)).copied().unwrap_or(0);
+            let times = hits(&self.former, &(service, any_empty));
             let met = if any_empty { "met" } else { "did not meet" };
             println!("{service:?}: {times} {met} an empty override under the former meaning");
         }
