@@ -34,7 +34,7 @@ use Rattle.evaluation.specs.Run.{Entered, values, ended, State, envOf, o
 use Rattle.evaluation.specs.Readiness.{calleeOf, handsOver, withVariable, withCall}
 use Rattle.evaluation.specs.Evaluate.{Reply, replyOf, evaluate}
 use Rattle.evaluation.specs.Answers.{Entering, Replied}
-use Rattle.evaluation.specs.Former.{endsCaller, formerHands, formerScope, formerEvaluate, MeetsHere, Meets, MeetsEmpty, EvaluationMeets}
+use Rattle.evaluation.specs.Former.{endsCaller, formerHands, formerScope, formerEvaluate, EmptyOverride, MeetsEmptyFrom, MeetsEmpty, EvaluationMeets}
 use Rattle.evaluation.proofs.Running.{Steps, call-number}
 use Rattle.evaluation.proofs.Entering.{steps-of, accepted-entered-by, accepted-entered-steps, accepted-by-blocks}
 use Rattle.evaluation.proofs.Cases.{evaluate-faulty, evaluate-absent, evaluate-malformed, evaluate-short, evaluate-run}
@@ -83,7 +83,7 @@ module _ (e : Env) (s : Scope) (k : ℕ) where
   Gives-at v = hasClause s (calledTarget k v) ≡ true → (y : Value) × (eval e (tree s (calledTarget k v)) ≡ Gives y)
 
   -- the variable in front gives a value, or has no override
-  behind : (v : ℕ) (x : Variable) (xs : List Variable) → Gives-at v → MeetsHere e s k (suc v) xs → MeetsHere e s k v (x ∷ xs)
+  behind : (v : ℕ) (x : Variable) (xs : List Variable) → Gives-at v → EmptyOverride e s k (suc v) xs → EmptyOverride e s k v (x ∷ xs)
   behind v x xs g m =
       let z : suc v + m .place ≡ v + suc (m .place) = omega arith in
       record {
@@ -104,8 +104,8 @@ module _ (e : Env) (s : Scope) (k : ℕ) where
 
   -- the outcome of the override in front
   by-outcome : (v : ℕ) (x : Variable) (xs : List Variable) (h : Handing) (o : Outcome) → hasClause s (calledTarget k v) ≡ true
-      → eval e (tree s (calledTarget k v)) ≡ o → (h ≡ failed Empty → MeetsHere e s k (suc v) xs) → inFront (endsCaller o) h ≡ failed Empty
-      → MeetsHere e s k v (x ∷ xs)
+      → eval e (tree s (calledTarget k v)) ≡ o → (h ≡ failed Empty → EmptyOverride e s k (suc v) xs) → inFront (endsCaller o) h ≡ failed Empty
+      → EmptyOverride e s k v (x ∷ xs)
   by-outcome v x xs h (Gives y) b p more q = behind v x xs (λ _. (y, p)) (more (front-empty (Present y) h q))
   by-outcome v x xs h (Ends Empty) b p more q =
       let z : v + 0 ≡ v = omega arith in
@@ -113,7 +113,7 @@ module _ (e : Env) (s : Scope) (k : ℕ) where
   by-outcome v x xs h (Ends Conflict) b p more q = absurd (false≢true (ap isEmpty q))
   by-outcome v x xs h (Ends (OutOfRange r)) b p more q = absurd (false≢true (ap isEmpty q))
 
-  pub ends-empty : (v : ℕ) (xs : List Variable) → handingBy endsCaller e s k v xs ≡ failed Empty → MeetsHere e s k v xs
+  pub ends-empty : (v : ℕ) (xs : List Variable) → handingBy endsCaller e s k v xs ≡ failed Empty → EmptyOverride e s k v xs
   unfolding handingBy
   ends-empty v [] q = absurd (false≢true (ap isEmpty q))
   ends-empty v (x ∷ xs) q =
@@ -152,7 +152,7 @@ module _ (book : List Scope) (i : ℕ) (given : List Given)
   abbrev own : ℕ
   own = length (s .variables)
 
-  steps-kept : (xs : List ℕ) → Steps s xs → (st : State) → (Meets book i given xs st → ⊥)
+  steps-kept : (xs : List ℕ) → Steps s xs → (st : State) → (MeetsEmptyFrom book i given xs st → ⊥)
       → runStepsBy endsCaller book (formerScope book) s given xs st ≡ runSteps book (runScope book) s given xs st
   unfolding runStepsBy
   steps-kept [] below st never = refl
@@ -165,15 +165,15 @@ module _ (book : List Scope) (i : ℕ) (given : List Given)
       let l = ltb-true x own q in
       rw q
       (on-value (step (getD given x Absent) (envOf st) (tree s (ownTarget x))) (st .count) _ _
-      (λ y e. steps-kept xs later (withVariable st x y) (λ m. never (Meets.variable y l e m)))))
+      (λ y e. steps-kept xs later (withVariable st x y) (λ m. never (MeetsEmptyFrom.variable y l e m)))))
       (λ (q : ltb x own ≡ false).
       let l = ltb-false x own q in
       rw q
       (on-handing (formerHands book s st x) (handsOver book s st x) (st .count) _ _
-      (handing-kept (envOf st) s k 0 (scopeAt book c .variables) (λ e. never (Meets.here l (ends-empty (envOf st) s k 0 (scopeAt book c .variables) e))))
+      (handing-kept (envOf st) s k 0 (scopeAt book c .variables) (λ e. never (MeetsEmptyFrom.here l (ends-empty (envOf st) s k 0 (scopeAt book c .variables) e))))
       (λ gs h. on-entered (formerScope book c gs) (runScope book c gs) (st .count) _ _
-      (earlier k (call-number s x (below 0 (omega arith)) l) gs (λ m. never (Meets.deeper gs l h m)))
-      (λ vs n e. steps-kept xs later (withCall st k vs n) (λ m. never (Meets.call gs vs n l h e m))))))
+      (earlier k (call-number s x (below 0 (omega arith)) l) gs (λ m. never (MeetsEmptyFrom.deeper gs l h m)))
+      (λ vs n e. steps-kept xs later (withCall st k vs n) (λ m. never (MeetsEmptyFrom.call gs vs n l h e m))))))
       (decide (ltb x own))
 
 module _ (bytes : List ℕ) (n : ℕ) (accepted : judge bytes ≡ Accepted n) where

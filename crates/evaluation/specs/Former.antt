@@ -38,7 +38,7 @@ abbrev pub formerEvaluate : List ℕ → ℕ → List ℕ → ℕ → Reply
 formerEvaluate = evaluateBy endsCaller
 
 -- "an empty override" of the next call, of its variables from v on: the first override tree without a value ends empty
-pub record MeetsHere (e : Env) (s : Scope) (k v : ℕ) (xs : List Variable) : Type 0 where
+pub record EmptyOverride (e : Env) (s : Scope) (k v : ℕ) (xs : List Variable) : Type 0 where
   pub place : ℕ
   pub there : place < length xs
   pub some : hasClause s (calledTarget k (v + place)) ≡ true
@@ -46,30 +46,30 @@ pub record MeetsHere (e : Env) (s : Scope) (k v : ℕ) (xs : List Variable) : Ty
   pub before : (u : ℕ) → u < place → hasClause s (calledTarget k (v + u)) ≡ true → (y : Value) × (eval e (tree s (calledTarget k (v + u))) ≡ Gives y)
 
 -- "Runs that meet no such override": from a state of scope i on, with these steps left, the former run meets an empty override
-pub data Meets (book : List Scope) : ℕ → List Given → List ℕ → State → Type 0 where
+pub data MeetsEmptyFrom (book : List Scope) : ℕ → List Given → List ℕ → State → Type 0 where
   -- the next call has an empty override
   here : {i : ℕ} {given : List Given} {x : ℕ} {xs : List ℕ} {st : State} → length (scopeAt book i .variables) ≤ x
-      → MeetsHere (envOf st) (scopeAt book i) (x - length (scopeAt book i .variables)) 0 (scopeAt book (calleeOf (scopeAt book i) x) .variables)
-      → Meets book i given (x ∷ xs) st
+      → EmptyOverride (envOf st) (scopeAt book i) (x - length (scopeAt book i .variables)) 0 (scopeAt book (calleeOf (scopeAt book i) x) .variables)
+      → MeetsEmptyFrom book i given (x ∷ xs) st
   -- the scope that the next call enters meets one
   deeper : {i : ℕ} {given : List Given} {x : ℕ} {xs : List ℕ} {st : State} (gs : List Given) → length (scopeAt book i .variables) ≤ x
       → formerHands book (scopeAt book i) st x ≡ handed gs
-      → Meets book (calleeOf (scopeAt book i) x) gs (stepOrder (scopeAt book (calleeOf (scopeAt book i) x))) (begin (scopeAt book (calleeOf (scopeAt book i) x)))
-      → Meets book i given (x ∷ xs) st
+      → MeetsEmptyFrom book (calleeOf (scopeAt book i) x) gs (stepOrder (scopeAt book (calleeOf (scopeAt book i) x))) (begin (scopeAt book (calleeOf (scopeAt book i) x)))
+      → MeetsEmptyFrom book i given (x ∷ xs) st
   -- the next step, a variable or a call, gives values, and the run meets one later
   variable : {i : ℕ} {given : List Given} {x : ℕ} {xs : List ℕ} {st : State} (y : Value) → x < length (scopeAt book i .variables)
       → step (getD given x Absent) (envOf st) (tree (scopeAt book i) (ownTarget x)) ≡ Gives y
-      → Meets book i given xs (withVariable st x y)
-      → Meets book i given (x ∷ xs) st
+      → MeetsEmptyFrom book i given xs (withVariable st x y)
+      → MeetsEmptyFrom book i given (x ∷ xs) st
   call : {i : ℕ} {given : List Given} {x : ℕ} {xs : List ℕ} {st : State} (gs : List Given) (vs : List Value) (n : ℕ) → length (scopeAt book i .variables) ≤ x
       → formerHands book (scopeAt book i) st x ≡ handed gs
       → formerScope book (calleeOf (scopeAt book i) x) gs ≡ values vs n
-      → Meets book i given xs (withCall st (x - length (scopeAt book i .variables)) vs n)
-      → Meets book i given (x ∷ xs) st
+      → MeetsEmptyFrom book i given xs (withCall st (x - length (scopeAt book i .variables)) vs n)
+      → MeetsEmptyFrom book i given (x ∷ xs) st
 
 -- the former run of scope i with these given variables meets one, at whatever depth
 abbrev pub MeetsEmpty : List Scope → ℕ → List Given → Type 0
-MeetsEmpty book i given = Meets book i given (stepOrder (scopeAt book i)) (begin (scopeAt book i))
+MeetsEmpty book i given = MeetsEmptyFrom book i given (stepOrder (scopeAt book i)) (begin (scopeAt book i))
 
 -- so does the evaluation that these bytes ask for, where it is not refused
 pub record EvaluationMeets (bytes : List ℕ) (i : ℕ) (list : List ℕ) (room : ℕ) : Type 0 where
