@@ -53,6 +53,8 @@ examples =
     ∷ row (run (codeOf (scopesOf (1 ∷ 2 ∷ 2 ∷ 5 ∷ 0 ∷ 0 ∷ 0 ∷ 7 ∷ 19 ∷ 255 ∷ 0 ∷ 255 ∷ 255 ∷ 0 ∷ 1 ∷ 2 ∷ 2 ∷ 3 ∷ 0 ∷ 5 ∷ 0 ∷ 0 ∷ 0 ∷ 9 ∷ 7 ∷ 0 ∷ 0 ∷ 19 ∷ 0 ∷ 0 ∷ 255 ∷ 255 ∷ 0 ∷ 19 ∷ 255 ∷ 0 ∷ 255 ∷ 255 ∷ 1 ∷ []))) 1 [] 6) (record { answer = Values 2 6; written = (2 ∷ 0 ∷ 0 ∷ 0 ∷ 0 ∷ 9 ∷ []) })
     -- an empty override, beside the sub-scope's own 9
     ∷ row (run (codeOf (scopesOf (1 ∷ 2 ∷ 2 ∷ 5 ∷ 0 ∷ 0 ∷ 0 ∷ 9 ∷ 19 ∷ 255 ∷ 0 ∷ 255 ∷ 255 ∷ 0 ∷ 1 ∷ 2 ∷ 2 ∷ 3 ∷ 0 ∷ 8 ∷ 2 ∷ 7 ∷ 0 ∷ 0 ∷ 19 ∷ 0 ∷ 0 ∷ 255 ∷ 255 ∷ 0 ∷ 19 ∷ 255 ∷ 0 ∷ 255 ∷ 255 ∷ 1 ∷ []))) 1 [] 6) (record { answer = Values 2 6; written = (2 ∷ 0 ∷ 0 ∷ 0 ∷ 0 ∷ 9 ∷ []) })
+    -- the same book's code without the try, as it was before No. 5 of paper 02: it runs as it did
+    ∷ row (run (1 ∷ 0 ∷ 2 ∷ 2 ∷ 44 ∷ 0 ∷ 0 ∷ 16 ∷ 4 ∷ 1 ∷ 35 ∷ 0 ∷ 8 ∷ 5 ∷ 0 ∷ 0 ∷ 0 ∷ 9 ∷ 34 ∷ 0 ∷ 1 ∷ 32 ∷ 41 ∷ 0 ∷ 1 ∷ 1 ∷ 2 ∷ 2 ∷ 3 ∷ 0 ∷ 4 ∷ 1 ∷ 35 ∷ 0 ∷ 4 ∷ 32 ∷ 34 ∷ 0 ∷ 1 ∷ 32 ∷ 42 ∷ 0 ∷ 0 ∷ 43 ∷ 0 ∷ 44 ∷ 0 ∷ 0 ∷ 14 ∷ 4 ∷ 1 ∷ 35 ∷ 0 ∷ 6 ∷ 7 ∷ 0 ∷ 0 ∷ 34 ∷ 0 ∷ 1 ∷ 32 ∷ 41 ∷ 0 ∷ []) 1 [] 6) (record { answer = Ended Empty 1; written = [] })
     -- an empty operand deep inside the override
     ∷ row (run (codeOf (scopesOf (1 ∷ 2 ∷ 2 ∷ 5 ∷ 0 ∷ 0 ∷ 0 ∷ 9 ∷ 19 ∷ 255 ∷ 0 ∷ 255 ∷ 255 ∷ 0 ∷ 1 ∷ 2 ∷ 2 ∷ 3 ∷ 0 ∷ 5 ∷ 0 ∷ 0 ∷ 0 ∷ 4 ∷ 8 ∷ 2 ∷ 13 ∷ 0 ∷ 1 ∷ 7 ∷ 0 ∷ 0 ∷ 19 ∷ 0 ∷ 0 ∷ 255 ∷ 255 ∷ 2 ∷ 19 ∷ 255 ∷ 0 ∷ 255 ∷ 255 ∷ 3 ∷ []))) 1 [] 6) (record { answer = Values 2 6; written = (2 ∷ 0 ∷ 0 ∷ 0 ∷ 0 ∷ 9 ∷ []) })
     -- an override in conflict: the scope is not entered

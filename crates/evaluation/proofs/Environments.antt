@@ -36,6 +36,7 @@ use Rattle.acceptance.proofs.Reading.{variable-depends, call-depends}
 use Rattle.evaluation.specs.Handing.{hands, fallsBack, Handing, handed, failed, inFront, handingBy, handing}
 use Rattle.evaluation.specs.Types.{Typed, AllTyped, OwnNamed, CalledNamed, WellTyped}
 use Rattle.evaluation.specs.Meaning.{Overrides}
+use Rattle.evaluation.proofs.Handing.{handing-agrees}
 use Rattle.evaluation.proofs.Soundness.{typed-map}
 use Rattle.evaluation.proofs.Trees.{tree-typed}
 
@@ -97,9 +98,7 @@ module _ (e f : Env) where
 
     pub handing-same : (k : ℕ) → k < length (s .subScopes) → x ≡ length (s .variables) + k
         → (v : ℕ) (xs : List Variable) → handing e s k v xs ≡ handing f s k v xs
-    unfolding handingBy
-    handing-same k l h v [] = refl
-    handing-same k l h v (y ∷ xs) = rw (override-same k l h v, handing-same k l h (suc v) xs)
+    handing-same k l h = handing-agrees e f s k (override-same k l h)
 
 -- What a call hands over
 
@@ -140,7 +139,7 @@ module _ (e : Env) (s : Scope) (k : ℕ) where
   evaluated-all : (v : ℕ) (x : Variable) (xs : List Variable) (o : Outcome) (h : Handing) → hasClause s (calledTarget k v) ≡ true
       → eval e (tree s (calledTarget k v)) ≡ o → AllOf (suc v) xs h → AllOf v (x ∷ xs) (inFront (fallsBack o) h)
   evaluated-all v x xs (Gives y) h q p r = front-all v x xs (Present y) h (Overrides.with y q (sym (step-default Absent e (tree s (calledTarget k v))) ∙ p)) r
-  evaluated-all v x xs (Ends Empty) h q p r = front-all v x xs Absent h (Overrides.fallen q (sym (step-default Absent e (tree s (calledTarget k v))) ∙ p)) r
+  evaluated-all v x xs (Ends Empty) h q p r = front-all v x xs Absent h (Overrides.empty q (sym (step-default Absent e (tree s (calledTarget k v))) ∙ p)) r
   evaluated-all v x xs (Ends Conflict) h q p r = tt
   evaluated-all v x xs (Ends (OutOfRange o)) h q p r = tt
 
@@ -165,7 +164,7 @@ module _ (e : Env) (s : Scope) (k : ℕ) where
   one-more v x xs g gs (Overrides.with y q p) h =
       let here : eval e (tree s (calledTarget k v)) ≡ Gives y = step-default Absent e (tree s (calledTarget k v)) ∙ p in
       rw (q, here, h)
-  one-more v x xs g gs (Overrides.fallen q p) h =
+  one-more v x xs g gs (Overrides.empty q p) h =
       let here : eval e (tree s (calledTarget k v)) ≡ Ends Empty = step-default Absent e (tree s (calledTarget k v)) ∙ p in
       rw (q, here, h)
 

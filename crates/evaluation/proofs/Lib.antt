@@ -1,4 +1,5 @@
 mod Next
+pub mod Handing
 pub mod Running
 pub mod Entering
 pub mod Counts

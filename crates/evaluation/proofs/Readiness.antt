@@ -137,7 +137,7 @@ step-typed t (Present v) o y h f e = subst (OutcomeFits t) e h
 override-typed : (t : ValueType) (e : Env) (s : Scope) (k v : ℕ) (g : Given) → OutcomeFits t (eval e (tree s (calledTarget k v)))
     → Overrides e s k v g → MayHold t g
 override-typed t e s k v g f (Overrides.without q) = tt
-override-typed t e s k v g f (Overrides.fallen q p) = tt
+override-typed t e s k v g f (Overrides.empty q p) = tt
 override-typed t e s k v g f (Overrides.with y q p) = subst (OutcomeFits t) (step-default Absent e (tree s (calledTarget k v)) ∙ p) f
 
 each-fits : (e : Env) (s : Scope) (k v : ℕ) (xs : List Variable) (gs : List Given)

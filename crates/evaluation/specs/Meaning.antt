@@ -30,7 +30,7 @@ pub data Overrides (e : Env) (s : Scope) (k v : ℕ) : Given → Type 0 where
   with : (y : Value) → hasClause s (calledTarget k v) ≡ true → eval e (overridable Absent (tree s (calledTarget k v))) ≡ Gives y
       → Overrides e s k v (Present y)
   -- "an empty override hands nothing over" (paper 02, No. 5)
-  fallen : hasClause s (calledTarget k v) ≡ true → eval e (overridable Absent (tree s (calledTarget k v))) ≡ Ends Empty
+  empty : hasClause s (calledTarget k v) ≡ true → eval e (overridable Absent (tree s (calledTarget k v))) ≡ Ends Empty
       → Overrides e s k v Absent
 
 -- the equations of a scope with what is given to it: values vs of its variables, cs of those of its sub-scopes, and what it hands over to each

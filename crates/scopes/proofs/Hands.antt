@@ -1,5 +1,4 @@
 -- Handing over the variables of a sub-scope.
---     handing-agrees                      what is handed over is the same in environments that agree on the override trees
 --     hands-none, hands-tree              one variable
 --     none-passed, pass, halt, end        all of them, in a loop
 -- Assumes nothing.
@@ -14,7 +13,7 @@ use lib.Seq.{getD-set-same, getD-set-other}
 use lib.Dec.{ltb}
 use borrow.Author.Tests.{lt-ltb, le-ltb, ltb-true, ltb-false}
 use Rattle.calculus.specs.Defaults.{found}
-use Rattle.calculus.specs.Evaluation.{Env, eval}
+use Rattle.calculus.specs.Evaluation.{Env}
 use Rattle.answers.specs.declared.Cause.{Cause}
 use Rattle.answers.specs.declared.Cause.the-variants.{Empty, Conflict, OutOfRange}
 use Rattle.calculus.specs.declared.Outcome.{Outcome}
@@ -27,20 +26,12 @@ use Rattle.cells.proofs.Variables.{given-cell, kept-nothing, kept-value, kept-p
 use Rattle.book.specs.Syntax.{Scope}
 use Rattle.book.specs.Decode.{scopesOf}
 use Rattle.book.specs.References.{scopeAt}
-use Rattle.book.specs.Trees.{tree, calledTarget}
 use Rattle.book.specs.declared.Variable.{Variable}
 use Rattle.terms.specs.Operators.{OnFound}
 use Rattle.terms.specs.Outcomes as cells
 use Rattle.trees.specs.Chains.{treeOutcome, clauseFor}
 use Rattle.evaluation.specs.Handing.{hands, stops, fallsBack, handed, failed, override, handingBy, handing}
 use Rattle.scopes.specs.Steps.{overrideAt, handedOf, Hands, givensFrom, calledVariables, calledCount, HandedAll}
-
--- environments that agree on the override trees
-pub handing-agrees : (e f : Env) (s : Scope) (k : ℕ) → ((v : ℕ) → eval e (tree s (calledTarget k v)) ≡ eval f (tree s (calledTarget k v)))
-    → (v : ℕ) (xs : List Variable) → handing e s k v xs ≡ handing f s k v xs
-unfolding handingBy
-handing-agrees e f s k h v [] = refl
-handing-agrees e f s k h v (x ∷ xs) = rw (h v, handing-agrees e f s k h (suc v) xs)
 
 -- the cells hold what the variables from v on are handed
 module _ (env : Env) (s : Scope) (k : ℕ) (cells : List ℕ) where

@@ -48,6 +48,7 @@ use Rattle.lists.specs.Writing.{valuesOf}
 use Rattle.evaluation.specs.Handing as overrides
 use Rattle.evaluation.specs.Handing.{Handing, failed, handing}
 use Rattle.evaluation.specs.Run.{Entered, values, ended, State, envOf, onValue, onEntered, onHanding, begin, runStepsBy, runSteps, enter}
+use Rattle.evaluation.proofs.Handing.{handing-agrees}
 use Rattle.evaluation.proofs.Running.{countOf, steps-count}
 use Rattle.evaluation.proofs.Entering.{accepted-entered-steps}
 use Rattle.evaluation.proofs.Counts.{bounded-count, entered-bounded}
@@ -55,7 +56,6 @@ use Rattle.scopes.specs.Steps.{stepOutcome, givensFrom, calledVariables,
 use Rattle.scopes.specs.declared.Ran.{Ran}
 use Rattle.scopes.specs.declared.Ran.the-variants.{Values, Ended}
 use Rattle.scopes.proofs.Cells.{Stored, givens-at, values-at, values-held, pasted, pasted-length, pasted-in, pasted-before, pasted-after, kept-pasted, kept-none}
-use Rattle.scopes.proofs.Hands.{handing-agrees}
 
 -- the first n steps are done
 abbrev pub Done : List ℕ → ℕ → ℕ → ℕ → Type 0
