@@ -11,7 +11,8 @@ use Rattle.record.specs.Kinds.{shapeIn, shapesOf, kinds}
 use Rattle.slices.specs.Bytes.{bigEndian, numberAt}
 use Rattle.calculus.specs.Evaluation.{eval, exceptions}
 use Rattle.calculus.specs.declared.Value.the-variants.{Truth, Number}
-use Rattle.answers.specs.declared.Cause.the-variants.{Empty, Conflict}
+use Rattle.answers.specs.declared.Cause.the-variants.{Empty, Conflict, OutOfRange}
+use Rattle.answers.specs.declared.Side.the-variants.{Above, Below}
 use Rattle.order.specs.Search.{lowestFrom, lowest, none}
 use Rattle.order.specs.Order.{unmet, ready, next, among, taken, order}
 use Rattle.book.specs.Lists.{any}
@@ -25,7 +26,7 @@ use Rattle.answers.specs.declared.Judged.the-variants.{Accepted}
 use Rattle.book.specs.Steps.{stepCount, reads, readsAny, stepOf, clauseReads, dependsOn, stepOrder}
 use Rattle.evaluation.specs.Handing.{handingBy}
 use Rattle.evaluation.specs.Run.{Entered, values, ended, runStepsBy, enterBy, runScope}
-use Rattle.evaluation.specs.Former.{formerScope, formerEvaluate, EvaluationMeets}
+use Rattle.evaluation.specs.Former.{formerRunScope, formerEvaluate, EvaluationMeets}
 use Rattle.evaluation.proofs.Former.{answers-kept}
 use Rattle.translation.specs.Blocks.{codeOf}
 use Rattle.machine.specs.Service.{run}
@@ -53,6 +54,12 @@ books =
     ∷ (1 ∷ 2 ∷ 2 ∷ 2 ∷ 2 ∷ 5 ∷ 0 ∷ 0 ∷ 0 ∷ 1 ∷ 19 ∷ 255 ∷ 1 ∷ 255 ∷ 255 ∷ 0 ∷ 1 ∷ 2 ∷ 2 ∷ 3 ∷ 0 ∷ 5 ∷ 0 ∷ 0 ∷ 0 ∷ 5 ∷ 7 ∷ 0 ∷ 0 ∷ 19 ∷ 0 ∷ 1 ∷ 255 ∷ 255 ∷ 0 ∷ 19 ∷ 255 ∷ 0 ∷ 255 ∷ 255 ∷ 1 ∷ [])
     -- an empty variable of the caller's own
     ∷ (1 ∷ 2 ∷ 2 ∷ 5 ∷ 0 ∷ 0 ∷ 0 ∷ 9 ∷ 19 ∷ 255 ∷ 0 ∷ 255 ∷ 255 ∷ 0 ∷ 1 ∷ 2 ∷ 2 ∷ 3 ∷ 0 ∷ 8 ∷ 2 ∷ 8 ∷ 2 ∷ 19 ∷ 0 ∷ 0 ∷ 255 ∷ 255 ∷ 0 ∷ 19 ∷ 255 ∷ 0 ∷ 255 ∷ 255 ∷ 1 ∷ [])
+    -- an override above the range
+    ∷ (1 ∷ 2 ∷ 2 ∷ 5 ∷ 0 ∷ 0 ∷ 0 ∷ 9 ∷ 19 ∷ 255 ∷ 0 ∷ 255 ∷ 255 ∷ 0 ∷ 1 ∷ 2 ∷ 2 ∷ 3 ∷ 0 ∷ 5 ∷ 127 ∷ 255 ∷ 255 ∷ 255 ∷ 5 ∷ 0 ∷ 0 ∷ 0 ∷ 1 ∷ 13 ∷ 0 ∷ 1 ∷ 7 ∷ 0 ∷ 0 ∷ 19 ∷ 0 ∷ 0 ∷ 255 ∷ 255 ∷ 2 ∷ 19 ∷ 255 ∷ 0 ∷ 255 ∷ 255 ∷ 3 ∷ [])
+    -- an override below it
+    ∷ (1 ∷ 2 ∷ 2 ∷ 5 ∷ 0 ∷ 0 ∷ 0 ∷ 9 ∷ 19 ∷ 255 ∷ 0 ∷ 255 ∷ 255 ∷ 0 ∷ 1 ∷ 2 ∷ 2 ∷ 3 ∷ 0 ∷ 5 ∷ 128 ∷ 0 ∷ 0 ∷ 0 ∷ 5 ∷ 255 ∷ 255 ∷ 255 ∷ 255 ∷ 13 ∷ 0 ∷ 1 ∷ 7 ∷ 0 ∷ 0 ∷ 19 ∷ 0 ∷ 0 ∷ 255 ∷ 255 ∷ 2 ∷ 19 ∷ 255 ∷ 0 ∷ 255 ∷ 255 ∷ 3 ∷ [])
+    -- an empty override in a scope that is called
+    ∷ (1 ∷ 2 ∷ 2 ∷ 5 ∷ 0 ∷ 0 ∷ 0 ∷ 9 ∷ 19 ∷ 255 ∷ 0 ∷ 255 ∷ 255 ∷ 0 ∷ 1 ∷ 2 ∷ 2 ∷ 3 ∷ 2 ∷ 7 ∷ 0 ∷ 0 ∷ 19 ∷ 255 ∷ 0 ∷ 255 ∷ 255 ∷ 0 ∷ 1 ∷ 2 ∷ 2 ∷ 3 ∷ 0 ∷ 8 ∷ 2 ∷ 7 ∷ 0 ∷ 0 ∷ 19 ∷ 0 ∷ 0 ∷ 255 ∷ 255 ∷ 0 ∷ 19 ∷ 255 ∷ 0 ∷ 255 ∷ 255 ∷ 1 ∷ [])
     ∷ []
 
 abbrev formerly : List Entered
@@ -65,6 +72,9 @@ formerly =
     ∷ values (Truth false ∷ []) 2
     ∷ ended Empty 2
     ∷ ended Empty 1
+    ∷ ended (OutOfRange Above) 1
+    ∷ ended (OutOfRange Below) 1
+    ∷ ended Empty 2
     ∷ []
 
 abbrev amended : List Entered
@@ -77,9 +87,12 @@ amended =
     ∷ values (Truth false ∷ []) 2
     ∷ ended Empty 2
     ∷ ended Empty 1
+    ∷ ended (OutOfRange Above) 1
+    ∷ ended (OutOfRange Below) 1
+    ∷ values (Number (pos 9) ∷ []) 3
     ∷ []
 
-pub former-runs : map (λ b. formerScope (scopesOf b) 1 []) books ≡ formerly
+pub former-runs : map (λ b. formerRunScope (scopesOf b) 1 []) books ≡ formerly
 unfolding scopesOf parse inFront records recordsFrom counted shapeIn shapesOf kinds nodeOf clauseOf numberAt bigEndian blocks calls among order taken next lowest lowestFrom ready unmet none stepOrder stepCount dependsOn stepOf clauseReads reads readsAny any tree bases hasRule clauseTerms select termOf termBelow eval exceptions handingBy runStepsBy enterBy
 former-runs = refl
 

@@ -26,7 +26,7 @@ use Rattle.evaluation.specs.Handing.{Handed}
 use Rattle.evaluation.specs.Run.{runScopeBy}
 use Rattle.evaluation.specs.Evaluate.{replyOf, refuse, askedBy, evaluateBy}
 
--- by what the outcome of an override tree hands over
+-- `by`: what the outcome of an override tree hands over
 module _ (by : Outcome → Handed) (bytes : List ℕ) (i : ℕ) (list : List ℕ) (room : ℕ) where
   judged-so : (j : Judged) → judge bytes ≡ j → evaluateBy by bytes i list room ≡ onJudged refuse j (askedBy by (scopesOf bytes) i list room)
   unfolding evaluateBy

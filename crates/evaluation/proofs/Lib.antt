@@ -12,4 +12,5 @@ pub mod Meaning
 pub mod Cases
 pub mod Answers
 pub mod Former
+pub mod Changed
 pub mod Overriding

@@ -4,7 +4,7 @@
 --     run-means, means-run        of an accepted book: a scope is run to values if and only if it means them
 --     means-unique                what a scope means is unique
 --     order-means, means-order    the same for its steps in any order in which each stands once and after all that it depends on
---     any-order                   so the order decides nothing but which end a run without values comes to
+--     any-order                   so the order decides nothing but which end a run without values comes to, and its count
 -- Assumes nothing.
 use Prim.Native.Nat.{ℕ, suc, _<_, _≤_, _+_, _-_}
 use mathlib.Core.Path.{_≡_, refl, sym, ap, subst, _∙_}

@@ -44,7 +44,7 @@ replyOf (ended c n) = record { answer = Ended c n; written = [] }
 abbrev pub fitting : ℕ → Scope → Reply → Reply
 fitting room s r = cond (leb (resultLength (s .variables)) room) r (refuse BufferTooSmall)
 
--- by what the outcome of an override tree hands over
+-- `by`: what the outcome of an override tree hands over
 module _ (by : Outcome → Handed) where
   -- 14, the paper's "bad slip"
   abbrev pub onInputsBy : Inputs → ℕ → List Scope → ℕ → Reply

@@ -28,11 +28,11 @@ abbrev pub endsCaller : Outcome → Handed
 endsCaller (Gives y) = hands (Present y)
 endsCaller (Ends c) = stops c
 
-abbrev pub formerHands : List Scope → Scope → State → ℕ → Handing
-formerHands book s st x = handingBy endsCaller (envOf st) s (x - length (s .variables)) 0 (scopeAt book (calleeOf s x) .variables)
+abbrev pub formerHandsOver : List Scope → Scope → State → ℕ → Handing
+formerHandsOver book s st x = handingBy endsCaller (envOf st) s (x - length (s .variables)) 0 (scopeAt book (calleeOf s x) .variables)
 
-abbrev pub formerScope : List Scope → ℕ → List Given → Entered
-formerScope = runScopeBy endsCaller
+abbrev pub formerRunScope : List Scope → ℕ → List Given → Entered
+formerRunScope = runScopeBy endsCaller
 
 abbrev pub formerEvaluate : List ℕ → ℕ → List ℕ → ℕ → Reply
 formerEvaluate = evaluateBy endsCaller
@@ -45,7 +45,7 @@ pub record EmptyOverride (e : Env) (s : Scope) (k v : ℕ) (xs : List Variable) 
   pub empty : eval e (tree s (calledTarget k (v + place))) ≡ Ends Empty
   pub before : (u : ℕ) → u < place → hasClause s (calledTarget k (v + u)) ≡ true → (y : Value) × (eval e (tree s (calledTarget k (v + u))) ≡ Gives y)
 
--- "Runs that meet no such override": from a state of scope i on, with these steps left, the former run meets an empty override
+-- the former run, from a state of scope i on with these steps left, meets an empty override; "Runs that meet no such override keep their answers"
 pub data MeetsEmptyFrom (book : List Scope) : ℕ → List Given → List ℕ → State → Type 0 where
   -- the next call has an empty override
   here : {i : ℕ} {given : List Given} {x : ℕ} {xs : List ℕ} {st : State} → length (scopeAt book i .variables) ≤ x
@@ -53,7 +53,7 @@ pub data MeetsEmptyFrom (book : List Scope) : ℕ → List Given → List ℕ �
       → MeetsEmptyFrom book i given (x ∷ xs) st
   -- the scope that the next call enters meets one
   deeper : {i : ℕ} {given : List Given} {x : ℕ} {xs : List ℕ} {st : State} (gs : List Given) → length (scopeAt book i .variables) ≤ x
-      → formerHands book (scopeAt book i) st x ≡ handed gs
+      → formerHandsOver book (scopeAt book i) st x ≡ handed gs
       → MeetsEmptyFrom book (calleeOf (scopeAt book i) x) gs (stepOrder (scopeAt book (calleeOf (scopeAt book i) x))) (begin (scopeAt book (calleeOf (scopeAt book i) x)))
       → MeetsEmptyFrom book i given (x ∷ xs) st
   -- the next step, a variable or a call, gives values, and the run meets one later
@@ -62,8 +62,8 @@ pub data MeetsEmptyFrom (book : List Scope) : ℕ → List Given → List ℕ �
       → MeetsEmptyFrom book i given xs (withVariable st x y)
       → MeetsEmptyFrom book i given (x ∷ xs) st
   call : {i : ℕ} {given : List Given} {x : ℕ} {xs : List ℕ} {st : State} (gs : List Given) (vs : List Value) (n : ℕ) → length (scopeAt book i .variables) ≤ x
-      → formerHands book (scopeAt book i) st x ≡ handed gs
-      → formerScope book (calleeOf (scopeAt book i) x) gs ≡ values vs n
+      → formerHandsOver book (scopeAt book i) st x ≡ handed gs
+      → formerRunScope book (calleeOf (scopeAt book i) x) gs ≡ values vs n
       → MeetsEmptyFrom book i given xs (withCall st (x - length (scopeAt book i .variables)) vs n)
       → MeetsEmptyFrom book i given (x ∷ xs) st
 

@@ -1,4 +1,4 @@
--- What a call hands over to the scope that it enters: the outcomes of its override trees.
+-- What a call hands over to the scope that it enters: for each of its variables nothing or a value, by the outcome of the override tree.
 use Prim.Native.Nat.{ℕ, suc}
 use mathlib.Core.Bool.{cond}
 use mathlib.Core.List.{List, [], _∷_}
@@ -36,7 +36,7 @@ inFront (hands g) (handed gs) = handed (g ∷ gs)
 inFront (hands g) (failed c) = failed c
 inFront (stops c) rest = failed c
 
--- by what the outcome of an override tree hands over
+-- `by`: what the outcome of an override tree hands over
 module _ (by : Outcome → Handed) where
   -- "A target of an override without clauses is simply not given": variable v of the scope that sub-scope k names
   abbrev pub overrideBy : Env → Scope → ℕ → ℕ → Handed

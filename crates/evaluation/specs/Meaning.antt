@@ -1,4 +1,5 @@
--- What a scope means, without an order of steps and without a run: the source paper's figure 7, as equations that the values of a scope solve.
+-- What a scope means, without an order of steps and without a run: the source paper's figure 7, but for an empty override, which falls back since
+-- paper 02, No. 5, as equations that the values of a scope solve.
 -- It speaks of values alone: a scope whose run ends empty, in conflict or out of range means nothing, and which of these it is the order of steps
 -- decides. In a book that is not accepted there may be several solutions, as where a variable is defined by itself.
 use Prim.Native.Nat.{ℕ, _<_}

@@ -44,7 +44,7 @@ abbrev pub onEntered : Entered → ℕ → (List Value → ℕ → Entered) → 
 onEntered (values vs n) count go = go vs (count + n)
 onEntered (ended c n) count go = ended c (count + n)
 
--- an override that ends in conflict or out of range ends the run before the scope is entered
+-- an override that ends the run ends it before the scope is entered
 abbrev pub onHanding : Handing → ℕ → (List Given → Entered) → Entered
 onHanding (handed gs) count go = go gs
 onHanding (failed c) count go = ended c count
@@ -53,7 +53,7 @@ onHanding (failed c) count go = ended c count
 abbrev pub begin : Scope → State
 begin s = record { own = map (λ v. Absent) (s .variables); called = map (λ k. []) (s .subScopes); count = 1 }
 
--- by what the outcome of an override tree hands over
+-- `by`: what the outcome of an override tree hands over
 module _ (by : Outcome → Handed) where
   -- the steps in their order; `enter` is what entering a scope with given variables comes to
   module _ (book : List Scope) (enter : ℕ → List Given → Entered) (s : Scope) (given : List Given) where

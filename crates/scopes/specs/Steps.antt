@@ -43,7 +43,7 @@ pub record Stepping (bytes index links given own called : List ℕ) (i x : ℕ) 
 unfoldable pub overrideAt : List ℕ → List ℕ → List ℕ → ℕ → ℕ → ℕ → Handed
 overrideAt bytes own called i k v = override (envOf own called) (scopeAt (scopesOf bytes) i) k v
 
--- what is handed over, by its cell
+-- what is handed over, or the cause of an end, by the cell
 abbrev pub handedOf : ℕ → Handed
 handedOf c = cond (ltb c emptyCell) (hands (givenOf c)) (stops (causeOf c))
 
@@ -52,7 +52,7 @@ pub record Hands (bytes own called : List ℕ) (i k v c : ℕ) : Type 0 where
   pub same : handedOf c ≡ overrideAt bytes own called i k v
   pub kept : c < emptyCell → Kept c
 
--- what the first n cells hold, as what is given
+-- what n cells from v on hold, as what is given
 unfoldable pub givensFrom : List ℕ → ℕ → ℕ → List Given
 givensFrom cells v zero = []
 givensFrom cells v (suc n) = givenAt cells v ∷ givensFrom cells (suc v) n
@@ -64,16 +64,18 @@ calledVariables book i k = scopeAt book (getD (scopeAt book i .subScopes) k 0) .
 abbrev pub calledCount : List Scope → ℕ → ℕ → ℕ
 calledCount book i k = length (scopeAt book (getD (scopeAt book i .subScopes) k 0) .variables)
 
--- what handing over all variables comes to, by a cell that is no end's or an end's, and what is handed over
+-- what a call hands over: the list, or the cause where the cell is an end's
 abbrev pub handingOf : ℕ → List Given → Handing
 handingOf c gs = cond (ltb c emptyCell) (handed gs) (failed (causeOf c))
 
+-- the variables of sub-scope k of scope i can be handed over: there are cells for them, with nothing or a value in each
 pub record HandsAll (bytes index links own called : List ℕ) (i k : ℕ) (handed : List ℕ) : Type 0 where
   pub evaluable : Evaluable bytes index links own called i
   pub number : k < 8
   pub room : length handed ≡ 32
   pub kept : AllKept handed
 
+-- they were handed over, up to the first end: the cell of that end, or nothing, and the cells handed over
 pub record HandedAll (bytes own called : List ℕ) (i k c : ℕ) (handed : List ℕ) : Type 0 where
   pub size : length handed ≡ 32
   pub kept : AllKept handed

@@ -57,11 +57,11 @@ unfolding variableCode bytesOf
 variable-length s x k = omega (arith, code-length (tree s (ownTarget x)) (41 ∷ x ∷ k))
 
 -- what an override adds
-abbrev override : Scope → ℕ → ℕ → ℕ
-override s c v = cond (hasClause s (calledTarget c v)) (size (tree s (calledTarget c v)) + 7) 0
+abbrev overrideLength : Scope → ℕ → ℕ → ℕ
+overrideLength s c v = cond (hasClause s (calledTarget c v)) (size (tree s (calledTarget c v)) + 7) 0
 
 overrides-length : (s : Scope) (c v : ℕ) (xs : List Variable) (k : List ℕ)
-    → length (overridesCode s c v xs k) ≡ range (override s c) v (length xs) + length k
+    → length (overridesCode s c v xs k) ≡ range (overrideLength s c) v (length xs) + length k
 unfolding overridesCode range bytesOf
 overrides-length s c v [] k = omega arith
 overrides-length s c v (x ∷ xs) k = go (hasClause s (calledTarget c v)) (overrides-length s c (suc v) xs k)
@@ -69,9 +69,9 @@ overrides-length s c v (x ∷ xs) k = go (hasClause s (calledTarget c v)) (overr
     t : Term
     t = tree s (calledTarget c v)
 
-    go : (b : Bool) → length (overridesCode s c (suc v) xs k) ≡ range (override s c) (suc v) (length xs) + length k
+    go : (b : Bool) → length (overridesCode s c (suc v) xs k) ≡ range (overrideLength s c) (suc v) (length xs) + length k
         → length (cond b (overrideCode t c v (overridesCode s c (suc v) xs k)) (overridesCode s c (suc v) xs k))
-        ≡ cond b (size t + 7) 0 + range (override s c) (suc v) (length xs) + length k
+        ≡ cond b (size t + 7) 0 + range (overrideLength s c) (suc v) (length xs) + length k
     go true e = omega (arith, code-length t (37 ∷ 42 ∷ c ∷ v ∷ overridesCode s c (suc v) xs k), e)
     go false e = omega (arith, e)
 
@@ -84,7 +84,7 @@ module _ (book : List Scope) (s : Scope) where
   ownSize x = size (tree s (ownTarget x)) + 6
 
   abbrev callSize : ℕ → ℕ
-  callSize c = range (override s c) 0 (variablesOf c) + 2
+  callSize c = range (overrideLength s c) 0 (variablesOf c) + 2
 
   unfoldable stepSize : ℕ → ℕ
   stepSize x = cond (ltb x (length (s .variables))) (ownSize x) (callSize (x - length (s .variables)))
@@ -232,7 +232,7 @@ module _ (s : Scope) where
       (λ (q : hasClause s t ≡ false). omega (arith, empty-tree t q))
       (decide (hasClause s t))
 
-  called-cost : (c v : ℕ) → 14 * override s c v ≤ costOf (calledTarget c v)
+  called-cost : (c v : ℕ) → 14 * overrideLength s c v ≤ costOf (calledTarget c v)
   called-cost c v =
       ⊎-elim
       (λ (q : hasClause s (calledTarget c v) ≡ true). rw q (tree-cost (calledTarget c v) q))
@@ -447,7 +447,7 @@ module _ (book : List Scope) (s : Scope) (within : WithinLimits s) (formed : Wel
       rw (z, y, le-ltb (v + k) v (omega arith), d)
       (omega (
         arith,
-        range-most (override s k) (λ x. costOf s (calledTarget k x)) 0 (λ m. 0) (λ m. omega arith) 0 0 (variablesOf book s k)
+        range-most (overrideLength s k) (λ x. costOf s (calledTarget k x)) 0 (λ m. 0) (λ m. omega arith) 0 0 (variablesOf book s k)
             (λ x h. omega (arith, called-cost s k (0 + x))),
       ))
 
