@@ -63,7 +63,7 @@ examples =
     ∷ row (run (codeOf (scopesOf (1 ∷ 2 ∷ 2 ∷ 2 ∷ 2 ∷ 5 ∷ 0 ∷ 0 ∷ 0 ∷ 9 ∷ 5 ∷ 0 ∷ 0 ∷ 0 ∷ 8 ∷ 19 ∷ 255 ∷ 0 ∷ 255 ∷ 255 ∷ 0 ∷ 19 ∷ 255 ∷ 1 ∷ 255 ∷ 255 ∷ 1 ∷ 1 ∷ 2 ∷ 2 ∷ 3 ∷ 0 ∷ 8 ∷ 2 ∷ 9 ∷ 2 ∷ 7 ∷ 0 ∷ 0 ∷ 19 ∷ 0 ∷ 0 ∷ 255 ∷ 255 ∷ 0 ∷ 19 ∷ 0 ∷ 1 ∷ 255 ∷ 255 ∷ 1 ∷ 19 ∷ 255 ∷ 0 ∷ 255 ∷ 255 ∷ 2 ∷ []))) 1 [] 6) (record { answer = Ended Conflict 1; written = [] })
     -- an empty override of a variable without clauses
     ∷ row (run (codeOf (scopesOf (1 ∷ 2 ∷ 2 ∷ 1 ∷ 2 ∷ 2 ∷ 3 ∷ 0 ∷ 8 ∷ 2 ∷ 7 ∷ 0 ∷ 0 ∷ 19 ∷ 0 ∷ 0 ∷ 255 ∷ 255 ∷ 0 ∷ 19 ∷ 255 ∷ 0 ∷ 255 ∷ 255 ∷ 1 ∷ []))) 1 [] 6) (record { answer = Ended Empty 2; written = [] })
-    -- a rule that does not hold, as an override: no is handed over
+    -- a rule whose condition is empty, as an override: no is handed over
     ∷ row (run (codeOf (scopesOf (1 ∷ 2 ∷ 1 ∷ 4 ∷ 1 ∷ 19 ∷ 255 ∷ 0 ∷ 255 ∷ 255 ∷ 0 ∷ 1 ∷ 2 ∷ 1 ∷ 3 ∷ 0 ∷ 8 ∷ 1 ∷ 7 ∷ 0 ∷ 0 ∷ 20 ∷ 0 ∷ 0 ∷ 255 ∷ 0 ∷ 1 ∷ 19 ∷ 255 ∷ 0 ∷ 255 ∷ 255 ∷ 1 ∷ []))) 1 [] 3) (record { answer = Values 2 3; written = (1 ∷ 0 ∷ 0 ∷ []) })
     -- an override that gives a value, of a scope that ends empty itself
     ∷ row (run (codeOf (scopesOf (1 ∷ 2 ∷ 2 ∷ 2 ∷ 2 ∷ 5 ∷ 0 ∷ 0 ∷ 0 ∷ 1 ∷ 19 ∷ 255 ∷ 1 ∷ 255 ∷ 255 ∷ 0 ∷ 1 ∷ 2 ∷ 2 ∷ 3 ∷ 0 ∷ 5 ∷ 0 ∷ 0 ∷ 0 ∷ 5 ∷ 7 ∷ 0 ∷ 0 ∷ 19 ∷ 0 ∷ 1 ∷ 255 ∷ 255 ∷ 0 ∷ 19 ∷ 255 ∷ 0 ∷ 255 ∷ 255 ∷ 1 ∷ []))) 1 [] 6) (record { answer = Ended Empty 2; written = [] })

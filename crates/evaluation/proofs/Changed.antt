@@ -1,6 +1,6 @@
--- An evaluation that meets an empty override under the former meaning answers otherwise now: so `EvaluationMeets` is no larger than it must be.
---     run-changed         of an accepted book: such a run ended empty; now it ends otherwise, or enters more scopes
---     answers-changed     so evaluating answers otherwise
+-- An evaluation that meets an empty override under the former meaning answers otherwise now: so `EvaluationMeets` is no larger than it must be. That the
+-- former meaning is the one that was, `former-runs` of `agreement` shows by examples.
+--     answers-changed     evaluating ended empty; now it ends otherwise, or enters more scopes
 -- Assumes nothing.
 use Prim.Native.Nat.{ℕ, suc, _+_, _-_, _<_, _≤_}
 use mathlib.Core.Path.{_≡_, refl, sym, ap, _∙_}
@@ -31,11 +31,11 @@ use Rattle.evaluation.specs.Handing.{Handed, fallsBack, Handing, handed,
 use Rattle.evaluation.specs.Run.{Entered, values, ended, State, envOf, onEntered, onHanding, begin, runStepsBy, runSteps, runScopeBy, runScope}
 use Rattle.evaluation.specs.Readiness.{calleeOf, handsOver, withVariable, withCall}
 use Rattle.evaluation.specs.Evaluate.{Reply, replyOf, evaluateBy, evaluate}
-use Rattle.evaluation.specs.Former.{endsCaller, formerHandsOver, formerRunScope, formerEvaluate, EmptyOverride, MeetsEmptyFrom, MeetsEmpty, EvaluationMeets}
+use Rattle.evaluation.specs.Former.{endsCaller, formerHandsOver, formerRunScope, formerEvaluate, CallMeetsEmpty, MeetsEmptyFrom, MeetsEmpty, EvaluationMeets}
 use Rattle.evaluation.proofs.Running.{countOf, Steps, call-number, steps-count}
 use Rattle.evaluation.proofs.Entering.{steps-of, accepted-entered-by, accepted-entered-steps, accepted-entered-count, accepted-by-blocks}
 use Rattle.evaluation.proofs.Cases.{evaluate-run}
-use Rattle.evaluation.proofs.Handing.{handing-kept, empty-ends, never-empty, isEmpty}
+use Rattle.evaluation.proofs.Handing.{handing-kept, empty-ends, never-empty, failsEmpty}
 use Rattle.evaluation.proofs.Former.{run-kept}
 
 -- no end by empty with this count: another end, or more scopes entered
@@ -63,7 +63,7 @@ apart-entered (ended Empty n) count c go grows l = omega arith
 apart-entered (ended Conflict n) count c go grows l = tt
 apart-entered (ended (OutOfRange s) n) count c go grows l = tt
 
--- the former run ends empty, the amended one does not, with that count
+-- the former run ends empty; the amended one does not end empty with the same count
 record Changed (former amended : Entered) : Type 0 where
   count : ℕ
   ends : former ≡ ended Empty count
@@ -120,7 +120,7 @@ module _ (bytes : List ℕ) (n : ℕ) (accepted : judge bytes ≡ Accepted n) wh
           let r = runScope scopes (calleeOf i-th x) gs in
           apart-entered r (st .count) 0 go grows (apart-later r 0 (accepted-entered-count bytes n accepted (calleeOf i-th x) callee-below gs))
 
-      here-changed : EmptyOverride (envOf st) i-th call 0 (scopeAt scopes (calleeOf i-th x) .variables) → StepsChanged i given (x ∷ xs) st
+      here-changed : CallMeetsEmpty (envOf st) i-th call 0 (scopeAt scopes (calleeOf i-th x) .variables) → StepsChanged i given (x ∷ xs) st
       unfolding runStepsBy
       here-changed m =
           let vars = scopeAt scopes (calleeOf i-th x) .variables in
@@ -135,7 +135,7 @@ module _ (bytes : List ℕ) (n : ℕ) (accepted : judge bytes ≡ Accepted n) wh
       module _ (gs : List Given) (h : formerHandsOver scopes i-th st x ≡ handed gs) where
         hands-same : handsOver scopes i-th st x ≡ handed gs
         hands-same =
-            handing-kept (envOf st) i-th call 0 (scopeAt scopes (calleeOf i-th x) .variables) (λ q. false≢true (ap isEmpty (sym h ∙ q))) ∙ h
+            handing-kept (envOf st) i-th call 0 (scopeAt scopes (calleeOf i-th x) .variables) (λ q. false≢true (ap failsEmpty (sym h ∙ q))) ∙ h
 
         deeper-changed : Changed (formerRunScope scopes (calleeOf i-th x) gs) (runScope scopes (calleeOf i-th x) gs) → StepsChanged i given (x ∷ xs) st
         unfolding runStepsBy
@@ -194,26 +194,26 @@ module _ (bytes : List ℕ) (n : ℕ) (accepted : judge bytes ≡ Accepted n) wh
       })
 
 -- answers of an end by empty, and of what is apart from it
-empty-count : Answer → ℕ
-empty-count (Ended Empty n) = n
-empty-count (Ended Conflict n) = 0
-empty-count (Ended (OutOfRange s) n) = 0
-empty-count (Values n m) = 0
-empty-count (Refused r) = 0
+emptyCount : Answer → ℕ
+emptyCount (Ended Empty n) = n
+emptyCount (Ended Conflict n) = 0
+emptyCount (Ended (OutOfRange s) n) = 0
+emptyCount (Values n m) = 0
+emptyCount (Refused r) = 0
 
-is-empty : Answer → Bool
-is-empty (Ended Empty n) = true
-is-empty (Ended Conflict n) = false
-is-empty (Ended (OutOfRange s) n) = false
-is-empty (Values n m) = false
-is-empty (Refused r) = false
+answersEmpty : Answer → Bool
+answersEmpty (Ended Empty n) = true
+answersEmpty (Ended Conflict n) = false
+answersEmpty (Ended (OutOfRange s) n) = false
+answersEmpty (Values n m) = false
+answersEmpty (Refused r) = false
 
 apart-answers : (r : Entered) (c : ℕ) → Apart r c → replyOf (ended Empty c) .answer ≡ replyOf r .answer → ⊥
-unfolding empty-count is-empty
-apart-answers (values vs n) c l q = false≢true (ap is-empty (sym q))
-apart-answers (ended Empty n) c l q = let z : c ≡ n = ap empty-count q in omega arith
-apart-answers (ended Conflict n) c l q = false≢true (ap is-empty (sym q))
-apart-answers (ended (OutOfRange s) n) c l q = false≢true (ap is-empty (sym q))
+unfolding emptyCount answersEmpty
+apart-answers (values vs n) c l q = false≢true (ap answersEmpty (sym q))
+apart-answers (ended Empty n) c l q = let z : c ≡ n = ap emptyCount q in omega arith
+apart-answers (ended Conflict n) c l q = false≢true (ap answersEmpty (sym q))
+apart-answers (ended (OutOfRange s) n) c l q = false≢true (ap answersEmpty (sym q))
 
 pub answers-changed : (bytes : List ℕ) (i : ℕ) (list : List ℕ) (room : ℕ) → EvaluationMeets bytes i list room
     → formerEvaluate bytes i list room .answer ≡ evaluate bytes i list room .answer → ⊥

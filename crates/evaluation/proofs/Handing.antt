@@ -1,8 +1,8 @@
--- What a call hands over, under the meaning and the former one.
+-- What a call hands over, and what it did under the former meaning.
 --     handing-agrees             it is the same in environments that agree on the override trees
---     handing-kept               a call whose overrides do not end empty under the former meaning hands over the same
---     ends-empty, empty-ends     they do exactly where the first override tree without a value is empty
---     never-empty                under the meaning they never do
+--     handing-kept               a call whose overrides did not end empty hands over the same, or ends by the same cause
+--     ends-empty, empty-ends     they ended empty exactly where the first override tree without a value is empty
+--     never-empty                now they never do
 -- Assumes nothing.
 use Prim.Native.Nat.{ℕ, zero, suc, _+_, _<_}
 use mathlib.Core.Path.{_≡_, refl, sym, ap, _∙_}
@@ -22,7 +22,7 @@ use Rattle.book.specs.Syntax.{Scope}
 use Rattle.book.specs.Trees.{tree, hasClause, calledTarget}
 use Rattle.book.specs.declared.Variable.{Variable}
 use Rattle.evaluation.specs.Handing.{hands, fallsBack, Handing, handed, failed, inFront, overrideBy, handingBy, handing}
-use Rattle.evaluation.specs.Former.{endsCaller, EmptyOverride}
+use Rattle.evaluation.specs.Former.{endsCaller, CallMeetsEmpty}
 
 pub handing-agrees : (e f : Env) (s : Scope) (k : ℕ) → ((v : ℕ) → eval e (tree s (calledTarget k v)) ≡ eval f (tree s (calledTarget k v)))
     → (v : ℕ) (xs : List Variable) → handing e s k v xs ≡ handing f s k v xs
@@ -62,14 +62,14 @@ handing-kept e s k v (x ∷ xs) never = go (hasClause s (calledTarget k v)) (han
 
 -- a call that fails empty under the former meaning has an empty override
 
-abbrev pub isEmpty : Handing → Bool
-isEmpty (handed gs) = false
-isEmpty (failed Empty) = true
-isEmpty (failed Conflict) = false
-isEmpty (failed (OutOfRange s)) = false
+abbrev pub failsEmpty : Handing → Bool
+failsEmpty (handed gs) = false
+failsEmpty (failed Empty) = true
+failsEmpty (failed Conflict) = false
+failsEmpty (failed (OutOfRange s)) = false
 
 front-empty : (g : Given) (h : Handing) → inFront (hands g) h ≡ failed Empty → h ≡ failed Empty
-front-empty g (handed gs) q = absurd (false≢true (ap isEmpty q))
+front-empty g (handed gs) q = absurd (false≢true (ap failsEmpty q))
 front-empty g (failed c) q = q
 
 module _ (e : Env) (s : Scope) (k : ℕ) where
@@ -77,7 +77,7 @@ module _ (e : Env) (s : Scope) (k : ℕ) where
   Gives-at v = hasClause s (calledTarget k v) ≡ true → (y : Value) × (eval e (tree s (calledTarget k v)) ≡ Gives y)
 
   -- the variable in front gives a value, or has no override
-  behind : (v : ℕ) (x : Variable) (xs : List Variable) → Gives-at v → EmptyOverride e s k (suc v) xs → EmptyOverride e s k v (x ∷ xs)
+  behind : (v : ℕ) (x : Variable) (xs : List Variable) → Gives-at v → CallMeetsEmpty e s k (suc v) xs → CallMeetsEmpty e s k v (x ∷ xs)
   behind v x xs g m =
       let z : suc v + m .place ≡ v + suc (m .place) = omega arith in
       record {
@@ -94,18 +94,18 @@ module _ (e : Env) (s : Scope) (k : ℕ) where
 
   -- the outcome of the override in front
   by-outcome : (v : ℕ) (x : Variable) (xs : List Variable) (h : Handing) (o : Outcome) → hasClause s (calledTarget k v) ≡ true
-      → eval e (tree s (calledTarget k v)) ≡ o → (h ≡ failed Empty → EmptyOverride e s k (suc v) xs) → inFront (endsCaller o) h ≡ failed Empty
-      → EmptyOverride e s k v (x ∷ xs)
+      → eval e (tree s (calledTarget k v)) ≡ o → (h ≡ failed Empty → CallMeetsEmpty e s k (suc v) xs) → inFront (endsCaller o) h ≡ failed Empty
+      → CallMeetsEmpty e s k v (x ∷ xs)
   by-outcome v x xs h (Gives y) b p more q = behind v x xs (λ _. (y, p)) (more (front-empty (Present y) h q))
   by-outcome v x xs h (Ends Empty) b p more q =
       let z : v + 0 ≡ v = omega arith in
       record { place = 0; there = omega arith; some = rw z b; empty = rw z p; before = λ u l. absurd (omega arith) }
-  by-outcome v x xs h (Ends Conflict) b p more q = absurd (false≢true (ap isEmpty q))
-  by-outcome v x xs h (Ends (OutOfRange r)) b p more q = absurd (false≢true (ap isEmpty q))
+  by-outcome v x xs h (Ends Conflict) b p more q = absurd (false≢true (ap failsEmpty q))
+  by-outcome v x xs h (Ends (OutOfRange r)) b p more q = absurd (false≢true (ap failsEmpty q))
 
-  pub ends-empty : (v : ℕ) (xs : List Variable) → handingBy endsCaller e s k v xs ≡ failed Empty → EmptyOverride e s k v xs
+  pub ends-empty : (v : ℕ) (xs : List Variable) → handingBy endsCaller e s k v xs ≡ failed Empty → CallMeetsEmpty e s k v xs
   unfolding handingBy
-  ends-empty v [] q = absurd (false≢true (ap isEmpty q))
+  ends-empty v [] q = absurd (false≢true (ap failsEmpty q))
   ends-empty v (x ∷ xs) q =
       let h = handingBy endsCaller e s k (suc v) xs in
       ⊎-elim
@@ -116,7 +116,7 @@ module _ (e : Env) (s : Scope) (k : ℕ) where
       (decide (hasClause s (calledTarget k v)))
 
   -- the override trees behind the first
-  rest-empty : (v : ℕ) (x : Variable) (xs : List Variable) (p : ℕ) (m : EmptyOverride e s k v (x ∷ xs)) → m .place ≡ suc p → EmptyOverride e s k (suc v) xs
+  rest-empty : (v : ℕ) (x : Variable) (xs : List Variable) (p : ℕ) (m : CallMeetsEmpty e s k v (x ∷ xs)) → m .place ≡ suc p → CallMeetsEmpty e s k (suc v) xs
   rest-empty v x xs p m q =
       let z : v + m .place ≡ suc v + p = omega arith in
       record {
@@ -127,7 +127,7 @@ module _ (e : Env) (s : Scope) (k : ℕ) where
         before = λ u l. let y : v + suc u ≡ suc v + u = omega arith in rw y at (m .before (suc u) (omega arith));
       }
 
-  pub empty-ends : (v : ℕ) (xs : List Variable) → EmptyOverride e s k v xs → handingBy endsCaller e s k v xs ≡ failed Empty
+  pub empty-ends : (v : ℕ) (xs : List Variable) → CallMeetsEmpty e s k v xs → handingBy endsCaller e s k v xs ≡ failed Empty
   unfolding handingBy
   empty-ends v [] m = absurd (omega (arith, m .there))
   empty-ends v (x ∷ xs) m =
@@ -151,12 +151,12 @@ module _ (e : Env) (s : Scope) (k : ℕ) where
   front-never : (o : Outcome) (h : Handing) → (h ≡ failed Empty → ⊥) → inFront (fallsBack o) h ≡ failed Empty → ⊥
   front-never (Gives y) h never q = never (front-empty (Present y) h q)
   front-never (Ends Empty) h never q = never (front-empty Absent h q)
-  front-never (Ends Conflict) h never q = false≢true (ap isEmpty q)
-  front-never (Ends (OutOfRange r)) h never q = false≢true (ap isEmpty q)
+  front-never (Ends Conflict) h never q = false≢true (ap failsEmpty q)
+  front-never (Ends (OutOfRange r)) h never q = false≢true (ap failsEmpty q)
 
   pub never-empty : (v : ℕ) (xs : List Variable) → handing e s k v xs ≡ failed Empty → ⊥
   unfolding handingBy
-  never-empty v [] q = false≢true (ap isEmpty q)
+  never-empty v [] q = false≢true (ap failsEmpty q)
   never-empty v (x ∷ xs) q =
       let h = handing e s k (suc v) xs in
       ⊎-elim

@@ -37,8 +37,8 @@ formerRunScope = runScopeBy endsCaller
 abbrev pub formerEvaluate : List ℕ → ℕ → List ℕ → ℕ → Reply
 formerEvaluate = evaluateBy endsCaller
 
--- "an empty override" of the next call, of its variables from v on: the first override tree without a value ends empty
-pub record EmptyOverride (e : Env) (s : Scope) (k v : ℕ) (xs : List Variable) : Type 0 where
+-- a call meets "an empty override", of the variables from v on: the first override tree without a value is empty
+pub record CallMeetsEmpty (e : Env) (s : Scope) (k v : ℕ) (xs : List Variable) : Type 0 where
   pub place : ℕ
   pub there : place < length xs
   pub some : hasClause s (calledTarget k (v + place)) ≡ true
@@ -47,9 +47,9 @@ pub record EmptyOverride (e : Env) (s : Scope) (k v : ℕ) (xs : List Variable) 
 
 -- the former run, from a state of scope i on with these steps left, meets an empty override; "Runs that meet no such override keep their answers"
 pub data MeetsEmptyFrom (book : List Scope) : ℕ → List Given → List ℕ → State → Type 0 where
-  -- the next call has an empty override
+  -- the next call meets an empty override
   here : {i : ℕ} {given : List Given} {x : ℕ} {xs : List ℕ} {st : State} → length (scopeAt book i .variables) ≤ x
-      → EmptyOverride (envOf st) (scopeAt book i) (x - length (scopeAt book i .variables)) 0 (scopeAt book (calleeOf (scopeAt book i) x) .variables)
+      → CallMeetsEmpty (envOf st) (scopeAt book i) (x - length (scopeAt book i .variables)) 0 (scopeAt book (calleeOf (scopeAt book i) x) .variables)
       → MeetsEmptyFrom book i given (x ∷ xs) st
   -- the scope that the next call enters meets one
   deeper : {i : ℕ} {given : List Given} {x : ℕ} {xs : List ℕ} {st : State} (gs : List Given) → length (scopeAt book i .variables) ≤ x
