@@ -5,11 +5,16 @@ use calculus::Binary;
 use calculus::Outcome;
 use calculus::Unary;
 use calculus::Value;
+use record::KIND_ADD;
+use record::KIND_AND;
+use record::KIND_EQUAL;
+use record::KIND_SUBTRACT;
 ghost use mathlib.Core.Path.{_≡_};
 ghost use lib.IntN.{natAbs};
 ghost use Rattle.calculus.specs.Values.{truthOf, numberOf, ranged};
 ghost use Rattle.calculus.specs.Values.{equal as Values·equal};
 ghost use Rattle.calculus.specs.Operators.{unaryOf, binaryOf};
+ghost use Rattle.operators.specs.Kinds.{operator};
 
 // A yes/no itself; of a number, no.
 pub fn truth_of(v: Value) -> bool
@@ -51,6 +56,20 @@ fn in_range(z: i64) -> Outcome
     }
     let n = z as i32;
     Outcome::Gives(Value::Number(n))
+}
+
+// The operator of a kind with two operands.
+pub fn operator_of(kind: u8) -> Binary
+    ensures { λ r. ⌜ r ≡ operator kind ⌝ }
+{
+    match kind {
+        KIND_AND => Binary::And,
+        KIND_ADD => Binary::Add,
+        KIND_SUBTRACT => Binary::Subtract,
+        KIND_EQUAL => Binary::Equal,
+        // Less: no other kind has two operands.
+        _ => Binary::Less,
+    }
 }
 
 // An operator on values.

@@ -40,7 +40,8 @@ use Rattle.book.specs.declared.Node.the-variants.{Empty, Conflict, Unary, Binar
 use Rattle.book.proofs.Terms.{term-here}
 use Rattle.index.proofs.Bodies.{after, body-byte, kind-inside, default-inside, keys}
 use Rattle.cells.specs.Codec.{conflictCell, emptyCell, manyCell, yesCell, cellOf, gatheredCell, Codes, Gathers}
-use Rattle.terms.specs.Operators.{operator, OnOne, OnTwo, OnBoth}
+use Rattle.operators.specs.Kinds.{operator}
+use Rattle.terms.specs.Operators.{OnOne, OnTwo, OnBoth}
 use Rattle.terms.specs.Outcomes.{envOf, nodesIn, outcomeIn, gatherIn, isLeaf, defaultFrom, Names, NamesException, Stands, Readable, ReadableLeaf, CodesLeaf, GathersIn}
 use Rattle.terms.proofs.Defaults.{no-so-far, settled-many, settled, unsettled}
 use Rattle.cells.proofs.Codec.{no-end, no-value, is-yes}

@@ -1,19 +1,12 @@
 -- The operators and the exceptions of a default on cells: whatever the operands' cells are of, the result's cell is of what the calculus makes of them.
 use Prim.Native.Nat.{ℕ}
-use mathlib.Core.Bool.{cond}
-use lib.Dec.{eqb}
 use Rattle.calculus.specs.Outcomes.{unaryOn, binaryOn}
 use Rattle.calculus.specs.Defaults.{found, gather}
 use Rattle.calculus.specs.declared.Outcome.{Outcome}
 use Rattle.calculus.specs.declared.Unary.{Unary}
 use Rattle.calculus.specs.declared.Binary.{Binary}
 use Rattle.calculus.specs.declared.Gathered.{Gathered}
-use Rattle.calculus.specs.declared.Binary.the-variants.{And, Add, Subtract, Equal, Less}
 use Rattle.cells.specs.Codec.{Codes, Gathers}
-
--- the operator of a node's kind, "12 and, 13 add, 14 subtract, 15 equal, 16 less"
-unfoldable pub operator : ℕ → Binary
-operator k = cond (eqb k 12) And (cond (eqb k 13) Add (cond (eqb k 14) Subtract (cond (eqb k 15) Equal Less)))
 
 abbrev pub OnOne : Unary → ℕ → ℕ → Type 0
 OnOne op x r = (a : Outcome) → Codes x a → Codes r (unaryOn op a)

@@ -32,7 +32,8 @@ ghost use Rattle.calculus.specs.Values.{ranged as Values·ranged};
 ghost use Rattle.calculus.specs.declared.Value.the-variants.{Number};
 ghost use Rattle.calculus.specs.declared.Unary.the-variants.{Not, Negate};
 ghost use Rattle.cells.specs.Codec.{truthCell, valueCell, payload, heldCell, Codes};
-ghost use Rattle.terms.specs.Operators.{operator, OnOne, OnTwo, OnFound, OnBoth};
+ghost use Rattle.operators.specs.Kinds.{operator};
+ghost use Rattle.terms.specs.Operators.{OnOne, OnTwo, OnFound, OnBoth};
 ghost use Rattle.terms.specs.Outcomes.{outcomeIn, isLeaf, Readable, ReadableLeaf, CodesLeaf, ReadableInner, ReadableDefault, ReadableException, GathersIn};
 ghost use Rattle.terms.specs.Clauses.{restIn, ReadableClause};
 

@@ -8,7 +8,7 @@ use borrow.Author.Tests.{ne-eqb}
 use Prim.Native.Nat.{ℕ}
 use lib.IntN.{ℤ}
 use Rattle.calculus.proofs.Numbers.{kept, sum-fits, difference-fits}
-use Rattle.terms.specs.Operators.{operator}
+use Rattle.operators.specs.Kinds.{operator}
 use Rattle.cells.specs.Codec.{payload}
 use Rattle.terms.proofs.Operators.{left-passes, right-passes, payload-fits, and-cells, add-cells, subtract-cells, equal-cells, less-cells}
 use borrow.Author.Needs.{needs}
