@@ -8,7 +8,6 @@ use mathlib.Core.Bool.{Bool, true, false, not, cond}
 use mathlib.Core.List.{List, _∷_}
 use mathlib.Core.Logic.{⊎-elim}
 use native.Mathlib.Omega.{arith}
-use native.Mathlib.Numerals.{add-one}
 use lib.ListN.{length, getD}
 use lib.Dec.{eqb}
 use borrow.Author.Tests.{ne-eqb, eqb-true, eqb-false, not-true, not-false}
@@ -21,32 +20,36 @@ use Rattle.machine.specs.Run.{Finals, missing, finals, finalsOf, allEntered, wh
 use Rattle.blocks.specs.declared.Ran.the-variants as coded
 use Rattle.instructions.specs.Views.{tab, cellWith, ownCell, valuesIn, calleeAt, memory}
 use Rattle.blocks.specs.Entries.{nonzero, Ending, Finished}
-use Rattle.heads.specs.Heads.{variablesIn, subScopesIn}
+use Rattle.directory.specs.Layout.{variablesIn, subScopesIn}
 use Rattle.instructions.proofs.Memory.{present, absent, tab-same}
 
-pub record Held (cells : List ℕ) (n v : ℕ) : Type 0 where
-  pub rest : nonzero cells v (n - v) ≡ nonzero cells 0 n
+pub record Held (cells : List ℕ) (from n v : ℕ) : Type 0 where
+  pub rest : nonzero cells (from + v) (n - v) ≡ nonzero cells from n
   pub below : v ≤ n
 
-pub hold-start : (cells : List ℕ) (n : ℕ) → Held cells n 0
-hold-start cells n = let z : n - 0 ≡ n = omega arith in record { rest = ap (nonzero cells 0) z; below = omega arith }
+pub hold-start : (cells : List ℕ) (from n : ℕ) → Held cells from n 0
+hold-start cells from n =
+    let z : n - 0 ≡ n = omega arith in
+    let e : from + 0 ≡ from = omega arith in
+    record { rest = rw (e, z); below = omega arith }
 
-module _ {cells : List ℕ} {n v : ℕ} (h : Held cells n v) where
-  step : v < n → nonzero cells v (n - v) ≡ cond (eqb (getD cells v 0) 0) false (nonzero cells (suc v) (n - (v + 1)))
+module _ {cells : List ℕ} {from n v : ℕ} (h : Held cells from n v) where
+  step : v < n → nonzero cells (from + v) (n - v) ≡ cond (eqb (getD cells (from + v) 0) 0) false (nonzero cells (suc (from + v)) (n - (v + 1)))
   unfolding nonzero
   step l = let e : n - v ≡ suc (n - (v + 1)) = omega arith in rw e
 
-  pub hold-not : v < n → getD cells v 0 ≡ 0 → false ≡ nonzero cells 0 n
+  pub hold-not : v < n → getD cells (from + v) 0 ≡ 0 → false ≡ nonzero cells from n
   hold-not l e = sym (sym (h .rest) ∙ step l ∙ rw e)
 
-  pub hold : v < n → (getD cells v 0 ≡ 0 → ⊥) → Held cells n (v + 1)
+  pub hold : v < n → (getD cells (from + v) 0 ≡ 0 → ⊥) → Held cells from n (v + 1)
   hold l e =
+      let z : from + (v + 1) ≡ suc (from + v) = omega arith in
       record {
-        rest = rw (add-one v) (sym (step l ∙ rw (ne-eqb (getD cells v 0) 0 e, add-one v)) ∙ h .rest);
+        rest = rw z (sym (step l ∙ rw (ne-eqb (getD cells (from + v) 0) 0 e)) ∙ h .rest);
         below = omega arith;
       }
 
-  pub hold-all : n ≤ v → true ≡ nonzero cells 0 n
+  pub hold-all : n ≤ v → true ≡ nonzero cells from n
   unfolding nonzero
   hold-all l = let z : n - v ≡ 0 = omega arith in rw z at (h .rest)
 
@@ -62,27 +65,28 @@ front-set true false v vs cs e = rw e
 front-set false true v vs cs e = rw e
 front-set false false v vs cs e = rw e
 
-finals-tab : (own flags : List ℕ) (v n : ℕ)
-    → finalsOf (tab (ownCell own flags) v n) ≡ finalsIf (nonzero own v n) (tab (λ x. held (givenOf (getD own x 0))) v n)
+finals-tab : (own frame : List ℕ) (v n : ℕ)
+    → finalsOf (tab (ownCell own frame) v n) ≡ finalsIf (nonzero own v n) (tab (λ x. held (givenOf (getD own x 0))) v n)
 unfolding tab nonzero ownCell
-finals-tab own flags v zero = refl
-finals-tab own flags v (suc n) =
+finals-tab own frame v zero = refl
+finals-tab own frame v (suc n) =
     ⊎-elim
     (λ q. rw (absent (eqb-true (getD own v 0) 0 q), q))
     (λ q.
     let p = present (getD own v 0) (eqb-false (getD own v 0) 0 q) in
-    rw q (rw p (front-set (eqb (getD flags v 0) 0) (nonzero own (suc v) n) (held (givenOf (getD own v 0))) (tab (λ x. held (givenOf (getD own x 0))) (suc v) n)
-    (tab (ownCell own flags) (suc v) n) (finals-tab own flags (suc v) n))))
+    rw q (rw p (front-set (eqb (getD frame v 0) 0) (nonzero own (suc v) n) (held (givenOf (getD own v 0))) (tab (λ x. held (givenOf (getD own x 0))) (suc v) n)
+    (tab (ownCell own frame) (suc v) n) (finals-tab own frame (suc v) n))))
     (decide (eqb (getD own v 0) 0))
 
-entered-tab : (called marks : List ℕ) (sizes : ℕ → ℕ) (k n : ℕ) → allEntered (tab (λ i. calleeAt called marks (sizes i) i) k n) ≡ nonzero marks k n
+entered-tab : (frame : List ℕ) (sizes : ℕ → ℕ) (k n : ℕ) → allEntered (tab (λ i. calleeAt frame (sizes i) i) k n) ≡ nonzero frame (32 + k) n
 unfolding tab nonzero calleeAt
-entered-tab called marks sizes k zero = refl
-entered-tab called marks sizes k (suc n) =
+entered-tab frame sizes k zero = refl
+entered-tab frame sizes k (suc n) =
+    let z : 32 + suc k ≡ suc (32 + k) = omega arith in
     ⊎-elim
     (λ q. rw q)
-    (λ q. rw q (entered-tab called marks sizes (suc k) n))
-    (decide (eqb (getD marks k 0) 0))
+    (λ q. rw q (entered-tab frame sizes (suc k) n ∙ ap (λ (j : ℕ). nonzero frame j n) z))
+    (decide (eqb (getD frame (32 + k) 0) 0))
 
 values-tab : (own : List ℕ) (n : ℕ) → tab (λ x. held (givenOf (getD own x 0))) 0 n ≡ valuesIn own 0 n
 unfolding valuesIn
@@ -90,35 +94,32 @@ values-tab own n =
     tab-same (λ x. held (givenOf (getD own x 0))) (λ x. held (givenOf (getD own (0 + x) 0))) 0 n
     (λ i l. let z : 0 + (0 + i) ≡ 0 + i = omega arith in rw z)
 
-end-is : (v s : ℕ) (sizes : ℕ → ℕ) (own flags called marks : List ℕ) (count : ℕ)
-    → atEnd (memory v s sizes own flags called marks count) ≡ whole (finalsIf (nonzero own 0 v) (valuesIn own 0 v)) (nonzero marks 0 s) count
+end-is : (v s : ℕ) (sizes : ℕ → ℕ) (own frame : List ℕ) (count : ℕ)
+    → atEnd (memory v s sizes own frame count) ≡ whole (finalsIf (nonzero own 0 v) (valuesIn own 0 v)) (nonzero frame 32 s) count
 unfolding memory
-end-is v s sizes own flags called marks count = rw (finals-tab own flags 0 v, entered-tab called marks sizes 0 s, values-tab own v)
+end-is v s sizes own frame count = rw (finals-tab own frame 0 v, entered-tab frame sizes 0 s, values-tab own v)
 
-module _ (heads : List ℕ) (p : ℕ) (own marks : List ℕ) (v : ℕ) (variables-here : v ≡ variablesIn heads p) where
-  pub own-room : Ending heads p own marks → v ≤ length own
-  own-room e = rw variables-here (e .variables)
-
-  pub end-unset : {count : ℕ} {r : Bool} → r ≡ nonzero own 0 v → not r ≡ true → Finished heads p own marks count coded.Stuck
+module _ (directory : List ℕ) (p : ℕ) (own frame : List ℕ) (v : ℕ) (variables-here : v ≡ variablesIn directory p) where
+  pub end-unset : {count : ℕ} {r : Bool} → r ≡ nonzero own 0 v → not r ≡ true → Finished directory p own frame count coded.Stuck
   end-unset {count} {r} e n =
       record {
-        shows = λ sizes flags called.
-            end-is (variablesIn heads p) (subScopesIn heads p) sizes own flags called marks count ∙ rw (← variables-here, ← e, not-true r n);
+        shows = λ sizes.
+            end-is (variablesIn directory p) (subScopesIn directory p) sizes own frame count ∙ rw (← variables-here, ← e, not-true r n);
       }
 
-  module _ (s : ℕ) (subs-here : s ≡ subScopesIn heads p) where
-    pub mark-room : Ending heads p own marks → s ≤ length marks
+  module _ (s : ℕ) (subs-here : s ≡ subScopesIn directory p) where
+    pub mark-room : Ending directory p own frame → 32 + s ≤ length frame
     mark-room e = rw subs-here (e .subScopes)
 
-    module _ (count : ℕ) (r q : Bool) (e : r ≡ nonzero own 0 v) (n : not r ≡ false) (f : q ≡ nonzero marks 0 s) where
-      ends-so : (sizes : ℕ → ℕ) (flags called : List ℕ)
-          → atEnd (memory (variablesIn heads p) (subScopesIn heads p) sizes own flags called marks count) ≡ whole (finals (valuesIn own 0 (variablesIn heads p))) q count
-      ends-so sizes flags called =
-          end-is (variablesIn heads p) (subScopesIn heads p) sizes own flags called marks count
+    module _ (count : ℕ) (r q : Bool) (e : r ≡ nonzero own 0 v) (n : not r ≡ false) (f : q ≡ nonzero frame 32 s) where
+      ends-so : (sizes : ℕ → ℕ)
+          → atEnd (memory (variablesIn directory p) (subScopesIn directory p) sizes own frame count) ≡ whole (finals (valuesIn own 0 (variablesIn directory p))) q count
+      ends-so sizes =
+          end-is (variablesIn directory p) (subScopesIn directory p) sizes own frame count
           ∙ rw (← variables-here, ← subs-here, ← e, not-false r n, ← f)
 
-      pub end-waiting : not q ≡ true → Finished heads p own marks count coded.Stuck
-      end-waiting m = record { shows = λ sizes flags called. ends-so sizes flags called ∙ rw (not-true q m) }
+      pub end-waiting : not q ≡ true → Finished directory p own frame count coded.Stuck
+      end-waiting m = record { shows = λ sizes. ends-so sizes ∙ rw (not-true q m) }
 
-      pub end-values : not q ≡ false → Finished heads p own marks count (coded.Values count)
-      end-values m = record { shows = λ sizes flags called. ends-so sizes flags called ∙ rw (not-false q m) }
+      pub end-values : not q ≡ false → Finished directory p own frame count (coded.Values count)
+      end-values m = record { shows = λ sizes. ends-so sizes ∙ rw (not-false q m) }

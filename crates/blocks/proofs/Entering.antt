@@ -13,7 +13,8 @@ use mathlib.Core.List.{List, [], _∷_, _++_, map}
 use native.Mathlib.Omega.{arith}
 use native.Mathlib.Numerals.{add-one}
 use lib.ListN.{length, getD, set, take, drop, length-drop, length-set}
-use lib.ListN.{length-take, List·getD-append}
+use lib.ListN.{length-take, List·getD-append, replicate, length-replicate}
+use Rattle.laws.proofs.Zeros.{zeros}
 use lib.Seq.{getD-set-same, getD-set-other, getD-take, getD-drop, getD-append-add}
 use lib.Dec.{eqb, ltb}
 use borrow.Author.Tests.{eq-eqb, ne-eqb, ltb-true, ltb-false}
@@ -34,25 +35,26 @@ use Rattle.machine.specs.Blocks.{bodyLength, variablesOf}
 use Rattle.machine.specs.Acceptance.{lands, fits, weightIn}
 use Rattle.machine.specs.Machine.{waiting, entered, Memory, Try, Ran, ran, stuck, Next, go, returned, enteredWith, withCallee, effect}
 use Rattle.machine.specs.Run.{cellOf, begins, begin, follow, exec, runIn, atEnd}
-use Rattle.verifier.specs.Tables.{blockAt, blockCount}
+use Rattle.directory.specs.Tabled.{blockAt, blockCount}
 use Rattle.instructions.specs.declared.Move.{Move}
 use Rattle.instructions.specs.declared.Move.the-variants as move
 use Rattle.blocks.specs.declared.Ran as coded-type
 use Rattle.blocks.specs.declared.Ran.the-variants as coded
 use Rattle.instructions.specs.Views.{entries, opened, tab, cellWith, ownCell, givensAt, valuesIn, calleeAt, memory}
-use Rattle.heads.specs.Heads.{variablesIn, subScopesIn, blockIn, sizeIn}
-use Rattle.instructions.specs.Effects.{Moves, Sized, Stepping, Stepped, memoryIn}
-use Rattle.blocks.specs.Entries.{back, runAt, variablesAt, Enough, Shows, Ending, Finished, Entry, Came, Advances}
+use Rattle.directory.specs.Layout.{beginIn, endIn, bodyIn, variablesIn, subScopesIn, blockIn, sizeIn}
+use Rattle.instructions.specs.Effects.{Moves, Framed, Stepping, Stepped, memoryIn}
+use Rattle.blocks.specs.Entries.{back, runAt, variablesAt, Enough, Shows, Ending, Finished, Entry, Fresh, Came, Advances}
 use Rattle.instructions.proofs.Memory.{tab-at, tab-same, tab-set, tab-map}
 use Rattle.machine.proofs.Landing.{lands-here}
 use Rattle.slices.proofs.Parts.{all-left, part-room, lent-length}
-use Rattle.blocks.specs.declared.Place.{Place}
+use Rattle.instructions.specs.declared.Place.{Place}
+use Rattle.instructions.specs.declared.Onward.{Onward}
 use Rattle.blocks.specs.declared.Went as went-type
 use Rattle.blocks.specs.declared.Went.the-variants as went
-use Rattle.blocks.specs.Running.{Aligned, TriesGood, block, before, envAt, weightAt, Held, runFrom, Running, Standing, Acts, Acted, restAt, Follows, Followed, Steps, SteppedAt}
+use Rattle.blocks.specs.Running.{Aligned, TriesGood, block, before, envAt, weightAt, Held, runFrom, Running, Standing, Acts, EntersAt, Follows, Followed, Steps, SteppedAt}
 use Rattle.blocks.proofs.Positions.{exec-past, exec-at, exec-to, fits-at}
 use Rattle.blocks.proofs.Invariant.{MemGood, NextGood, step-good, begin-good, run-cons}
-use Rattle.blocks.proofs.Tables.{World, fit, heavy, below, variables-are, subs-are, bounded, typing, named, callee-below, callee-variables, callee-runs, size-is}
+use Rattle.blocks.proofs.Tables.{World, small, fit, heavy, below, variables-are, subs-are, bounded, typing, named, callee-below, callee-variables, callee-runs, size-is}
 
 -- the run of a block with nothing said of types
 abbrev Good : List ℕ → ℕ → Memory → Type 0
@@ -100,6 +102,10 @@ lent-there xs part a w l e k i q =
 pub lent-size : (xs part : List ℕ) (a w : ℕ) → a + 32 ≤ length xs → w ≡ 32 → length part ≡ 32 → length (take a xs ++ (part ++ drop w (drop a xs))) ≡ length xs
 lent-size xs part a w l e k = lent-length xs part a w (k ∙ sym e) (omega arith)
 
+pub lent-marked : (xs part : List ℕ) (a w i : ℕ) → a + 32 ≤ length xs → w ≡ 32 → length part ≡ 32
+    → length (set (take a xs ++ (part ++ drop w (drop a xs))) i 1) ≡ length xs
+lent-marked xs part a w i l e k = length-set (take a xs ++ (part ++ drop w (drop a xs))) i 1 ∙ lent-size xs part a w l e k
+
 pub entries-same : (st st' : List ℕ) (h : ℕ) → ((i : ℕ) → i < h → getD st' i 0 ≡ getD st i 0) → entries st' h ≡ entries st h
 unfolding entries
 entries-same st st' zero k = refl
@@ -110,7 +116,7 @@ unfolding opened
 opened-same tr tr' zero k = refl
 opened-same tr tr' (suc t) k = rw (k (t * 2) (omega arith), k (t * 2 + 1) (omega arith), opened-same tr tr' t (λ i l. k i (omega arith)))
 
-apart : (i k y z : ℕ) → z ≤ 32 → (i ≡ k → ⊥) → y < z → (i * 32 + (0 + y) < k * 32) ⊎ (k * 32 + 32 ≤ i * 32 + (0 + y))
+apart : (i k y z : ℕ) → z ≤ 32 → (i ≡ k → ⊥) → y < z → (40 + i * 32 + (0 + y) < 40 + k * 32) ⊎ (40 + k * 32 + 32 ≤ 40 + i * 32 + (0 + y))
 apart i k y z few n l =
     ⊎-elim
     (λ q. inl (omega (arith, ltb-true i k q)))
@@ -135,37 +141,37 @@ absent-tab : (called : List ℕ) (at : ℕ) (vs : List Variable) → ((i : ℕ) 
 unfolding givensAt givenOf
 absent-tab called at vs k = map-tab (λ (x : Variable). Absent) (record { holds = YesNo }) vs 0 (λ x. givenOf (getD called (at + x) 0)) (λ i l. rw (k (at + (0 + i))))
 
-module _ {code spans heads places : List ℕ} (o : World code spans heads places) (p : ℕ) (l : p < blockCount code) where
-  pub variables-same : variablesIn heads p ≡ variablesAt code p
+module _ {code directory : List ℕ} (o : World code directory) (p : ℕ) (l : p < blockCount code) where
+  pub variables-same : variablesIn directory p ≡ variablesAt code p
   unfolding variablesAt blockAt
   variables-same = variables-are o p l
 
-  subs-same : subScopesIn heads p ≡ length (block code p .subScopes)
+  subs-same : subScopesIn directory p ≡ length (block code p .subScopes)
   subs-same = subs-are o p l
 
-  module _ (own flags called marks : List ℕ) (zf : (i : ℕ) → getD flags i 0 ≡ 0) (zc : (i : ℕ) → getD called i 0 ≡ 0) (zm : (i : ℕ) → getD marks i 0 ≡ 0) where
-    own-begins : tab (ownCell own flags) 0 (variablesIn heads p) ≡ map cellOf (givensAt own 0 (variablesAt code p))
+  module _ (own frame : List ℕ) (fresh : Fresh directory p frame) where
+    own-begins : tab (ownCell own frame) 0 (variablesIn directory p) ≡ map cellOf (givensAt own 0 (variablesAt code p))
     unfolding ownCell givensAt
     own-begins =
-        ap (tab (λ x. cellWith (eqb (getD flags x 0) 0) (givenOf (getD own x 0))) 0) variables-same
-        ∙ tab-same (λ x. cellWith (eqb (getD flags x 0) 0) (givenOf (getD own x 0))) (λ x. cellOf (givenOf (getD own (0 + x) 0))) 0 (variablesAt code p)
-        (λ i q. let z : 0 + (0 + i) ≡ 0 + i = omega arith in rw (zf (0 + i), z) (given-cell-is (givenOf (getD own (0 + i) 0))))
+        ap (tab (λ x. cellWith (eqb (getD frame x 0) 0) (givenOf (getD own x 0))) 0) variables-same
+        ∙ tab-same (λ x. cellWith (eqb (getD frame x 0) 0) (givenOf (getD own x 0))) (λ x. cellOf (givenOf (getD own (0 + x) 0))) 0 (variablesAt code p)
+        (λ i q. let z : 0 + (0 + i) ≡ 0 + i = omega arith in rw (fresh .zeros (0 + i), z) (given-cell-is (givenOf (getD own (0 + i) 0))))
         ∙ sym (tab-map cellOf (λ x. givenOf (getD own (0 + x) 0)) 0 (variablesAt code p))
 
     callee-begins : (k : ℕ) → k < length (block code p .subScopes)
-        → calleeAt called marks (sizeIn heads places p k) k ≡ begins (before code p) (getD (block code p .subScopes) k 0)
+        → calleeAt frame (sizeIn directory p k) k ≡ begins (before code p) (getD (block code p .subScopes) k 0)
     unfolding calleeAt
     callee-begins k m =
-        rw (zm k)
-        (ap waiting (ap (givensAt called (k * 32)) (size-is o p l k m) ∙ absent-tab called (k * 32) (variablesOf (before code p) (getD (block code p .subScopes) k 0)) zc))
+        rw (fresh .zeros (32 + k))
+        (ap waiting (ap (givensAt frame (40 + k * 32)) (size-is o p l k m) ∙ absent-tab frame (40 + k * 32) (variablesOf (before code p) (getD (block code p .subScopes) k 0)) (fresh .zeros)))
 
-    callees-begin : tab (λ k. calleeAt called marks (sizeIn heads places p k) k) 0 (subScopesIn heads p) ≡ map (begins (before code p)) (block code p .subScopes)
+    callees-begin : tab (λ k. calleeAt frame (sizeIn directory p k) k) 0 (subScopesIn directory p) ≡ map (begins (before code p)) (block code p .subScopes)
     callees-begin =
-        ap (tab (λ k. calleeAt called marks (sizeIn heads places p k) k) 0) subs-same
-        ∙ map-tab (begins (before code p)) 0 (block code p .subScopes) 0 (λ k. calleeAt called marks (sizeIn heads places p k) k)
+        ap (tab (λ k. calleeAt frame (sizeIn directory p k) k) 0) subs-same
+        ∙ map-tab (begins (before code p)) 0 (block code p .subScopes) 0 (λ k. calleeAt frame (sizeIn directory p k) k)
         (λ i q. let z : 0 + i ≡ i = omega arith in rw z (callee-begins i q))
 
-    begin-is : memoryIn heads places p own flags called marks 1 ≡ begin (before code p) (block code p) (givensAt own 0 (variablesAt code p))
+    begin-is : memoryIn directory p own frame 1 ≡ begin (before code p) (block code p) (givensAt own 0 (variablesAt code p))
     unfolding memoryIn memory
     begin-is = rw (own-begins, callees-begin)
 
@@ -174,10 +180,10 @@ module _ {code spans heads places : List ℕ} (o : World code spans heads places
     run-is gs = run-cons (block code p) (before code p) (block code p .scope) gs ∙ rw (eq-eqb (block code p .scope) (block code p .scope) refl)
 
     pub starts : (st tr body : List ℕ) (s : Place) → s .at ≡ 0 → s .height ≡ 0 → s .tries ≡ 0 → s .count ≡ 1 → body ≡ block code p .body
-        → length own ≡ 32 → length flags ≡ 32 → length called ≡ 256 → length marks ≡ 8
-        → Running code heads places p st tr (runAt code p (givensAt own 0 (variablesAt code p))) body st tr own called marks flags s
+        → length own ≡ 32
+        → Running code directory p st tr (runAt code p (givensAt own 0 (variablesAt code p))) body st tr own frame s
     unfolding entries opened
-    starts st tr body s at₀ height₀ tries₀ count₀ e a b c d =
+    starts st tr body s at₀ height₀ tries₀ count₀ e a =
         let gs = givensAt own 0 (variablesAt code p) in
         record {
           isBody = e;
@@ -186,15 +192,15 @@ module _ {code spans heads places : List ℕ} (o : World code spans heads places
           tries = rw tries₀ tt;
           mem = rw (count₀, begin-is) (is-held (begin-good (before code p) (block code p) ⊥ gs (λ x. absurd x)));
           room = record { height = omega arith; stack = omega arith; tries = omega arith; pairs = omega arith };
-          sized = record { ownSize = a; flagSize = b; calledSize = c; markSize = d };
+          framed = record { ownSize = a; frameSize = fresh .size };
           stack = refl;
           openRoom = refl;
         }
 
   -- An instruction
 
-  module _ {st₀ tr₀ : List ℕ} {whole : Ran} {body st tr own called marks flags : List ℕ} {s : Place}
-      (r : Running code heads places p st₀ tr₀ whole body st tr own called marks flags s) (in-body : s .at < length body) where
+  module _ {st₀ tr₀ : List ℕ} {whole : Ran} {body st tr own frame : List ℕ} {s : Place}
+      (r : Running code directory p st₀ tr₀ whole body st tr own frame s) (in-body : s .at < length body) where
     abbrev at : ℕ
     at = s .at
 
@@ -222,11 +228,11 @@ module _ {code spans heads places : List ℕ} (o : World code spans heads places
     next-good : NextGood (before code p) (block code p) (envAt code p) ⊥ (weightIn (before code p)) (weightAt code p)
         (λ d. Aligned code-body (suc at + (bodyLength kind + d)))
         (effect (envAt code p) (instructionOf kind (drop (suc at) code-body)) (length (drop (bodyLength kind) (drop (suc at) code-body)))
-        (entries st h) (opened tr t) (memoryIn heads places p own flags called marks count))
+        (entries st h) (opened tr t) (memoryIn directory p own frame count))
     next-good =
         step-good (before code p) (block code p) (envAt code p) ⊥ (weightIn (before code p)) (weightAt code p) (λ x. refl)
         (λ k m hs. below o p l (getD (block code p .subScopes) k 0) hs) (fit o p l) at inside (r .aligned inside)
-        (entries st h) (opened tr t) (memoryIn heads places p own flags called marks count) (r .tries) (is-good (r .mem))
+        (entries st h) (opened tr t) (memoryIn directory p own frame count) (r .tries) (is-good (r .mem))
 
     re-aligned : {x y : ℕ} → x ≡ y → Aligned code-body x → Aligned code-body y
     re-aligned z a q = rw (← z) (a (rw z q))
@@ -256,21 +262,19 @@ module _ {code spans heads places : List ℕ} (o : World code spans heads places
         let g : Aligned code-body (suc at + (bodyLength kind + d)) × TriesGood code-body ts × Good code p M = rw x at k in
         (g .0, g .1, is-held (g .2))
 
-    runs-on : exec (envAt code p) code-body at (entries st h) (opened tr t) (memoryIn heads places p own flags called marks count)
+    runs-on : exec (envAt code p) code-body at (entries st h) (opened tr t) (memoryIn directory p own frame count)
         ≡ follow (effect (envAt code p) (instructionOf kind (drop (suc at) code-body)) (length (drop (bodyLength kind) (drop (suc at) code-body)))
-        (entries st h) (opened tr t) (memoryIn heads places p own flags called marks count))
+        (entries st h) (opened tr t) (memoryIn directory p own frame count))
         (λ d st₁ ts₁ m₁. exec (envAt code p) (drop (suc at) code-body) (bodyLength kind + d) st₁ ts₁ m₁)
-    runs-on = exec-at (envAt code p) code-body at (entries st h) (opened tr t) (memoryIn heads places p own flags called marks count) inside
+    runs-on = exec-at (envAt code p) code-body at (entries st h) (opened tr t) (memoryIn directory p own frame count) inside
 
-    abbrev pub rest : List ℕ
-    rest = restAt body at
-
-    pub stepping : (getD body at 0 ≡ 43 → ⊥) → Stepping heads places p (getD body at 0) rest st h tr t own flags called marks
+    pub stepping : (getD body at 0 ≡ 43 → ⊥) → Stepping directory p body s st tr own frame
     stepping n =
         record {
           bounded = bounded o p l;
-          sized = r .sized;
+          framed = r .framed;
           room = r .room;
+          inside = in-body;
           named =
               rw (all-left (at + 1) body, r .isBody, add-one at)
               (named o p l (instructionOf kind (drop (suc at) code-body)) (drop (bodyLength kind) (drop (suc at) code-body)) fits-here);
@@ -278,41 +282,41 @@ module _ {code spans heads places : List ℕ} (o : World code spans heads places
         }
 
     -- what was done is the effect of the instruction here
-    module _ {m : Move} {st' tr' own' flags' called' : List ℕ}
-        (d : Stepped heads places p (getD body at 0) rest st h tr t own flags called marks m st' tr' own' flags' called') where
-      moves : Moves m (bodyLength kind) st' tr' (memoryIn heads places p own' flags' called' marks count)
+    module _ {m : Move} {st' tr' own' frame' : List ℕ}
+        (d : Stepped directory p body s st tr own frame m st' tr' own' frame') where
+      moves : Moves m (bodyLength kind) st' tr' (memoryIn directory p own' frame' count)
           (effect (envAt code p) (instructionOf kind (drop (suc at) code-body)) (length (drop (bodyLength kind) (drop (suc at) code-body)))
-          (entries st h) (opened tr t) (memoryIn heads places p own flags called marks count))
+          (entries st h) (opened tr t) (memoryIn directory p own frame count))
       moves = rw (all-left (at + 1) body, r .isBody, add-one at) at (d .same (envAt code p) count (typing o p l))
 
-      pub turn : (n : ℕ) (x : Place) → m ≡ move.Go n (x .height) (x .tries) → Advances (at + 1) n (length body) (x .at) → x .count ≡ count
-          → length st' ≡ length st → length tr' ≡ length tr → Sized own' flags' called' marks
-          → Running code heads places p st₀ tr₀ whole body st' tr' own' called' marks flags' x
+      pub turn : (n : ℕ) (x : Place) → m ≡ move.Go (record { passed = n; height = x .height; tries = x .tries }) → Advances (at + 1) n (length body) (x .at) → x .count ≡ count
+          → length st' ≡ length st → length tr' ≡ length tr → Framed directory p own' frame'
+          → Running code directory p st₀ tr₀ whole body st' tr' own' frame' x
       turn n x g adv k ls lt sz =
           let at' = x .at in
           let h' = x .height in
           let t' = x .tries in
-          let v : Moves (move.Go n h' t') (bodyLength kind) st' tr' (memoryIn heads places p own' flags' called' marks count)
+          let v : Moves (move.Go (record { passed = n; height = h'; tries = t' })) (bodyLength kind) st' tr' (memoryIn directory p own' frame' count)
           (effect (envAt code p) (instructionOf kind (drop (suc at) code-body)) (length (drop (bodyLength kind) (drop (suc at) code-body)))
-          (entries st h) (opened tr t) (memoryIn heads places p own flags called marks count)) = rw g at moves in
+          (entries st h) (opened tr t) (memoryIn directory p own frame count)) = rw g at moves in
           let z : suc at + (bodyLength kind + (n - bodyLength kind)) ≡ at + 1 + n = omega (arith, v .1) in
           let good-next = next-is (v .0) next-good in
-          let there = advanced (at + 1) n at' adv (entries st' h') (opened tr' t') (memoryIn heads places p own' flags' called' marks count) in
+          let there = advanced (at + 1) n at' adv (entries st' h') (opened tr' t') (memoryIn directory p own' frame' count) in
           record {
             isBody = r .isBody;
             same =
                 rw k
                 (there
-                ∙ ap (λ (y : ℕ). exec (envAt code p) code-body y (entries st' h') (opened tr' t') (memoryIn heads places p own' flags' called' marks count)) (sym z)
+                ∙ ap (λ (y : ℕ). exec (envAt code p) code-body y (entries st' h') (opened tr' t') (memoryIn directory p own' frame' count)) (sym z)
                 ∙ sym (exec-to (envAt code p) code-body at (bodyLength kind + (n - bodyLength kind)) (entries st' h') (opened tr' t')
-                (memoryIn heads places p own' flags' called' marks count))
+                (memoryIn directory p own' frame' count))
                 ∙ sym (runs-on ∙ rw (v .0))
                 ∙ r .same);
             aligned = advanced-aligned (at + 1) n at' adv (re-aligned z (good-next .0));
             tries = good-next .1;
             mem = rw k (good-next .2);
             room = v .2;
-            sized = sz;
+            framed = sz;
             stack = ls ∙ r .stack;
             openRoom = lt ∙ r .openRoom;
           }
@@ -335,10 +339,10 @@ module _ {code spans heads places : List ℕ} (o : World code spans heads places
 
     module _ (e : getD body at 0 ≡ 43) (sub : ℕ) (is-sub : sub ≡ getD (drop (at + 1) body) 0 0) where
       abbrev callee : ℕ
-      callee = blockIn heads places p sub
+      callee = blockIn directory p sub
 
       abbrev size : ℕ
-      size = sizeIn heads places p sub
+      size = sizeIn directory p sub
 
       entry-kind : kind ≡ 43
       entry-kind = rw (← r .isBody) e
@@ -346,12 +350,12 @@ module _ {code spans heads places : List ℕ} (o : World code spans heads places
       entry-rest : drop (suc at) code-body ≡ drop (at + 1) body
       entry-rest = rw (← r .isBody, add-one at)
 
-      named-here : getD (drop (at + 1) body) 0 0 < subScopesIn heads p
+      named-here : getD (drop (at + 1) body) 0 0 < subScopesIn directory p
       unfolding instructionOf
       named-here =
           rw (entry-kind, entry-rest) at (named o p l (instructionOf kind (drop (suc at) code-body)) (drop (bodyLength kind) (drop (suc at) code-body)) fits-here)
 
-      pub entry-named : sub < subScopesIn heads p
+      pub entry-named : sub < subScopesIn directory p
       entry-named = rw is-sub named-here
 
       in-subs : sub < length (block code p .subScopes)
@@ -360,40 +364,40 @@ module _ {code spans heads places : List ℕ} (o : World code spans heads places
       pub entry-small : (sub < 8) × (callee < p)
       entry-small = let b = bounded o p l .subScopes in let n = entry-named in (omega arith, callee-below o p l sub in-subs)
 
-      at-sub : getD (memoryIn heads places p own flags called marks count .callees) sub (waiting []) ≡ calleeAt called marks size sub
+      at-sub : getD (memoryIn directory p own frame count .callees) sub (waiting []) ≡ calleeAt frame size sub
       unfolding memoryIn memory
       at-sub =
           let z : 0 + sub ≡ sub = omega arith in
-          tab-at (λ i. calleeAt called marks (sizeIn heads places p i) i) 0 (subScopesIn heads p) sub (waiting []) entry-named
-          ∙ ap (λ (i : ℕ). calleeAt called marks (sizeIn heads places p i) i) z
+          tab-at (λ i. calleeAt frame (sizeIn directory p i) i) 0 (subScopesIn directory p) sub (waiting []) entry-named
+          ∙ ap (λ (i : ℕ). calleeAt frame (sizeIn directory p i) i) z
 
       entry-effect : effect (envAt code p) (instructionOf kind (drop (suc at) code-body)) (length (drop (bodyLength kind) (drop (suc at) code-body)))
-          (entries st h) (opened tr t) (memoryIn heads places p own flags called marks count)
-          ≡ enteredWith (λ gs. runIn (before code p) (getD (block code p .subScopes) sub 0) gs) (calleeAt called marks size sub) sub
-          (entries st h) (opened tr t) (memoryIn heads places p own flags called marks count)
+          (entries st h) (opened tr t) (memoryIn directory p own frame count)
+          ≡ enteredWith (λ gs. runIn (before code p) (getD (block code p .subScopes) sub 0) gs) (calleeAt frame size sub) sub
+          (entries st h) (opened tr t) (memoryIn directory p own frame count)
       unfolding effect instructionOf
       entry-effect = rw (entry-kind, entry-rest, ← is-sub) (rw at-sub)
 
-      marked : (getD marks sub 0 ≡ 0 → ⊥) → calleeAt called marks size sub ≡ entered (valuesIn called (sub * 32) size)
+      marked : (getD frame (32 + sub) 0 ≡ 0 → ⊥) → calleeAt frame size sub ≡ entered (valuesIn frame (40 + sub * 32) size)
       unfolding calleeAt
-      marked n = rw (ne-eqb (getD marks sub 0) 0 n)
+      marked n = rw (ne-eqb (getD frame (32 + sub) 0) 0 n)
 
-      unmarked : getD marks sub 0 ≡ 0 → calleeAt called marks size sub ≡ waiting (givensAt called (sub * 32) size)
+      unmarked : getD frame (32 + sub) 0 ≡ 0 → calleeAt frame size sub ≡ waiting (givensAt frame (40 + sub * 32) size)
       unfolding calleeAt
       unmarked n = rw n
 
-      pub entry-twice : (getD marks sub 0 ≡ 0 → ⊥) → whole ≡ stuck
+      pub entry-twice : (getD frame (32 + sub) 0 ≡ 0 → ⊥) → whole ≡ stuck
       entry-twice n = sym (r .same) ∙ runs-on ∙ rw (entry-effect, marked n)
 
-      module _ (n : getD marks sub 0 ≡ 0) (w : ℕ) (wide : w ≡ 32) where
+      pub in-frame : 40 + sub * 32 + 32 ≤ length frame
+      in-frame = let b = entry-named in let c = r .framed .frameSize in omega arith
+
+      module _ (n : getD frame (32 + sub) 0 ≡ 0) (w : ℕ) (wide : w ≡ 32) where
         abbrev pub part : List ℕ
-        part = take w (drop (sub * 32) called)
+        part = take w (drop (40 + sub * 32) frame)
 
-        given : (x : ℕ) → x < 32 → getD part x 0 ≡ getD called (sub * 32 + x) 0
-        given x q = getD-take w (drop (sub * 32) called) x 0 (rw wide q) ∙ getD-drop (sub * 32) called x 0
-
-        in-called : sub * 32 + 32 ≤ length called
-        in-called = let b = entry-small .0 in let c = r .sized .calledSize in omega arith
+        given : (x : ℕ) → x < 32 → getD part x 0 ≡ getD frame (40 + sub * 32 + x) 0
+        given x q = getD-take w (drop (40 + sub * 32) frame) x 0 (rw wide q) ∙ getD-drop (40 + sub * 32) frame x 0
 
         size-few : size ≤ 32
         size-few = bounded o p l .sizes sub entry-named .1
@@ -402,20 +406,20 @@ module _ {code spans heads places : List ℕ} (o : World code spans heads places
         unfolding variablesAt blockAt
         callee-size = sym (size-is o p l sub in-subs ∙ ap length (callee-variables o p l sub in-subs))
 
-        part-givens : givensAt part 0 (variablesAt code callee) ≡ givensAt called (sub * 32) size
+        part-givens : givensAt part 0 (variablesAt code callee) ≡ givensAt frame (40 + sub * 32) size
         unfolding givensAt
         part-givens =
             ap (tab (λ x. givenOf (getD part (0 + x) 0)) 0) callee-size
-            ∙ tab-same (λ x. givenOf (getD part (0 + x) 0)) (λ x. givenOf (getD called (sub * 32 + x) 0)) 0 size
+            ∙ tab-same (λ x. givenOf (getD part (0 + x) 0)) (λ x. givenOf (getD frame (40 + sub * 32 + x) 0)) 0 size
             (λ i q. let f = size-few in let z : 0 + (0 + i) ≡ 0 + i = omega arith in rw (z, given (0 + i) (omega arith)))
 
         abbrev ran-callee : Ran
         ran-callee = runAt code callee (givensAt part 0 (variablesAt code callee))
 
         entry-next : effect (envAt code p) (instructionOf kind (drop (suc at) code-body)) (length (drop (bodyLength kind) (drop (suc at) code-body)))
-            (entries st h) (opened tr t) (memoryIn heads places p own flags called marks count)
-            ≡ returned ran-callee sub (entries st h) (opened tr t) (memoryIn heads places p own flags called marks count)
-        entry-next = entry-effect ∙ rw (unmarked n, callee-runs o p l sub in-subs (givensAt called (sub * 32) size), part-givens)
+            (entries st h) (opened tr t) (memoryIn directory p own frame count)
+            ≡ returned ran-callee sub (entries st h) (opened tr t) (memoryIn directory p own frame count)
+        entry-next = entry-effect ∙ rw (unmarked n, callee-runs o p l sub in-subs (givensAt frame (40 + sub * 32) size), part-givens)
 
         pub entry-ended : (c : Cause) (m : ℕ) → ran-callee ≡ ran (ended c m) → (whole ≡ ran (ended c (count + m))) × (count + m ≤ 4096)
         unfolding memoryIn memory
@@ -441,63 +445,80 @@ module _ {code spans heads places : List ℕ} (o : World code spans heads places
         -- it came to values
         module _ (m : ℕ) (own' : List ℕ) (q : ran-callee ≡ ran (values (valuesIn own' 0 (variablesAt code callee)) m))
             (full : length own' ≡ 32) where
-          abbrev pub called' : List ℕ
-          called' = take (sub * 32) called ++ (own' ++ drop w (drop (sub * 32) called))
+          -- the frame with the callee's cells, and with its mark
+          abbrev pub lent : List ℕ
+          lent = take (40 + sub * 32) frame ++ (own' ++ drop w (drop (40 + sub * 32) frame))
 
-          here : (x : ℕ) → x < 32 → getD called' (sub * 32 + x) 0 ≡ getD own' x 0
-          here x q = let i = in-called in lent-here called own' (sub * 32) w (omega arith) x (rw full q)
+          abbrev pub frame' : List ℕ
+          frame' = set lent (32 + sub) 1
 
-          there : (i : ℕ) → (i < sub * 32) ⊎ (sub * 32 + 32 ≤ i) → getD called' i 0 ≡ getD called i 0
-          there i q = lent-there called own' (sub * 32) w in-called wide full i q
+          here : (x : ℕ) → x < 32 → getD frame' (40 + sub * 32 + x) 0 ≡ getD own' x 0
+          here x q =
+              let i = in-frame in
+              let b = entry-small .0 in
+              getD-set-other lent (32 + sub) (40 + sub * 32 + x) 1 0 (λ e. absurd (omega arith)) ∙ lent-here frame own' (40 + sub * 32) w (omega arith) x (rw full q)
+
+          there : (i : ℕ) → (i ≡ 32 + sub → ⊥) → (i < 40 + sub * 32) ⊎ (40 + sub * 32 + 32 ≤ i) → getD frame' i 0 ≡ getD frame i 0
+          there i v q = getD-set-other lent (32 + sub) i 1 0 v ∙ lent-there frame own' (40 + sub * 32) w in-frame wide full i q
+
+          lent-as-long : length lent ≡ length frame
+          lent-as-long = lent-size frame own' (40 + sub * 32) w in-frame wide full
 
           abbrev vs : List Value
           vs = valuesIn own' 0 (variablesAt code callee)
 
-          values-here : valuesIn called' (sub * 32) size ≡ vs
+          values-here : valuesIn frame' (40 + sub * 32) size ≡ vs
           unfolding valuesIn
           values-here =
               sym (ap (tab (λ x. held (givenOf (getD own' (0 + x) 0))) 0) callee-size
-              ∙ tab-same (λ x. held (givenOf (getD own' (0 + x) 0))) (λ x. held (givenOf (getD called' (sub * 32 + x) 0))) 0 size
+              ∙ tab-same (λ x. held (givenOf (getD own' (0 + x) 0))) (λ x. held (givenOf (getD frame' (40 + sub * 32 + x) 0))) 0 size
               (λ i u. let f = size-few in let z : 0 + (0 + i) ≡ 0 + i = omega arith in rw (z, here (0 + i) (omega arith))))
 
-          new-here : (z : 0 < 1) → calleeAt called' (set marks sub 1) size sub ≡ entered vs
+          new-here : (z : 0 < 1) → calleeAt frame' size sub ≡ entered vs
           unfolding calleeAt
           new-here z =
-              let s = r .sized .markSize in
+              let i = in-frame in
+              let n = lent-as-long in
               let b = entry-small .0 in
-              let in-marks : sub < length marks = omega arith in
-              rw (getD-set-same marks sub 1 0 in-marks, values-here)
+              let in-marks : 32 + sub < length lent = omega arith in
+              rw (getD-set-same lent (32 + sub) 1 0 in-marks, values-here)
 
-          new-there : (i z : ℕ) → z ≤ 32 → (i ≡ sub → ⊥) → calleeAt called marks z i ≡ calleeAt called' (set marks sub 1) z i
+          new-there : (i z : ℕ) → z ≤ 32 → i < 8 → (i ≡ sub → ⊥) → calleeAt frame z i ≡ calleeAt frame' z i
           unfolding calleeAt givensAt valuesIn
-          new-there i z few n =
-              let off : (y : ℕ) → y < z → getD called (i * 32 + (0 + y)) 0 ≡ getD called' (i * 32 + (0 + y)) 0 =
-              λ y u. sym (there (i * 32 + (0 + y)) (apart i sub y z few n u)) in
+          new-there i z few eight n =
+              let off : (y : ℕ) → y < z → getD frame (40 + i * 32 + (0 + y)) 0 ≡ getD frame' (40 + i * 32 + (0 + y)) 0 =
+              λ y u. let b = entry-small .0 in sym (there (40 + i * 32 + (0 + y)) (λ e. absurd (omega arith)) (apart i sub y z few n u)) in
               rw (
-                getD-set-other marks sub i 1 0 n,
-                tab-same (λ y. givenOf (getD called (i * 32 + y) 0)) (λ y. givenOf (getD called' (i * 32 + y) 0)) 0 z (λ y u. ap givenOf (off y u)),
-                tab-same (λ y. held (givenOf (getD called (i * 32 + y) 0))) (λ y. held (givenOf (getD called' (i * 32 + y) 0))) 0 z (λ y u. ap (λ (c : ℕ). held (givenOf c)) (off y u)),
+                there (32 + i) (λ e. n (omega arith)) (inl (omega arith)),
+                tab-same (λ y. givenOf (getD frame (40 + i * 32 + y) 0)) (λ y. givenOf (getD frame' (40 + i * 32 + y) 0)) 0 z (λ y u. ap givenOf (off y u)),
+                tab-same (λ y. held (givenOf (getD frame (40 + i * 32 + y) 0))) (λ y. held (givenOf (getD frame' (40 + i * 32 + y) 0))) 0 z (λ y u. ap (λ (c : ℕ). held (givenOf c)) (off y u)),
               )
 
-          new-memory : withCallee (memoryIn heads places p own flags called marks count) sub (entered vs) m
-              ≡ memoryIn heads places p own flags called' (set marks sub 1) (count + m)
+          own-there : (x : ℕ) → x < 32 → ownCell own frame x ≡ ownCell own frame' x
+          unfolding ownCell
+          own-there x q = rw (there x (λ e. absurd (omega arith)) (inl (omega arith)))
+
+          new-memory : withCallee (memoryIn directory p own frame count) sub (entered vs) m ≡ memoryIn directory p own frame' (count + m)
           unfolding memoryIn memory
           new-memory =
-              let all = tab-set (λ i. calleeAt called marks (sizeIn heads places p i) i) (λ i. calleeAt called' (set marks sub 1) (sizeIn heads places p i) i)
-              0 (subScopesIn heads p) sub (entered vs) entry-named
-              (let z : 0 + sub ≡ sub = omega arith in ap (λ (i : ℕ). calleeAt called' (set marks sub 1) (sizeIn heads places p i) i) z ∙ new-here (omega arith))
-              (λ i u v. let z : 0 + i ≡ i = omega arith in rw z (new-there i (sizeIn heads places p i) (bounded o p l .sizes i u .1) v)) in
-              rw all
+              let few = bounded o p l .variables in
+              let eight = bounded o p l .subScopes in
+              let all = tab-set (λ i. calleeAt frame (sizeIn directory p i) i) (λ i. calleeAt frame' (sizeIn directory p i) i)
+              0 (subScopesIn directory p) sub (entered vs) entry-named
+              (let z : 0 + sub ≡ sub = omega arith in ap (λ (i : ℕ). calleeAt frame' (sizeIn directory p i) i) z ∙ new-here (omega arith))
+              (λ i u v. let z : 0 + i ≡ i = omega arith in rw z (new-there i (sizeIn directory p i) (bounded o p l .sizes i u .1) (omega arith) v)) in
+              let owns = tab-same (ownCell own frame) (ownCell own frame') 0 (variablesIn directory p) (λ i u. own-there (0 + i) (omega arith)) in
+              rw (all, owns)
 
           goes-to : effect (envAt code p) (instructionOf kind (drop (suc at) code-body)) (length (drop (bodyLength kind) (drop (suc at) code-body)))
-              (entries st h) (opened tr t) (memoryIn heads places p own flags called marks count)
-              ≡ go 0 (entries st h) (opened tr t) (memoryIn heads places p own flags called' (set marks sub 1) (count + m))
+              (entries st h) (opened tr t) (memoryIn directory p own frame count)
+              ≡ go 0 (entries st h) (opened tr t) (memoryIn directory p own frame' (count + m))
           goes-to = entry-next ∙ rw (q, new-memory)
 
           pub entry-turn : (x : Place) (st' tr' : List ℕ) → Advances (at + 1) 1 (length body) (x .at) → x .height ≡ h → x .tries ≡ t → x .count ≡ count + m
               → ((i : ℕ) → i < h → getD st' i 0 ≡ getD st i 0) → ((i : ℕ) → i < t * 2 → getD tr' i 0 ≡ getD tr i 0)
               → length st' ≡ length st → length tr' ≡ length tr
-              → Running code heads places p st₀ tr₀ whole body st' tr' own called' (set marks sub 1) flags x
+              → Running code directory p st₀ tr₀ whole body st' tr' own frame' x
           unfolding shapeIn shapesOf kinds
           entry-turn x st' tr' adv kh kt kc a b c d =
               let at' = x .at in
@@ -505,14 +526,14 @@ module _ {code spans heads places : List ℕ} (o : World code spans heads places
               let ts = opened-same tr tr' t b in
               let z : suc at + (bodyLength kind + 0) ≡ at + 1 + 1 = rw entry-kind (omega arith) in
               let good-next = next-is goes-to next-good in
-              let k = length-set marks sub 1 in
+              let k = length-set lent (32 + sub) 1 in
               record {
                 isBody = r .isBody;
                 same =
                     rw (kh, kt, kc, es, ts)
-                    (advanced (at + 1) 1 at' adv (entries st h) (opened tr t) (memoryIn heads places p own flags called' (set marks sub 1) (count + m))
-                    ∙ ap (λ (y : ℕ). exec (envAt code p) code-body y (entries st h) (opened tr t) (memoryIn heads places p own flags called' (set marks sub 1) (count + m))) (sym z)
-                    ∙ sym (exec-to (envAt code p) code-body at (bodyLength kind + 0) (entries st h) (opened tr t) (memoryIn heads places p own flags called' (set marks sub 1) (count + m)))
+                    (advanced (at + 1) 1 at' adv (entries st h) (opened tr t) (memoryIn directory p own frame' (count + m))
+                    ∙ ap (λ (y : ℕ). exec (envAt code p) code-body y (entries st h) (opened tr t) (memoryIn directory p own frame' (count + m))) (sym z)
+                    ∙ sym (exec-to (envAt code p) code-body at (bodyLength kind + 0) (entries st h) (opened tr t) (memoryIn directory p own frame' (count + m)))
                     ∙ sym (runs-on ∙ rw goes-to)
                     ∙ r .same);
                 aligned = advanced-aligned (at + 1) 1 at' adv (re-aligned z (good-next .0));
@@ -521,13 +542,7 @@ module _ {code spans heads places : List ℕ} (o : World code spans heads places
                 room =
                     rw (kh, kt)
                     (record { height = r .room .height; stack = rw c (r .room .stack); tries = r .room .tries; pairs = rw d (r .room .pairs) });
-                sized =
-                    record {
-                      ownSize = r .sized .ownSize;
-                      flagSize = r .sized .flagSize;
-                      calledSize = lent-size called own' (sub * 32) w in-called wide full ∙ r .sized .calledSize;
-                      markSize = k ∙ r .sized .markSize;
-                    };
+                framed = record { ownSize = r .framed .ownSize; frameSize = let n = k ∙ lent-as-long in let f = r .framed .frameSize in omega arith };
                 stack = c ∙ r .stack;
                 openRoom = d ∙ r .openRoom;
               }
@@ -542,23 +557,16 @@ module _ {code spans heads places : List ℕ} (o : World code spans heads places
 
 -- The end of a block
 
-module _ {code spans heads places : List ℕ} {p : ℕ} {own : List ℕ} (e : Entry code spans heads places p own) where
-  pub world : World code spans heads places
+module _ {code directory : List ℕ} {p : ℕ} {own : List ℕ} (e : Entry code directory p own) where
+  pub world : World code directory
   world = record { accepts = e .accepts; tabled = e .tabled }
 
-  pub body-of : take (getD spans (p * 2 + 1) 0 - getD spans (p * 2) 0) (drop (getD spans (p * 2) 0) code) ≡ block code p .body
+  pub body-is : bodyIn code directory p ≡ block code p .body
   unfolding blockAt
-  body-of = e .tabled .blocks p (e .block) .body
+  body-is = e .tabled .blocks p (e .block) .body
 
-  pub ordered : getD spans (p * 2) 0 ≤ getD spans (p * 2 + 1) 0
+  pub ordered : beginIn directory p ≤ endIn directory p
   ordered = e .tabled .blocks p (e .block) .ordered
-
-  pub at-small : {body : List ℕ} {at : ℕ} → body ≡ block code p .body → at < length body → at + 1 ≤ getD spans (p * 2 + 1) 0
-  at-small i q =
-      let b = ap length (body-of ∙ sym i) in
-      let u = length-take (getD spans (p * 2 + 1) 0 - getD spans (p * 2) 0) (drop (getD spans (p * 2) 0) code) in
-      let o = ordered in
-      omega arith
 
   -- what an end shows, it shows of any equal end
   pub shown : (r : coded-type.Ran) {x y : Ran} (own' : List ℕ) {v w : ℕ} (A : Type 0) → x ≡ y → v ≡ w → Shows r x own' v ⊥ → Shows r y own' w A
@@ -567,36 +575,36 @@ module _ {code spans heads places : List ℕ} {p : ℕ} {own : List ℕ} (e : En
   shown coded.Stuck own' A q z k = rw (← q) k
   shown coded.NoRoom own' A q z k = absurd k
 
-  module _ {st₀ tr₀ body st tr own' called marks flags : List ℕ} {s : Place}
-      (r : Running code heads places p st₀ tr₀ (runAt code p (givensAt own 0 (variablesAt code p))) body st tr own' called marks flags s) where
+  module _ {st₀ tr₀ body st tr own' frame : List ℕ} {s : Place}
+      (r : Running code directory p st₀ tr₀ (runAt code p (givensAt own 0 (variablesAt code p))) body st tr own' frame s) where
     end-of : length body ≤ s .at
-        → atEnd (memory (variablesIn heads p) (subScopesIn heads p) (sizeIn heads places p) own' flags called marks (s .count)) ≡ runAt code p (givensAt own 0 (variablesAt code p))
+        → atEnd (memory (variablesIn directory p) (subScopesIn directory p) (sizeIn directory p) own' frame (s .count)) ≡ runAt code p (givensAt own 0 (variablesAt code p))
     unfolding memoryIn
     end-of q =
         sym (exec-past (envAt code p) (block code p .body) (s .at) (entries st (s .height)) (opened tr (s .tries))
-        (memory (variablesIn heads p) (subScopesIn heads p) (sizeIn heads places p) own' flags called marks (s .count)) (rw (← r .isBody) q))
+        (memory (variablesIn directory p) (subScopesIn directory p) (sizeIn directory p) own' frame (s .count)) (rw (← r .isBody) q))
         ∙ r .same
 
-    pub ending : Ending heads p own' marks
+    pub ending : Ending directory p own' frame
     ending =
         let b = bounded world p (e .block) in
         let v = b .variables in
         let s = b .subScopes in
-        let x = r .sized .ownSize in
-        let y = r .sized .markSize in
+        let x = r .framed .ownSize in
+        let y = r .framed .frameSize in
         record { block = b .block; variables = omega arith; subScopes = omega arith }
 
-    pub came-end : (a : coded-type.Ran) → length body ≤ s .at → Finished heads p own' marks (s .count) a → Came code p own a own' st₀ tr₀
+    pub came-end : (a : coded-type.Ran) → length body ≤ s .at → Finished directory p own' frame (s .count) a → Came code p own a own' st₀ tr₀
     came-end a q f =
         record {
-          size = r .sized .ownSize;
-          shows = shown a own' (Enough p st₀ tr₀ → ⊥) (end-of q) (variables-same world p (e .block)) (f .shows (sizeIn heads places p) flags called);
+          size = r .framed .ownSize;
+          shows = shown a own' (Enough p st₀ tr₀ → ⊥) (end-of q) (variables-same world p (e .block)) (f .shows (sizeIn directory p));
         }
 
 -- What an instruction does to the run
 
-pub stands : {code heads places : List ℕ} {p : ℕ} {st₀ tr₀ : List ℕ} {whole : Ran} {body st tr own called marks flags : List ℕ} {s : Place}
-    → Running code heads places p st₀ tr₀ whole body st tr own called marks flags s → Standing code heads places p body st tr own called marks flags s
+pub stands : {code directory : List ℕ} {p : ℕ} {st₀ tr₀ : List ℕ} {whole : Ran} {body st tr own frame : List ℕ} {s : Place}
+    → Running code directory p st₀ tr₀ whole body st tr own frame s → Standing code directory p body st tr own frame s
 stands r =
     record {
       isBody = r .isBody;
@@ -605,16 +613,16 @@ stands r =
       tries = r .tries;
       mem = r .mem;
       room = r .room;
-      sized = r .sized;
+      framed = r .framed;
       stack = refl;
       openRoom = refl;
     }
 
-module _ {code heads places : List ℕ} {p : ℕ} {st₀ tr₀ : List ℕ} {whole : Ran} {body st tr own called marks flags : List ℕ} {s : Place}
-    (r : Running code heads places p st₀ tr₀ whole body st tr own called marks flags s) where
-  pub goes-on : {st' tr' own' called' marks' flags' : List ℕ} {x : Place}
-      → Running code heads places p st tr (runFrom code heads places p st tr own called marks flags s) body st' tr' own' called' marks' flags' x
-      → Running code heads places p st₀ tr₀ whole body st' tr' own' called' marks' flags' x
+module _ {code directory : List ℕ} {p : ℕ} {st₀ tr₀ : List ℕ} {whole : Ran} {body st tr own frame : List ℕ} {s : Place}
+    (r : Running code directory p st₀ tr₀ whole body st tr own frame s) where
+  pub goes-on : {st' tr' own' frame' : List ℕ} {x : Place}
+      → Running code directory p st tr (runFrom code directory p st tr own frame s) body st' tr' own' frame' x
+      → Running code directory p st₀ tr₀ whole body st' tr' own' frame' x
   goes-on k =
       record {
         isBody = k .isBody;
@@ -623,12 +631,12 @@ module _ {code heads places : List ℕ} {p : ℕ} {st₀ tr₀ : List ℕ} {whol
         tries = k .tries;
         mem = k .mem;
         room = k .room;
-        sized = k .sized;
+        framed = k .framed;
         stack = k .stack ∙ r .stack;
         openRoom = k .openRoom ∙ r .openRoom;
       }
 
-  pub ends-so : {y : Ran} → runFrom code heads places p st tr own called marks flags s ≡ y → whole ≡ y
+  pub ends-so : {y : Ran} → runFrom code directory p st tr own frame s ≡ y → whole ≡ y
   ends-so e = sym (r .same) ∙ e
 
   pub too-short : (Enough p st tr → ⊥) → Enough p st₀ tr₀ → ⊥
@@ -638,11 +646,11 @@ module _ {code heads places : List ℕ} {p : ℕ} {st₀ tr₀ : List ℕ} {whol
       k (record { stack = omega (arith, q .stack); tries = omega (arith, q .tries) })
 
 -- what an instruction other than an entry does
-module _ {code spans heads places : List ℕ} (o : World code spans heads places) (p : ℕ) (l : p < blockCount code)
-    {body st tr own called marks flags : List ℕ} {s : Place} (r : Standing code heads places p body st tr own called marks flags s) (in-body : s .at < length body)
-    (st' tr' own' flags' called' : List ℕ) (ls : length st' ≡ length st) (lt : length tr' ≡ length tr) (sz : Sized own' flags' called' marks) where
-  pub acts : (a : went-type.Went) → Steps body s heads places p marks st tr own flags called st' tr' own' flags' called' a
-      → Acts code heads places p st tr (runFrom code heads places p st tr own called marks flags s) body (s .at) st' tr' own' called' marks flags' a
+module _ {code directory : List ℕ} (o : World code directory) (p : ℕ) (l : p < blockCount code)
+    {body st tr own frame : List ℕ} {s : Place} (r : Standing code directory p body st tr own frame s) (in-body : s .at < length body)
+    (st' tr' own' frame' : List ℕ) (ls : length st' ≡ length st) (lt : length tr' ≡ length tr) (sz : Framed directory p own' frame') where
+  pub acts : (a : went-type.Went) → Steps directory p body s st tr own frame st' tr' own' frame' a
+      → Acts code directory p st tr (runFrom code directory p st tr own frame s) body (s .at) st' tr' own' frame' a
   acts (went.On x) (n, d, adv, k) = let b = adv .on in (turn o p l r in-body d n x refl adv k ls lt sz, omega arith)
   acts (went.Ended c n) (d, k) = rw k (ends o p l r in-body d c refl)
   acts went.Stuck d = sticks o p l r in-body d refl
@@ -661,9 +669,9 @@ rest-length xs a l = part-room xs a (length xs - a) (omega arith) refl
 
 -- the entry of a callee, and what it came to
 
-pub callee-entry : {code spans heads places : List ℕ} {p q : ℕ} {own part : List ℕ} → Entry code spans heads places p own → q < p → length part ≡ 32
-    → Entry code spans heads places q part
-callee-entry e l k = let b = e .block in record { accepts = e .accepts; tabled = e .tabled; sizes = e .sizes; block = omega arith; room = k }
+pub callee-entry : {code directory : List ℕ} {p q : ℕ} {own part : List ℕ} → Entry code directory p own → q < p → length part ≡ 32
+    → Entry code directory q part
+callee-entry e l k = let b = e .block in record { accepts = e .accepts; tabled = e .tabled; block = omega arith; room = k }
 
 module _ {code : List ℕ} {q c : ℕ} {part : List ℕ} {a : coded-type.Ran} {own st tr : List ℕ} (e : q ≡ c) (k : Came code q part a own st tr) where
   pub came-values : {m : ℕ} → a ≡ coded.Values m
@@ -679,9 +687,6 @@ module _ {code : List ℕ} {q c : ℕ} {part : List ℕ} {a : coded-type.Ran} {o
   pub came-short : a ≡ coded.NoRoom → Enough c st tr → ⊥
   came-short f = rw (← e) (rw f at (k .shows))
 
-pub sub-of : {k : ℕ} (at : ℕ) (body : List ℕ) → k ≡ getD (take (length body - (at + 1)) (drop (at + 1) body)) 0 0 → k ≡ getD (drop (at + 1) body) 0 0
-sub-of at body e = e ∙ ap (λ (l : List ℕ). getD l 0 0) (all-left (at + 1) body)
-
 -- what an instruction came to
 
 pub moved : {next n end a b : ℕ} → b ≡ a → Advances next n end a → Advances next n end b
@@ -690,33 +695,73 @@ moved {next} {n} {end} e k = subst (λ (y : ℕ). Advances next n end y) (sym e)
 pub further : {at n end a : ℕ} → Advances (at + 1) n end a → at < a
 further k = let o = k .on in omega arith
 
-module _ {code body : List ℕ} {s : Place} {heads places : List ℕ} {p : ℕ} {st tr own called marks flags : List ℕ} {a : went-type.Went}
-    {st' tr' own' called' marks' flags' : List ℕ} (k : Acted code body s heads places p st tr own called marks flags a st' tr' own' called' marks' flags') where
-  pub went-on : {x : Place} → a ≡ went.On x
-      → Running code heads places p st tr (runFrom code heads places p st tr own called marks flags s) body st' tr' own' called' marks' flags' x × (s .at < x .at)
+pub record Acted (code directory : List ℕ) (p : ℕ) (st₀ tr₀ : List ℕ) (whole : Ran) (body : List ℕ) (at : ℕ) (st tr own frame : List ℕ) (a : went-type.Went) : Type 0 where
+  pub shows : Acts code directory p st₀ tr₀ whole body at st tr own frame a
+
+module _ {code directory : List ℕ} {p : ℕ} {st₀ tr₀ : List ℕ} {whole : Ran} {body : List ℕ} {at : ℕ} {st tr own frame : List ℕ} {a : went-type.Went}
+    (k : Acted code directory p st₀ tr₀ whole body at st tr own frame a) where
+  pub went-on : {x : Place} → a ≡ went.On x → Running code directory p st₀ tr₀ whole body st tr own frame x × (at < x .at)
   went-on e = rw e at (k .shows)
 
-  pub went-ended : {c : Cause} {n : ℕ} → a ≡ went.Ended c n → runFrom code heads places p st tr own called marks flags s ≡ ran (ended c n)
+  pub went-ended : {c : Cause} {n : ℕ} → a ≡ went.Ended c n → whole ≡ ran (ended c n)
   went-ended e = rw e at (k .shows)
 
-  pub went-stuck : a ≡ went.Stuck → runFrom code heads places p st tr own called marks flags s ≡ stuck
+  pub went-stuck : a ≡ went.Stuck → whole ≡ stuck
   went-stuck e = rw e at (k .shows)
 
-  pub went-short : a ≡ went.NoRoom → Enough p st tr → ⊥
+  pub went-short : a ≡ went.NoRoom → Enough p st₀ tr₀ → ⊥
   went-short e = rw e at (k .shows)
 
-module _ {body : List ℕ} {s : Place} {heads places : List ℕ} {p : ℕ} {marks st tr own flags called st' tr' own' flags' called' : List ℕ} {m : Move}
-    (d : Stepped heads places p (getD body (s .at) 0) (restAt body (s .at)) st (s .height) tr (s .tries) own flags called marks m st' tr' own' flags' called') where
-  pub stepped : {r : went-type.Went} → Followed (s .at + 1) (length body) (s .count) m r → SteppedAt body s heads places p marks st tr own flags called r st' tr' own' flags' called'
+module _ {directory : List ℕ} {p : ℕ} {body : List ℕ} {s : Place} {st tr own frame st' tr' own' frame' : List ℕ} {m : Move}
+    (d : Stepped directory p body s st tr own frame m st' tr' own' frame') where
+  pub stepped : {r : went-type.Went} → Followed (s .at + 1) (length body) (s .count) m r → SteppedAt directory p body s st tr own frame r st' tr' own' frame'
   stepped {r} f = record { shows = steps r (f .shows) }
     where
-      steps : (r : went-type.Went) → Follows (s .at + 1) (length body) (s .count) m r → Steps body s heads places p marks st tr own flags called st' tr' own' flags' called' r
+      steps : (r : went-type.Went) → Follows (s .at + 1) (length body) (s .count) m r → Steps directory p body s st tr own frame st' tr' own' frame' r
       steps (went.On x) (n, e, adv, kc) = (n, rw (← e) d, adv, kc)
       steps (went.Ended c n) (e, kc) = (rw (← e) d, kc)
       steps went.Stuck e = rw (← e) d
       steps went.NoRoom e = rw (← e) d
 
 -- the next place, by where the parts of it come from
-pub followed-on : {next end count n h t : ℕ} {m : Move} (x : Place) → m ≡ move.Go n h t → x .height ≡ h → x .tries ≡ t → x .count ≡ count → Advances next n end (x .at)
-    → Followed next end count m (went.On x)
-followed-on {n = n} x e kh kt kc adv = record { shows = (n, rw (kh, kt) e, adv, kc) }
+pub followed-on : {next end count : ℕ} {y : Onward} {m : Move} (x : Place) → m ≡ move.Go y → x .height ≡ y .height → x .tries ≡ y .tries → x .count ≡ count
+    → Advances next (y .passed) end (x .at) → Followed next end count m (went.On x)
+followed-on {y = y} x e kh kt kc adv = record { shows = (y .passed, rw (kh, kt) e, adv, kc) }
+
+-- The entry of a sub-scope: what it names, and its part of the frame
+
+pub sub-at : {sub : ℕ} (at : ℕ) (body : List ℕ) → sub ≡ getD body (at + 1) 0 → sub ≡ getD (drop (at + 1) body) 0 0
+sub-at at body e = let z : at + 1 + 0 ≡ at + 1 = omega arith in e ∙ sym (getD-drop (at + 1) body 0 0 ∙ ap (λ (i : ℕ). getD body i 0) z)
+
+pub record Enterable (directory : List ℕ) (p sub : ℕ) (frame : List ℕ) : Type 0 where
+  pub block : p < 32
+  pub few : sub < 8
+  pub below : blockIn directory p sub < p
+  pub cells : 40 + sub * 32 + 32 ≤ length frame
+
+pub enterable : {code directory : List ℕ} {p : ℕ} {body : List ℕ} {s : Place} {st tr frame memo : List ℕ} {sub : ℕ}
+    → EntersAt code directory p body s st tr frame memo → sub ≡ getD body (s .at + 1) 0 → Enterable directory p sub frame
+enterable {p = p} {body = body} {s = s} {sub = sub} e k =
+    let w = world (e .entry) in
+    let i = sub-at (s .at) body k in
+    let small-entry = entry-small w p (e .entry .block) (e .stands) (e .inside) (e .enters) sub i in
+    record {
+      block = small w p (e .entry .block);
+      few = small-entry .0;
+      below = small-entry .1;
+      cells = in-frame w p (e .entry .block) (e .stands) (e .inside) (e .enters) sub i;
+    }
+
+-- frames in which nothing stands yet
+
+zero-frame : {directory : List ℕ} {p n : ℕ} → 40 + subScopesIn directory p * 32 ≤ n → Fresh directory p (replicate n 0)
+zero-frame {n = n} l = let k = length-replicate {A = ℕ} n 0 in record { size = omega arith; zeros = zeros n }
+
+pub fresh-none : {directory : List ℕ} {p calls : ℕ} → calls ≡ subScopesIn directory p → calls ≡ 0 → Fresh directory p (replicate 40 0)
+fresh-none e z = zero-frame {n = 40} (omega arith)
+
+pub fresh-few : {directory : List ℕ} {p calls : ℕ} → calls ≡ subScopesIn directory p → calls ≤ 2 → Fresh directory p (replicate 104 0)
+fresh-few e l = zero-frame {n = 104} (omega arith)
+
+pub fresh-all : {code directory : List ℕ} {p : ℕ} {own : List ℕ} → Entry code directory p own → Fresh directory p (replicate 296 0)
+fresh-all {p = p} e = let b = bounded (world e) p (e .block) .subScopes in zero-frame {n = 296} (omega arith)

@@ -13,7 +13,7 @@ use Rattle.calculus.specs.declared.Given.the-variants.{Absent}
 use Rattle.cells.specs.Cells.{givenOf, givenAt}
 use Rattle.memo.specs.Rows.{Ungiven, HasRow, RowRoom, Recalled, Remembered}
 use Rattle.memo.proofs.Rows.{nothing-kept, kept-found, kept-noted}
-use Rattle.heads.specs.Heads.{variablesIn}
+use Rattle.directory.specs.Layout.{variablesIn}
 use Rattle.instructions.specs.Views.{givensAt}
 use Rattle.instructions.proofs.Memory.{tab-same}
 use Rattle.blocks.specs.declared.Ran.{Ran}
@@ -36,17 +36,17 @@ unrecalled f l = f .kept (omega arith)
 pub came-from : {code : List ℕ} {p : ℕ} {own own' own'' st tr : List ℕ} {a : Ran} → own' ≡ own → Came code p own' a own'' st tr → Came code p own a own'' st tr
 came-from {code} {p} {own} {own'} {own''} {st} {tr} {a} e k = subst (λ (xs : List ℕ). Came code p xs a own'' st tr) e k
 
-pub entry-from : {code spans heads places : List ℕ} {p : ℕ} {own own' : List ℕ} → own' ≡ own → Entry code spans heads places p own → Entry code spans heads places p own'
-entry-from {code} {spans} {heads} {places} {p} e k = subst (λ (xs : List ℕ). Entry code spans heads places p xs) (sym e) k
+pub entry-from : {code directory : List ℕ} {p : ℕ} {own own' : List ℕ} → own' ≡ own → Entry code directory p own → Entry code directory p own'
+entry-from {code} {directory} {p} e k = subst (λ (xs : List ℕ). Entry code directory p xs) (sym e) k
 
-pub entry-sized : {code spans heads places : List ℕ} {p : ℕ} {own own' : List ℕ} → Entry code spans heads places p own → length own' ≡ 32
-    → Entry code spans heads places p own'
-entry-sized e s = record { accepts = e .accepts; tabled = e .tabled; sizes = e .sizes; block = e .block; room = s }
+pub entry-sized : {code directory : List ℕ} {p : ℕ} {own own' : List ℕ} → Entry code directory p own → length own' ≡ 32
+    → Entry code directory p own'
+entry-sized e s = record { accepts = e .accepts; tabled = e .tabled; block = e .block; room = s }
 
 pub came-so : {code : List ℕ} {p : ℕ} {own own' st tr : List ℕ} {a r : Ran} → Came code p own a own' st tr → a ≡ r → Came code p own r own' st tr
 came-so {code} {p} {own} {own'} {st} {tr} k e = subst (λ (x : Ran). Came code p own x own' st tr) e k
 
-module _ {code spans heads places : List ℕ} {p : ℕ} {own : List ℕ} (e : Entry code spans heads places p own) where
+module _ {code directory : List ℕ} {p : ℕ} {own : List ℕ} (e : Entry code directory p own) where
   few : p < 32
   few = small (world e) p (e .block)
 
@@ -56,7 +56,7 @@ module _ {code spans heads places : List ℕ} {p : ℕ} {own : List ℕ} (e : En
   pub row-room : {own' memo : List ℕ} → length own' ≡ 32 → Known code memo → RowRoom p own' memo
   row-room s k = record { row = has-row k; room = s }
 
-  module _ {n : ℕ} {b : Bool} (v : n ≡ variablesIn heads p) (u : Ungiven own n b) where
+  module _ {n : ℕ} {b : Bool} (v : n ≡ variablesIn directory p) (u : Ungiven own n b) where
     variables-are : n ≡ variablesAt code p
     variables-are = v ∙ variables-same (world e) p (e .block)
 

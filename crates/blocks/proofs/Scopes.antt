@@ -34,7 +34,8 @@ use Rattle.machine.specs.Blocks.{Block, emptyBlock, parse, blocksOf, hasBlock, 
 use Rattle.machine.specs.Acceptance.{accepted}
 use Rattle.machine.specs.Machine.{ran}
 use Rattle.machine.specs.Run.{exec, begin, surroundings, runIn, cellOf}
-use Rattle.verifier.specs.Tables.{blockAt, blockCount, Tabled}
+use Rattle.directory.specs.Layout.{placeIn}
+use Rattle.directory.specs.Tabled.{blockAt, blockCount, Tabled}
 use Rattle.instructions.specs.Views.{tab, givensAt, valuesIn}
 use Rattle.blocks.specs.Entries.{back, runAt}
 use Rattle.blocks.proofs.Invariant.{CellFits, GivensFit, run-cons}
@@ -87,7 +88,7 @@ pub few-variables : (code : List ℕ) → accepted code ≡ true → (p : ℕ) �
 unfolding blockAt
 few-variables code e p = limits code e p .0
 
-module _ {code spans heads places : List ℕ} (e : accepted code ≡ true) (t : Tabled code spans heads places (blockCount code)) where
+module _ {code directory : List ℕ} (e : accepted code ≡ true) (t : Tabled code directory (blockCount code)) where
   pub values-length : (p : ℕ) → p < blockCount code → (gs : List Given) → Fitting (blockAt code p .variables) gs
       → (vs : List Value) (n : ℕ) → runAt code p gs ≡ ran (values vs n) → length (results vs) ≡ resultLength (blockAt code p .variables)
   unfolding blockAt
@@ -103,7 +104,7 @@ module _ {code spans heads places : List ℕ} (e : accepted code ≡ true) (t : 
   as-back = sym (back-all bs)
 
   -- no place, no block
-  pub has-none : (i : ℕ) → getD places i 0 ≡ 0 → hasBlock (blocksOf code) i ≡ false
+  pub has-none : (i : ℕ) → placeIn directory i ≡ 0 → hasBlock (blocksOf code) i ≡ false
   unfolding blockAt
   has-none i z =
       ⊎-elim
@@ -114,16 +115,16 @@ module _ {code spans heads places : List ℕ} (e : accepted code ≡ true) (t : 
       (λ q. q)
       (decide (hasBlock (blocksOf code) i))
 
-  module _ (i : ℕ) (l : i < 32) (there : 0 < getD places i 0) where
+  module _ (i : ℕ) (there : 0 < placeIn directory i) where
     abbrev p : ℕ
-    p = getD places i 0 - 1
+    p = placeIn directory i - 1
 
     pub is-block : p < blockCount code
-    is-block = let k = t .present i l there .0 in omega arith
+    is-block = let k = t .present i there .0 in omega arith
 
     is-scope : getD bs p emptyBlock .scope ≡ i
     unfolding blockAt
-    is-scope = t .present i l there .1
+    is-scope = t .present i there .1
 
     one : (r : ℕ) → r < blockCount code → getD bs r emptyBlock .scope ≡ i → r ≡ p
     unfolding blockAt

@@ -10,13 +10,13 @@ use Rattle.lists.specs.Writing.{valueType}
 use Rattle.evaluation.specs.Run.{values}
 use Rattle.machine.specs.Acceptance.{weightIn}
 use Rattle.machine.specs.Machine.{ran}
-use Rattle.verifier.specs.Tables.{blockAt, blockCount}
+use Rattle.directory.specs.Tabled.{blockAt, blockCount}
 use Rattle.blocks.specs.Entries.{back, runAt}
 use Rattle.blocks.proofs.Invariant.{GivensFit, RanGood, block-good, run-cons}
 use Rattle.blocks.proofs.Tables.{World, fit, below}
 use Rattle.blocks.specs.Running.{block, before, envAt, weightAt}
 
-module _ {code spans heads places : List ℕ} (o : World code spans heads places) (p : ℕ) (l : p < blockCount code) (gs : List Given) (f : GivensFit (block code p .variables) gs) where
+module _ {code directory : List ℕ} (o : World code directory) (p : ℕ) (l : p < blockCount code) (gs : List Given) (f : GivensFit (block code p .variables) gs) where
   run-good : RanGood (before code p) (block code p) (envAt code p) (GivensFit (block code p .variables) gs) (weightIn (before code p)) (weightAt code p) (runAt code p gs)
   unfolding runAt blockAt back
   run-good =

@@ -12,11 +12,11 @@ use Rattle.machine.specs.Blocks.{Block, emptyBlock, parse}
 use Rattle.machine.specs.Acceptance.{accepted}
 use Rattle.machine.specs.Machine as machine
 use Rattle.machine.specs.Run.{atEnd, runIn}
-use Rattle.verifier.specs.Tables as tables
+use Rattle.directory.specs.Layout.{variablesIn, subScopesIn}
+use Rattle.directory.specs.Tabled as tables
 use Rattle.blocks.specs.declared.Ran.{Ran}
 use Rattle.blocks.specs.declared.Ran.the-variants.{Values, Ended, Stuck, NoRoom}
 use Rattle.instructions.specs.Views.{givensAt, valuesIn, memory}
-use Rattle.heads.specs.Heads.{variablesIn, subScopesIn}
 use Rattle.memo.specs.Rows.{Memo}
 
 -- n cells from v on are not 0
@@ -49,23 +49,27 @@ Shows Stuck s own v short = s ≡ machine.stuck
 Shows NoRoom s own v short = short
 
 -- the cells of block p's variables and the marks of its sub-scopes
-pub record Ending (heads : List ℕ) (p : ℕ) (own marks : List ℕ) : Type 0 where
+pub record Ending (directory : List ℕ) (p : ℕ) (own frame : List ℕ) : Type 0 where
   pub block : p < 32
-  pub variables : variablesIn heads p ≤ length own
-  pub subScopes : subScopesIn heads p ≤ length marks
+  pub variables : variablesIn directory p ≤ length own
+  pub subScopes : 32 + subScopesIn directory p ≤ length frame
 
 -- block p is at its end
-pub record Finished (heads : List ℕ) (p : ℕ) (own marks : List ℕ) (count : ℕ) (r : Ran) : Type 0 where
-  pub shows : (sizes : ℕ → ℕ) (flags called : List ℕ)
-      → Shows r (atEnd (memory (variablesIn heads p) (subScopesIn heads p) sizes own flags called marks count)) own (variablesIn heads p) ⊥
+pub record Finished (directory : List ℕ) (p : ℕ) (own frame : List ℕ) (count : ℕ) (r : Ran) : Type 0 where
+  pub shows : (sizes : ℕ → ℕ)
+      → Shows r (atEnd (memory (variablesIn directory p) (subScopesIn directory p) sizes own frame count)) own (variablesIn directory p) ⊥
 
--- block p of accepted code with its tables can be entered
-pub record Entry (code spans heads places : List ℕ) (p : ℕ) (own : List ℕ) : Type 0 where
+-- block p of accepted code with its directory can be entered
+pub record Entry (code directory : List ℕ) (p : ℕ) (own : List ℕ) : Type 0 where
   pub accepts : accepted code ≡ true
-  pub tabled : tables.Tabled code spans heads places (tables.blockCount code)
-  pub sizes : tables.Room spans heads places
+  pub tabled : tables.Tabled code directory (tables.blockCount code)
   pub block : p < tables.blockCount code
   pub room : length own ≡ 32
+
+-- a frame in which nothing is stored, handed over or entered, with room for the sub-scopes of block p
+pub record Fresh (directory : List ℕ) (p : ℕ) (frame : List ℕ) : Type 0 where
+  pub size : 40 + subScopesIn directory p * 32 ≤ length frame
+  pub zeros : (i : ℕ) → getD frame i 0 ≡ 0
 
 -- an entry came to what it should
 pub record Came (code : List ℕ) (p : ℕ) (given : List ℕ) (r : Ran) (own st tr : List ℕ) : Type 0 where

@@ -129,14 +129,14 @@ put-room : (st : List ℕ) (h e t : ℕ) {tr : List ℕ} → h < 1024 → h < le
 put-room st h e t p q r = let l = length-set st h e in record { height = omega arith; stack = omega arith; tries = r .0; pairs = r .1 }
 
 pub push-go : (st : List ℕ) (h e n t : ℕ) → h < 1024 → h < length st → (tr : List ℕ) (m : Memory) → Room h t st tr
-    → Moves (move.Go n (h + 1) t) n (set st h e) tr m (pushed (joinedOf e) (entries st h) (opened tr t) m)
+    → Moves (move.Go (record { passed = n; height = h + 1; tries = t })) n (set st h e) tr m (pushed (joinedOf e) (entries st h) (opened tr t) m)
 push-go st h e n t p q tr m r =
     let z : n - n ≡ 0 = omega arith in
     (rw (entries-length st h, lt-ltb h 1024 p, entries-put st h e q, z), omega arith, put-room st h e t p q (r .tries, r .pairs))
 
 pub answer-go : (st : List ℕ) (h c t : ℕ) {o : Outcome} {v : Value} → o ≡ Gives v → Encodes v c → (h < length st) × (h < 1024)
     → (tr : List ℕ) (m : Memory) → (t ≤ 512) × (t * 2 ≤ length tr)
-    → Moves (move.Go 0 (h + 1) t) 0 (set st h c) tr m (answered o (entries st h) (opened tr t) m)
+    → Moves (move.Go (record { passed = 0; height = h + 1; tries = t })) 0 (set st h c) tr m (answered o (entries st h) (opened tr t) m)
 answer-go st h c t e k p tr m q =
     (rw (e, entries-put st h c (p .0), k .entry), omega arith, put-room st h c t (p .1) (p .0) q)
 
@@ -221,7 +221,7 @@ module _ (env : Surroundings) (left : ℕ) (m : Memory) where
   pub join-go : (st : List ℕ) (h e t : ℕ) → 2 ≤ h → (h ≤ length st) × (h ≤ 1024)
       → e ≡ joinCell (getD st (h - 2) 0) (getD st (h - 1) 0)
       → (tr : List ℕ) → (t ≤ 512) × (t * 2 ≤ length tr)
-      → Moves (move.Go 0 (h - 1) t) 0 (set st (h - 2) e) tr m (effect env Instruction.join left (entries st h) (opened tr t) m)
+      → Moves (move.Go (record { passed = 0; height = h - 1; tries = t })) 0 (set st (h - 2) e) tr m (effect env Instruction.join left (entries st h) (opened tr t) m)
   unfolding effect
   join-go st h e t p q k tr r =
       let l = length-set st (h - 2) e in
@@ -247,11 +247,11 @@ module _ (env : Surroundings) (left : ℕ) (m : Memory) where
         below : Room (h - 1) t st tr
         below = record { height = omega arith; stack = omega arith; tries = q .0; pairs = q .1 }
 
-        pub branch-yes : y ≡ true → Moves (move.Go 2 (h - 1) t) 2 st tr m (effect env (Instruction.jumpIfNo d) left (entries st h) (opened tr t) m)
+        pub branch-yes : y ≡ true → Moves (move.Go (record { passed = 2; height = h - 1; tries = t })) 2 st tr m (effect env (Instruction.jumpIfNo d) left (entries st h) (opened tr t) m)
         unfolding effect
         branch-yes f = (rw (k .some v e .0, ← a, not-false r n, ← b, f), omega arith, below)
 
-        pub branch-no : y ≡ false → Moves (move.Go (2 + d) (h - 1) t) 2 st tr m (effect env (Instruction.jumpIfNo d) left (entries st h) (opened tr t) m)
+        pub branch-no : y ≡ false → Moves (move.Go (record { passed = 2 + d; height = h - 1; tries = t })) 2 st tr m (effect env (Instruction.jumpIfNo d) left (entries st h) (opened tr t) m)
         unfolding effect
         branch-no f = let z : 2 + d - 2 ≡ d = omega arith in (rw (k .some v e .0, ← a, not-false r n, ← b, f, z), omega arith, below)
 
@@ -267,13 +267,13 @@ module _ (env : Surroundings) (left : ℕ) (m : Memory) where
 
     module _ (tr : List ℕ) (q : (t ≤ 512) × (t * 2 ≤ length tr)) (l : 0 < h) where
       pub settle-nothing : getD st (h - 1) 0 ≡ 0
-          → Moves (move.Go 2 (h - 1) t) 2 st tr m (effect env (Instruction.settle d) left (entries st h) (opened tr t) m)
+          → Moves (move.Go (record { passed = 2; height = h - 1; tries = t })) 2 st tr m (effect env (Instruction.settle d) left (entries st h) (opened tr t) m)
       unfolding effect
       settle-nothing e =
           (rw (entries-top st h l, nothing-entry e), omega arith, record { height = omega arith; stack = omega arith; tries = q .0; pairs = q .1 })
 
       pub settle-value : (getD st (h - 1) 0 ≡ 0 → ⊥) → getD st (h - 1) 0 < manyCell
-          → Moves (move.Go (2 + d) h t) 2 st tr m (effect env (Instruction.settle d) left (entries st h) (opened tr t) m)
+          → Moves (move.Go (record { passed = 2 + d; height = h; tries = t })) 2 st tr m (effect env (Instruction.settle d) left (entries st h) (opened tr t) m)
       unfolding effect
       settle-value e f =
           let z : 2 + d - 2 ≡ d = omega arith in

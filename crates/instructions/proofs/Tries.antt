@@ -107,7 +107,7 @@ module _ {left : ℕ} {tr : List ℕ} {t i : ℕ} (k : Passed left tr t i) where
     pass-stuck r = k .rest (entries st h) m ∙ raise-stuck left tr i (entries st h) m p q (rw (entries-length st h) r)
 
     pub pass-lands : getD tr ((i - 1) * 2 + 1) 0 ≤ h → Room h t st tr
-        → Moves (move.Go (left - getD tr ((i - 1) * 2) 0) (getD tr ((i - 1) * 2 + 1) 0) (i - 1)) 0 st tr m (raised left (entries st h) (opened tr t) m)
+        → Moves (move.Go (record { passed = left - getD tr ((i - 1) * 2) 0; height = getD tr ((i - 1) * 2 + 1) 0; tries = i - 1 })) 0 st tr m (raised left (entries st h) (opened tr t) m)
     pass-lands r o =
         let keep = getD tr ((i - 1) * 2 + 1) 0 in
         let b = k .below in
@@ -125,7 +125,7 @@ module _ (tr : List ℕ) (t : ℕ) (st : List ℕ) (h : ℕ) (m : Memory) (x : �
   try-full p = rw (opened-length tr t, le-ltb t 512 p)
 
   pub try-go : t < 512 → t * 2 + 1 < length tr → (h ≤ length st) × (h ≤ 1024)
-      → Moves (move.Go 2 h (t + 1)) 2 st (set (set tr (t * 2) x) (t * 2 + 1) h) m (tried x (entries st h) (opened tr t) m)
+      → Moves (move.Go (record { passed = 2; height = h; tries = t + 1 })) 2 st (set (set tr (t * 2) x) (t * 2 + 1) h) m (tried x (entries st h) (opened tr t) m)
   try-go p q r =
       let a = length-set tr (t * 2) x in
       let b = length-set (set tr (t * 2) x) (t * 2 + 1) h in (
@@ -139,7 +139,7 @@ module _ (st tr : List ℕ) (h t : ℕ) (m : Memory) (o : Room h t st tr) where
   unfolding opened
   close-none e = rw e
 
-  pub close-go : 0 < t → Moves (move.Go 0 h (t - 1)) 0 st tr m (closed (entries st h) (opened tr t) m)
+  pub close-go : 0 < t → Moves (move.Go (record { passed = 0; height = h; tries = t - 1 })) 0 st tr m (closed (entries st h) (opened tr t) m)
   close-go p = (
     rw (opened-top tr t p),
     omega arith,

@@ -1,4 +1,8 @@
--- What the machine's slices stand for: stack, open tries and memory.
+-- What the machine's slices stand for: stack, open tries and memory. An entry has a cell for each of its 32 own variables, and a frame:
+--   flags    for each of 32 own variables whether it was stored
+--   marks    for each of 8 sub-scopes, from 32 on, whether it was entered
+--   cells    from 40 on 32 for each sub-scope, of its variables
+-- What a sub-scope works on as its own variables are its cells in the frame of the scope that enters it.
 use Prim.Native.Nat.{ℕ, zero, suc, _+_, _*_}
 use mathlib.Core.Bool.{Bool, true, false}
 use mathlib.Core.List.{List, [], _∷_}
@@ -33,9 +37,9 @@ cellWith b Absent = unset
 cellWith true (Present v) = given v
 cellWith false (Present v) = stored v
 
--- own variable x: flags tell what was stored
+-- own variable x
 unfoldable pub ownCell : List ℕ → List ℕ → ℕ → Cell
-ownCell own flags x = cellWith (eqb (getD flags x 0) 0) (givenOf (getD own x 0))
+ownCell own frame x = cellWith (eqb (getD frame x 0) 0) (givenOf (getD own x 0))
 
 -- what n cells from a place on hold, as what is given and as values
 unfoldable pub givensAt : List ℕ → ℕ → ℕ → List Given
@@ -48,11 +52,11 @@ abbrev pub calleeWith : Bool → List Given → List Value → Callee
 calleeWith true gs vs = waiting gs
 calleeWith false gs vs = entered vs
 
--- sub-scope k with n variables: 32 cells for each sub-scope, and a mark where it was entered
-unfoldable pub calleeAt : List ℕ → List ℕ → ℕ → ℕ → Callee
-calleeAt called marks n k = calleeWith (eqb (getD marks k 0) 0) (givensAt called (k * 32) n) (valuesIn called (k * 32) n)
+-- sub-scope k with n variables
+unfoldable pub calleeAt : List ℕ → ℕ → ℕ → Callee
+calleeAt frame n k = calleeWith (eqb (getD frame (32 + k) 0) 0) (givensAt frame (40 + k * 32) n) (valuesIn frame (40 + k * 32) n)
 
 -- v own variables, s sub-scopes of so many variables each
-unfoldable pub memory : ℕ → ℕ → (ℕ → ℕ) → List ℕ → List ℕ → List ℕ → List ℕ → ℕ → Memory
-memory v s sizes own flags called marks c =
-    record { own = tab (ownCell own flags) 0 v; callees = tab (λ k. calleeAt called marks (sizes k) k) 0 s; count = c }
+unfoldable pub memory : ℕ → ℕ → (ℕ → ℕ) → List ℕ → List ℕ → ℕ → Memory
+memory v s sizes own frame c =
+    record { own = tab (ownCell own frame) 0 v; callees = tab (λ k. calleeAt frame (sizes k) k) 0 s; count = c }

@@ -1,4 +1,5 @@
-// The instructions of accepted code other than the entry of a sub-scope, over parts of a lent stack and of lent tries.
+// The instructions of accepted code other than the entry of a sub-scope, over parts of a lent stack and of lent tries, and the frame of an entry,
+// as specs/Views.antt sets it out.
 use answers::Cause;
 use book::ValueType;
 use calculus::Binary;
@@ -13,12 +14,13 @@ use cells::ZERO;
 use cells::cell_of;
 use cells::join;
 use cells::value_in;
-use heads::block_of;
-use heads::type_at;
+use directory::block_of;
+use directory::type_at;
 use integers::distance_at;
 use integers::number_at;
 use operators::apply_binary;
 use operators::apply_unary;
+use operators::operator_of;
 use operators::truth_of;
 use record::KIND_ADD;
 use record::KIND_AND;
@@ -65,18 +67,41 @@ ghost use Rattle.cells.specs.Joining.{joinedOf};
 ghost use Rattle.book.specs.Syntax.{sameType};
 ghost use Rattle.lists.specs.Writing.{valueType};
 ghost use Rattle.machine.specs.Instructions.{Instruction};
-ghost use Rattle.machine.specs.Machine.{Memory, answered, pushed, raised, tried, closed, readFrom, readIn, jumpedIfGiven, effect, Surroundings};
+ghost use Rattle.machine.specs.Machine.{Memory, go, answered, pushed, raised, tried, closed, readFrom, readIn, jumpedIfGiven, effect, Surroundings};
 ghost use Rattle.instructions.specs.Views.{entries, opened, ownCell, calleeAt};
-ghost use Rattle.heads.specs.Heads.{typeIn, blockIn};
-ghost use Rattle.instructions.specs.Effects.{Room, Moves, Encodes, Takes, suitable, Storing, Handing, StoreAt, OverrideAt, Controls, Passed, Stepping, Stepped};
+ghost use Rattle.directory.specs.Layout.{typeIn, blockIn};
+ghost use Rattle.instructions.specs.Effects.{Room, Moves, Encodes, Takes, suitable, InFrame, Storing, Handing, StoreAt, OverrideAt, Stepping, Stepped};
 
-// After an instruction: go on so many bytes behind its kind, with a height and so many open tries; or stop.
+// A place in the run of a block: the byte, the stack's height, the open tries, and the count of scopes entered.
+pub struct Place {
+    pub at: usize,
+    pub height: usize,
+    pub tries: usize,
+    pub count: usize,
+}
+
+// How a run goes on: so many bytes behind an instruction's kind, with a height and so many open tries.
+pub struct Onward {
+    pub passed: usize,
+    pub height: usize,
+    pub tries: usize,
+}
+
+// After an instruction: the run goes on, or stops.
 pub enum Move {
-    Go(usize, usize, usize),
+    Go(Onward),
     Ended(Cause),
     Stuck,
     NoRoom,
 }
+
+// In a frame: the marks of entered sub-scopes, behind the flags of stored variables, and the cells of the sub-scopes' variables.
+pub const MARKS: usize = 32;
+
+pub const CALLED: usize = 40;
+
+// The cells of a scope's variables, and the limits of one entry.
+const VARIABLES: usize = 32;
 
 const STACK: usize = 1024;
 
@@ -134,7 +159,11 @@ fn push(st: &mut [u64], h: usize, e: u64, n: usize, t: usize) -> Move
         return Move::NoRoom;
     }
     st[h] = e;
-    Move::Go(n, h + 1, t)
+    Move::Go(Onward {
+        passed: n,
+        height: h + 1,
+        tries: t,
+    })
 }
 
 // Pushes what an operator gives onto a stack that had more.
@@ -146,7 +175,11 @@ fn answer(o: Outcome, st: &mut [u64], h: usize, t: usize) -> Move
     match o {
         Outcome::Gives(v) => {
             st[h] = encode(v);
-            Move::Go(0, h + 1, t)
+            Move::Go(Onward {
+                passed: 0,
+                height: h + 1,
+                tries: t,
+            })
         }
         Outcome::Ends(c) => Move::Ended(c),
     }
@@ -215,7 +248,23 @@ fn join_top(st: &mut [u64], h: usize, t: usize) -> Move
     let a = st[h - 2];
     let b = st[h - 1];
     st[h - 2] = join(a, b);
-    Move::Go(0, h - 1, t)
+    Move::Go(Onward {
+        passed: 0,
+        height: h - 1,
+        tries: t,
+    })
+}
+
+// Jumps.
+fn jump(d: usize, h: usize, t: usize) -> Move
+    requires { ⌜ d < 65536 ⌝ }
+    ensures { λ r. ⌜ ((st tr : List ℕ) (m : Memory) → Room h t st tr → Moves r 2 st tr m (go d (entries st h) (opened tr t) m)) ⌝ }
+{
+    Move::Go(Onward {
+        passed: LENGTH_DISTANCE + d,
+        height: h,
+        tries: t,
+    })
 }
 
 // Takes a yes/no, and jumps on no.
@@ -231,9 +280,17 @@ fn branch(d: usize, st: &[u64], h: usize, t: usize) -> Move
                 return Move::Stuck;
             }
             if truth_of(v) {
-                return Move::Go(LENGTH_DISTANCE, h - 1, t);
+                return Move::Go(Onward {
+                    passed: LENGTH_DISTANCE,
+                    height: h - 1,
+                    tries: t,
+                });
             }
-            Move::Go(LENGTH_DISTANCE + d, h - 1, t)
+            Move::Go(Onward {
+                passed: LENGTH_DISTANCE + d,
+                height: h - 1,
+                tries: t,
+            })
         }
     }
 }
@@ -249,10 +306,18 @@ fn settle(d: usize, st: &[u64], h: usize, t: usize) -> Move
     }
     let c = st[h - 1];
     if c == NOTHING {
-        return Move::Go(LENGTH_DISTANCE, h - 1, t);
+        return Move::Go(Onward {
+            passed: LENGTH_DISTANCE,
+            height: h - 1,
+            tries: t,
+        });
     }
     if c < MANY {
-        return Move::Go(LENGTH_DISTANCE + d, h, t);
+        return Move::Go(Onward {
+            passed: LENGTH_DISTANCE + d,
+            height: h,
+            tries: t,
+        });
     }
     Move::Ended(Cause::Conflict)
 }
@@ -270,7 +335,11 @@ fn raise(left: usize, st: &[u64], h: usize, tr: &[usize], t: usize) -> Move
         if land <= left {
             let keep = tr[i * 2 + 1];
             if keep <= h {
-                return Move::Go(left - land, keep, i);
+                return Move::Go(Onward {
+                    passed: left - land,
+                    height: keep,
+                    tries: i,
+                });
             }
             return Move::Stuck;
         }
@@ -303,7 +372,11 @@ fn begin_try(left: usize, d: usize, h: usize, tr: &mut [usize], t: usize) -> Mov
     }
     tr[t * 2] = landing(left, d);
     tr[t * 2 + 1] = h;
-    Move::Go(LENGTH_DISTANCE, h, t + 1)
+    Move::Go(Onward {
+        passed: LENGTH_DISTANCE,
+        height: h,
+        tries: t + 1,
+    })
 }
 
 // Closes the latest try.
@@ -314,7 +387,11 @@ fn end_try(h: usize, t: usize) -> Move
     if t == 0 {
         Move::Stuck
     } else {
-        Move::Go(0, h, t - 1)
+        Move::Go(Onward {
+            passed: 0,
+            height: h,
+            tries: t - 1,
+        })
     }
 }
 
@@ -392,24 +469,22 @@ fn read_own(x: usize, own: &[u64], st: &mut [u64], h: usize, t: usize) -> Move
 }
 
 // Pushes variable x of sub-scope k.
-fn read_called(
-    k: usize,
-    x: usize,
-    marks: &[u64],
-    called: &[u64],
-    st: &mut [u64],
-    h: usize,
-    t: usize,
-) -> Move
-    requires { ⌜ (k < 8) × (x < 32) × (length (now marks) ≡ 8) × (length (now called) ≡ 256) ⌝ }
+fn read_called(k: usize, x: usize, frame: &[u64], st: &mut [u64], h: usize, t: usize) -> Move
+    requires { ⌜ InFrame k x (now frame) ⌝ }
     ensures { λ r. ⌜ ((n : ℕ) (tr : List ℕ) (m : Memory) → x < n → Room h t (now (st .entry)) tr
         → Moves r 2 (now (st .exit)) tr m
-        (readIn (calleeAt (now (called .entry)) (now (marks .entry)) n k) x (entries (now (st .entry)) h) (opened tr t) m)) ⌝ }
+        (readIn (calleeAt (now (frame .entry)) n k) x (entries (now (st .entry)) h) (opened tr t) m)) ⌝ }
 {
-    if marks[k] == 0 {
+    if frame[MARKS + k] == 0 {
         return Move::Stuck;
     }
-    push(st, h, value_cell(called[k * 32 + x]), LENGTH_CALLED, t)
+    push(
+        st,
+        h,
+        value_cell(frame[CALLED + k * VARIABLES + x]),
+        LENGTH_CALLED,
+        t,
+    )
 }
 
 // Stores into own variable x of a type.
@@ -420,10 +495,10 @@ fn store(
     h: usize,
     t: usize,
     own: &mut [u64],
-    flags: &mut [u8],
+    frame: &mut [u64],
 ) -> Move
-    requires { ⌜ (h ≤ length (now st)) × (h ≤ 1024) × (x < length (now own)) × (x < length (now flags)) ⌝ }
-    ensures { λ r. ⌜ Storing wanted x (now (st .entry)) h t (now (own .entry)) (now (flags .entry)) r (now (own .exit)) (now (flags .exit)) ⌝ }
+    requires { ⌜ (h ≤ length (now st)) × (h ≤ 1024) × (x < 32) × (x < length (now own)) × (x < length (now frame)) ⌝ }
+    ensures { λ r. ⌜ Storing wanted x (now (st .entry)) h t (now (own .entry)) (now (frame .entry)) r (now (own .exit)) (now (frame .exit)) ⌝ }
 {
     match top_value(st, h) {
         Given::Absent => Move::Stuck,
@@ -435,8 +510,12 @@ fn store(
                 return Move::Stuck;
             }
             own[x] = encode(v);
-            flags[x] = 1;
-            Move::Go(LENGTH_OWN, h - 1, t)
+            frame[x] = 1;
+            Move::Go(Onward {
+                passed: LENGTH_OWN,
+                height: h - 1,
+                tries: t,
+            })
         }
     }
 }
@@ -449,11 +528,10 @@ fn hand_over(
     st: &[u64],
     h: usize,
     t: usize,
-    marks: &[u64],
-    called: &mut [u64],
+    frame: &mut [u64],
 ) -> Move
-    requires { ⌜ (h ≤ length (now st)) × (h ≤ 1024) × (k < 8) × (x < 32) × (length (now marks) ≡ 8) × (length (now called) ≡ 256) ⌝ }
-    ensures { λ r. ⌜ Handing wanted k x (now (st .entry)) h t (now (marks .entry)) (now (called .entry)) r (now (called .exit)) ⌝ }
+    requires { ⌜ (h ≤ length (now st)) × (h ≤ 1024) × InFrame k x (now frame) ⌝ }
+    ensures { λ r. ⌜ Handing wanted k x (now (st .entry)) h t (now (frame .entry)) r (now (frame .exit)) ⌝ }
 {
     match top_value(st, h) {
         Given::Absent => Move::Stuck,
@@ -461,132 +539,132 @@ fn hand_over(
             if !has_type(wanted, v) {
                 return Move::Stuck;
             }
-            if marks[k] != 0 {
+            if frame[MARKS + k] != 0 {
                 return Move::Stuck;
             }
-            let at = k * 32 + x;
-            if called[at] != NOTHING {
+            let at = CALLED + k * VARIABLES + x;
+            if frame[at] != NOTHING {
                 return Move::Stuck;
             }
-            called[at] = encode(v);
-            Move::Go(LENGTH_CALLED, h - 1, t)
+            frame[at] = encode(v);
+            Move::Go(Onward {
+                passed: LENGTH_CALLED,
+                height: h - 1,
+                tries: t,
+            })
         }
     }
 }
 
 // Jumps where own variable x is given.
-fn jump_if_given(x: usize, d: usize, own: &[u64], flags: &[u8], h: usize, t: usize) -> Move
-    requires { ⌜ (x < length (now own)) × (x < length (now flags)) × (d < 65536) ⌝ }
+fn jump_if_given(x: usize, d: usize, own: &[u64], frame: &[u64], h: usize, t: usize) -> Move
+    requires { ⌜ (x < length (now own)) × (x < length (now frame)) × (d < 65536) ⌝ }
     ensures { λ r. ⌜ ((st tr : List ℕ) (m : Memory) → Room h t st tr
-        → Moves r 3 st tr m (jumpedIfGiven (ownCell (now (own .entry)) (now (flags .entry)) x) d (entries st h) (opened tr t) m)) ⌝ }
+        → Moves r 3 st tr m (jumpedIfGiven (ownCell (now (own .entry)) (now (frame .entry)) x) d (entries st h) (opened tr t) m)) ⌝ }
 {
     if own[x] == NOTHING {
-        return Move::Go(LENGTH_OWN_DISTANCE, h, t);
+        return Move::Go(Onward {
+            passed: LENGTH_OWN_DISTANCE,
+            height: h,
+            tries: t,
+        });
     }
-    if flags[x] == 0 {
-        return Move::Go(LENGTH_OWN_DISTANCE + d, h, t);
+    if frame[x] == 0 {
+        return Move::Go(Onward {
+            passed: LENGTH_OWN_DISTANCE + d,
+            height: h,
+            tries: t,
+        });
     }
-    Move::Go(LENGTH_OWN_DISTANCE, h, t)
+    Move::Go(Onward {
+        passed: LENGTH_OWN_DISTANCE,
+        height: h,
+        tries: t,
+    })
 }
 
 // Hands over to the variable that an instruction names.
 fn override_at(
     rest: &[u8],
-    heads: &[u8],
-    places: &[u8],
+    directory: &[usize],
     p: usize,
-    marks: &[u64],
     st: &[u64],
     h: usize,
     t: usize,
-    called: &mut [u64],
+    frame: &mut [u64],
 ) -> Move
-    requires { ⌜ OverrideAt (now rest) (now heads) (now places) p (now marks) (now st) h (now called) ⌝ }
-    ensures { λ r. ⌜ Handing (typeIn (now (heads .entry)) (blockIn (now (heads .entry)) (now (places .entry)) p (getD (now (rest .entry)) 0 0)) (getD (now (rest .entry)) 1 0))
-        (getD (now (rest .entry)) 0 0) (getD (now (rest .entry)) 1 0) (now (st .entry)) h t (now (marks .entry)) (now (called .entry)) r (now (called .exit)) ⌝ }
+    requires { ⌜ OverrideAt (now rest) (now directory) p (now st) h (now frame) ⌝ }
+    ensures { λ r. ⌜ Handing (typeIn (now (directory .entry)) (blockIn (now (directory .entry)) p (getD (now (rest .entry)) 0 0)) (getD (now (rest .entry)) 1 0))
+        (getD (now (rest .entry)) 0 0) (getD (now (rest .entry)) 1 0) (now (st .entry)) h t (now (frame .entry)) r (now (frame .exit)) ⌝ }
 {
     let k = first(rest);
     let x = second(rest);
-    let q = block_of(heads, places, p, k);
-    hand_over(type_at(heads, q, x), k, x, st, h, t, marks, called)
+    let q = block_of(directory, p, k);
+    hand_over(type_at(directory, q, x), k, x, st, h, t, frame)
 }
 
 // Stores into the variable that an instruction names.
 fn store_at(
     rest: &[u8],
-    heads: &[u8],
+    directory: &[usize],
     p: usize,
     st: &[u64],
     h: usize,
     t: usize,
     own: &mut [u64],
-    flags: &mut [u8],
+    frame: &mut [u64],
 ) -> Move
-    requires { ⌜ StoreAt (now rest) p (now st) h (now own) (now flags) ⌝ }
-    ensures { λ r. ⌜ Storing (typeIn (now (heads .entry)) p (getD (now (rest .entry)) 0 0)) (getD (now (rest .entry)) 0 0)
-        (now (st .entry)) h t (now (own .entry)) (now (flags .entry)) r (now (own .exit)) (now (flags .exit)) ⌝ }
+    requires { ⌜ StoreAt (now rest) p (now st) h (now own) (now frame) ⌝ }
+    ensures { λ r. ⌜ Storing (typeIn (now (directory .entry)) p (getD (now (rest .entry)) 0 0)) (getD (now (rest .entry)) 0 0)
+        (now (st .entry)) h t (now (own .entry)) (now (frame .entry)) r (now (own .exit)) (now (frame .exit)) ⌝ }
 {
     let x = first(rest);
-    store(type_at(heads, p, x), x, st, h, t, own, flags)
+    store(type_at(directory, p, x), x, st, h, t, own, frame)
 }
 
-// Does an instruction that works on stack and tries alone.
-fn control(kind: u8, rest: &[u8], st: &mut [u64], h: usize, tr: &mut [usize], t: usize) -> Move
-    requires { ⌜ Room h t (now st) (now tr) × Controls kind ⌝ }
-    ensures { λ r. ⌜ Passed kind (now (rest .entry)) (now (st .entry)) h (now (tr .entry)) t r (now (st .exit)) (now (tr .exit)) ⌝ }
+// Does the instruction at a place of block p, one other than the entry of a sub-scope.
+pub fn step(
+    body: &[u8],
+    s: Place,
+    directory: &[usize],
+    p: usize,
+    st: &mut [u64],
+    tr: &mut [usize],
+    own: &mut [u64],
+    frame: &mut [u64],
+) -> Move
+    requires { ⌜ Stepping (now directory) p (now body) s (now st) (now tr) (now own) (now frame) ⌝ }
+    ensures { λ r. ⌜ Stepped (now (directory .entry)) p (now (body .entry)) s (now (st .entry)) (now (tr .entry)) (now (own .entry)) (now (frame .entry))
+        r (now (st .exit)) (now (tr .exit)) (now (own .exit)) (now (frame .exit)) ⌝ }
 {
+    let at = s.at;
+    let kind = body[at];
+    let rest = &body[at + 1..];
+    let h = s.height;
+    let t = s.tries;
     match kind {
         KIND_CONSTANT => push_truth(rest, st, h, t),
         KIND_NUMBER => push_number(rest, st, h, t),
+        KIND_OWN => read_own(first(rest), own, st, h, t),
+        KIND_CALLED => read_called(first(rest), second(rest), frame, st, h, t),
         KIND_NOT => unary(Unary::Not, st, h, t),
         KIND_NEGATE => unary(Unary::Negate, st, h, t),
-        KIND_AND => binary(Binary::And, st, h, t),
-        KIND_ADD => binary(Binary::Add, st, h, t),
-        KIND_SUBTRACT => binary(Binary::Subtract, st, h, t),
-        KIND_EQUAL => binary(Binary::Equal, st, h, t),
-        KIND_LESS => binary(Binary::Less, st, h, t),
+        KIND_AND | KIND_ADD | KIND_SUBTRACT | KIND_EQUAL | KIND_LESS => {
+            binary(operator_of(kind), st, h, t)
+        }
         KIND_RAISE_EMPTY => raise(rest.len(), st, h, tr, t),
         KIND_RAISE_CONFLICT => Move::Ended(Cause::Conflict),
-        KIND_JUMP => Move::Go(LENGTH_DISTANCE + distance(rest, 0), h, t),
+        KIND_JUMP => jump(distance(rest, 0), h, t),
         KIND_JUMP_IF_NO => branch(distance(rest, 0), st, h, t),
         KIND_TRY => begin_try(rest.len(), distance(rest, 0), h, tr, t),
         KIND_END_TRY => end_try(h, t),
-        KIND_PUSH_NOTHING => push(st, h, 0, 0, t),
+        KIND_PUSH_NOTHING => push(st, h, NOTHING, 0, t),
         KIND_JOIN => join_top(st, h, t),
         KIND_SETTLE => settle(distance(rest, 0), st, h, t),
-        // Never met in accepted code: `step` and the entry of blocks do the other kinds.
+        KIND_STORE => store_at(rest, directory, p, st, h, t, own, frame),
+        KIND_OVERRIDE => override_at(rest, directory, p, st, h, t, frame),
+        KIND_JUMP_IF_GIVEN => jump_if_given(first(rest), distance(rest, 1), own, frame, h, t),
+        // Never met: accepted code has no other kind, and the entry of a sub-scope is none of these.
         _ => Move::Stuck,
-    }
-}
-
-// Does an instruction other than the entry of a sub-scope, by its kind and the bytes of the block behind it.
-pub fn step(
-    kind: u8,
-    rest: &[u8],
-    heads: &[u8],
-    places: &[u8],
-    p: usize,
-    marks: &[u64],
-    st: &mut [u64],
-    h: usize,
-    tr: &mut [usize],
-    t: usize,
-    own: &mut [u64],
-    flags: &mut [u8],
-    called: &mut [u64],
-) -> Move
-    requires { ⌜ Stepping (now heads) (now places) p kind (now rest) (now st) h (now tr) t (now own) (now flags) (now called) (now marks) ⌝ }
-    ensures { λ r. ⌜ Stepped (now (heads .entry)) (now (places .entry)) p kind (now (rest .entry)) (now (st .entry)) h (now (tr .entry)) t
-        (now (own .entry)) (now (flags .entry)) (now (called .entry)) (now (marks .entry))
-        r (now (st .exit)) (now (tr .exit)) (now (own .exit)) (now (flags .exit)) (now (called .exit)) ⌝ }
-{
-    match kind {
-        KIND_OWN => read_own(first(rest), own, st, h, t),
-        KIND_CALLED => read_called(first(rest), second(rest), marks, called, st, h, t),
-        KIND_STORE => store_at(rest, heads, p, st, h, t, own, flags),
-        KIND_OVERRIDE => override_at(rest, heads, places, p, marks, st, h, t, called),
-        KIND_JUMP_IF_GIVEN => jump_if_given(first(rest), distance(rest, 1), own, flags, h, t),
-        // The kinds that use stack and tries alone.
-        _ => control(kind, rest, st, h, tr, t),
     }
 }

@@ -1,4 +1,4 @@
-mod Types
+mod Rows
 mod Counts
 pub mod Answers
 mod Service

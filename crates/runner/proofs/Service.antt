@@ -9,18 +9,15 @@
 use Prim.Native.Nat.{ℕ, _-_, _<_, _≤_}
 use mathlib.Core.Path.{_≡_, refl, sym, ap, subst, _∙_}
 use mathlib.Core.List.{List}
-use mathlib.Core.Logic.{⊎-elim}
 use native.Mathlib.Omega.{arith}
-use lib.ListN.{length, getD, List·getD-eq-default}
-use lib.Dec.{ltb}
-use borrow.Author.Tests.{le-leb, lt-leb, ltb-true, ltb-false}
-use Rattle.laws.proofs.Booleans.{decide}
+use lib.ListN.{length, take, drop}
+use borrow.Author.Tests.{le-leb, lt-leb}
 use Rattle.answers.specs.Response.{memoryAfter}
 use Rattle.answers.specs.declared.Cause.{Cause}
 use Rattle.calculus.specs.declared.Given.{Given}
 use Rattle.book.specs.declared.Variable.{Variable}
 use Rattle.lists.specs.Inputs.{bad, good, inputs}
-use Rattle.lists.specs.Reading.{typed, Taken}
+use Rattle.lists.specs.Reading.{typed, Filled, Taken}
 use Rattle.lists.specs.Results.{resultLength, results}
 use Rattle.lists.specs.Writing.{valuesOf, written}
 use Rattle.lists.proofs.Types.{typed-count}
@@ -35,7 +32,7 @@ use Rattle.machine.specs.Blocks.{blocksOf, variablesOf}
 use Rattle.machine.specs.Machine as machine
 use Rattle.machine.specs.Run.{runIn}
 use Rattle.machine.specs.Service.{reply, onInputs, asked, run}
-use Rattle.verifier.specs.Tables.{blockAt, blockCount, Room}
+use Rattle.directory.specs.Tabled.{blockAt, blockCount}
 use Rattle.verifier.specs.Pass.{Judged}
 use Rattle.verifier.specs.declared.Verdict.{Verdict}
 use Rattle.verifier.specs.declared.Verdict.the-variants as verdict
@@ -44,76 +41,81 @@ use Rattle.blocks.specs.Entries.{runAt, variablesAt, Entry, CameTo}
 use Rattle.blocks.specs.declared.Ran.{Ran}
 use Rattle.blocks.specs.declared.Ran.the-variants as ran
 use Rattle.blocks.proofs.Scopes.{has-none, is-block, has-one, scope-variables, scope-runs, few-variables, givens-are, values-are, values-length}
-use Rattle.heads.specs.Heads.{typesIn}
+use Rattle.directory.specs.Layout.{placeIn, variablesIn, Declares}
 use Rattle.runner.specs.Service.{Runs, Ready, Asked, Replied}
-use Rattle.runner.proofs.Types.{types-are}
 
 -- Judging
 
-pub refused-code : (code spans heads places : List ℕ) (i : ℕ) (list : List ℕ) {memory : List ℕ} (v : Verdict) → v ≡ verdict.Refused → Judged code spans heads places v
+pub refused-code : (code directory : List ℕ) (i : ℕ) (list : List ℕ) {memory : List ℕ} (v : Verdict) → v ≡ verdict.Refused → Judged code directory v
     → Runs code i list memory (Refused refusal.BadCode) memory
 unfolding run
-refused-code code spans heads places i list v e j = nothing-written (rw (rw e at j))
+refused-code code directory i list v e j = nothing-written (rw (rw e at j))
 
-pub ready : {code spans heads places : List ℕ} {n : ℕ} (v : Verdict) → v ≡ verdict.Accepted n → Judged code spans heads places v → Room spans heads places
-    → Ready code spans heads places
-ready {code} {spans} {heads} {places} v e j sizes =
+pub ready : {code directory : List ℕ} {n : ℕ} (v : Verdict) → v ≡ verdict.Accepted n → Judged code directory v → Ready code directory
+ready v e j =
     let k = rw e at j in
-    record { accepts = k .0; tabled = rw (k .1 .number) at (k .1); sizes = sizes }
+    record { accepts = k .0; tabled = rw (k .1 .number) at (k .1) }
 
 -- Asking
 
-module _ {code spans heads places : List ℕ} (o : Ready code spans heads places) (i : ℕ) where
+module _ {code directory : List ℕ} (o : Ready code directory) (i : ℕ) where
   is-asked : (list : List ℕ) (room : ℕ) → run code i list room ≡ asked (blocksOf code) i list room
   unfolding run
   is-asked list room = rw (o .accepts)
 
-  pub refused-scope : (list : List ℕ) {memory : List ℕ} → getD places i 0 ≡ 0 → Runs code i list memory (Refused refusal.NoSuchScope) memory
+  pub refused-scope : (list : List ℕ) {memory : List ℕ} → placeIn directory i ≡ 0 → Runs code i list memory (Refused refusal.NoSuchScope) memory
   unfolding asked
   refused-scope list {memory} z = nothing-written (is-asked list (length memory) ∙ rw (has-none (o .accepts) (o .tabled) i z))
 
-  module _ (place : ℕ) (e : place ≡ getD places i 0) (there : place ≡ 0 → ⊥) where
-    small : i < 32
-    small =
-        ⊎-elim
-        (λ q. ltb-true i 32 q)
-        (λ q.
-        let s = o .sizes .placeRoom in
-        let none : getD places i 0 ≡ 0 = List·getD-eq-default places 0 (omega (arith, ltb-false i 32 q)) in
-        absurd (there (e ∙ none)))
-        (decide (ltb i 32))
-
-    placed : 0 < getD places i 0
+  module _ (place : ℕ) (e : place ≡ placeIn directory i) (there : place ≡ 0 → ⊥) where
+    placed : 0 < placeIn directory i
     placed = omega (arith, there)
 
     abbrev p : ℕ
     p = place - 1
 
-    same : getD places i 0 - 1 ≡ p
+    same : placeIn directory i - 1 ≡ p
     same = omega arith
 
     pub block-there : p < blockCount code
-    block-there = rw same at (is-block (o .accepts) (o .tabled) i small placed)
+    block-there = rw same at (is-block (o .accepts) (o .tabled) i placed)
 
     pub block-small : p < 32
     block-small = let b = block-there in let f = o .tabled .few in omega arith
+
+    pub variables-few : variablesIn directory p ≤ 32
+    variables-few =
+        let n = o .tabled .blocks p block-there .declares .number in
+        let f = few-variables code (o .accepts) p in
+        omega arith
 
     abbrev variables : List Variable
     variables = blockAt code p .variables
 
     the-variables : variablesOf (blocksOf code) i ≡ variables
-    the-variables = rw same at (scope-variables (o .accepts) (o .tabled) i small placed)
+    the-variables = rw same at (scope-variables (o .accepts) (o .tabled) i placed)
 
     the-run : (gs : List Given) → runIn (blocksOf code) i gs ≡ runAt code p gs
-    the-run gs = rw same at (scope-runs (o .accepts) (o .tabled) i small placed gs)
+    the-run gs = rw same at (scope-runs (o .accepts) (o .tabled) i placed gs)
 
     is-there : (list : List ℕ) (room : ℕ) → run code i list room ≡ onInputs (inputs variables list) room (blocksOf code) i
     unfolding asked
-    is-there list room = is-asked list room ∙ rw (has-one (o .accepts) (o .tabled) i small placed, the-variables)
+    is-there list room = is-asked list room ∙ rw (has-one (o .accepts) (o .tabled) i placed, the-variables)
 
-    module _ (types : List ℕ) (t : types ≡ typesIn heads p) where
+    module _ (types : List ℕ) {n : ℕ} {bytes : List ℕ} (t : types ≡ take n (drop 0 bytes))
+        (fill : (vs : List Variable) → Declares directory p vs → Filled vs n bytes) where
+      filled : Filled variables n bytes
+      filled = fill variables (o .tabled .blocks p block-there .declares)
+
       pub are-typed : typed types ≡ variables
-      are-typed = ap typed t ∙ types-are o p block-there
+      are-typed = ap typed t ∙ filled .bytes
+
+      pub types-few : length types ≤ 32
+      types-few =
+          let c = typed-count types in
+          let k = ap length are-typed in
+          let f = few-variables code (o .accepts) p in
+          omega arith
 
       pub refused-input : (list : List ℕ) {memory : List ℕ} → inputs (typed types) list ≡ bad → Runs code i list memory (Refused refusal.BadInput) memory
       refused-input list {memory} b = nothing-written (is-there list (length memory) ∙ rw (rw are-typed at b))
@@ -131,7 +133,7 @@ module _ {code spans heads places : List ℕ} (o : Ready code spans heads places
             ap (givensAt given 0) (sym (taken .number ∙ ap length are-typed))
             ∙ givens-are given (taken .givens) (taken .decoded)
 
-        pub asks : {memory : List ℕ} → length given ≡ 32 → resultLength (typed types) ≤ length memory → Asked code spans heads places p types given memory
+        pub asks : {memory : List ℕ} → length given ≡ 32 → resultLength (typed types) ≤ length memory → Asked code directory p types given memory
         asks {memory} s l =
             record {
               ready = o;
@@ -153,9 +155,9 @@ module _ {code spans heads places : List ℕ} (o : Ready code spans heads places
 
 -- Running
 
-module _ {code spans heads places : List ℕ} {p : ℕ} {types given memory : List ℕ} (a : Asked code spans heads places p types given memory) where
-  pub entry : {own : List ℕ} → length own ≡ 32 → Entry code spans heads places p own
-  entry s = record { accepts = a .ready .accepts; tabled = a .ready .tabled; sizes = a .ready .sizes; block = a .block; room = s }
+module _ {code directory : List ℕ} {p : ℕ} {types given memory : List ℕ} (a : Asked code directory p types given memory) where
+  pub entry : {own : List ℕ} → length own ≡ 32 → Entry code directory p own
+  entry s = record { accepts = a .ready .accepts; tabled = a .ready .tabled; block = a .block; room = s }
 
   number : length types ≡ variablesAt code p
   unfolding variablesAt

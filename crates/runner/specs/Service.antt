@@ -1,4 +1,4 @@
--- The service, and the service over its tables.
+-- The service, and the service over the directory.
 use Prim.Native.Nat.{ℕ, _<_, _≤_}
 use mathlib.Core.Path.{_≡_}
 use mathlib.Core.Bool.{true}
@@ -11,7 +11,7 @@ use Rattle.answers.specs.Response.{Responds}
 use Rattle.answers.specs.declared.Answer.{Answer}
 use Rattle.machine.specs.Acceptance.{accepted}
 use Rattle.machine.specs.Service.{reply, run}
-use Rattle.verifier.specs.Tables.{blockAt, blockCount, Tabled, Room}
+use Rattle.directory.specs.Tabled.{blockAt, blockCount, Tabled}
 use Rattle.instructions.specs.Views.{givensAt}
 use Rattle.blocks.specs.Entries.{runAt, variablesAt}
 
@@ -19,15 +19,14 @@ use Rattle.blocks.specs.Entries.{runAt, variablesAt}
 abbrev pub Runs : List ℕ → ℕ → List ℕ → List ℕ → Answer → List ℕ → Type 0
 Runs code i list before = Responds (run code i list (length before)) before
 
--- accepted code with its tables
-pub record Ready (code spans heads places : List ℕ) : Type 0 where
+-- accepted code with its directory
+pub record Ready (code directory : List ℕ) : Type 0 where
   pub accepts : accepted code ≡ true
-  pub tabled : Tabled code spans heads places (blockCount code)
-  pub sizes : Room spans heads places
+  pub tabled : Tabled code directory (blockCount code)
 
 -- block p is there and its variables have these type bytes, what is given fits them, and its results have room
-pub record Asked (code spans heads places : List ℕ) (p : ℕ) (types given memory : List ℕ) : Type 0 where
-  pub ready : Ready code spans heads places
+pub record Asked (code directory : List ℕ) (p : ℕ) (types given memory : List ℕ) : Type 0 where
+  pub ready : Ready code directory
   pub block : p < blockCount code
   pub variables : typed types ≡ blockAt code p .variables
   pub size : length given ≡ 32

@@ -19,7 +19,8 @@ use borrow.Author.Tests.{eqb-true, eq-eqb, ne-eqb, leb-true}
 use Rattle.laws.proofs.Booleans.{decide}
 use Rattle.laws.proofs.Zeros.{zeros}
 use Rattle.record.specs.Kinds.{kinds, shapesOf, pickShape, shapeIn}
-use Rattle.record.specs.declared.Medium.the-variants.{Book}
+use Rattle.record.specs.declared.Medium.{Medium}
+use Rattle.record.specs.declared.Medium.the-variants.{Book, Code}
 use Rattle.book.proofs.Shapes.{every, at-every}
 use Rattle.scan.specs.Counting.{scopesWith}
 use Rattle.scan.specs.Filling.{scopeBytes, FewScopes, Unfilled}
@@ -27,11 +28,14 @@ use Rattle.scan.specs.Filling.{scopeBytes, FewScopes, Unfilled}
 other : (st : ℕ) → st ≡ 1 → T (not (eqb st 1)) → ⊥
 other st e h = rw e at h
 
-pub scope-kind : (k : ℕ) → shapeIn Book k .stage ≡ 1 → k ≡ 1
+pub scope-kind : (m : Medium) (k : ℕ) → shapeIn m k .stage ≡ 1 → k ≡ 1
 unfolding shapeIn shapesOf kinds every
-scope-kind zero e = absurd (omega arith)
-scope-kind (suc zero) e = refl
-scope-kind (suc (suc k)) e = absurd (other _ e (at-every (λ s. not (eqb (pickShape Book s .stage) 1)) (drop 2 kinds) (shapesOf 0) tt tt k))
+scope-kind Book zero e = absurd (omega arith)
+scope-kind Book (suc zero) e = refl
+scope-kind Book (suc (suc k)) e = absurd (other _ e (at-every (λ s. not (eqb (pickShape Book s .stage) 1)) (drop 2 kinds) (shapesOf 0) tt tt k))
+scope-kind Code zero e = absurd (omega arith)
+scope-kind Code (suc zero) e = refl
+scope-kind Code (suc (suc k)) e = absurd (other _ e (at-every (λ s. not (eqb (pickShape Code s .stage) 1)) (drop 2 kinds) (shapesOf 0) tt tt k))
 
 bytes-turn : (bytes : List ℕ) (at : ℕ) → at < length bytes
     → scopeBytes (drop at bytes) ≡ cond (eqb (getD bytes at 0) 1) (suc (scopeBytes (drop (at + 1) bytes))) (scopeBytes (drop (at + 1) bytes))
@@ -62,7 +66,7 @@ not-seen bytes h = let z : _≡_ {A = ℕ} 0 1 = cc in absurd (omega arith)
 pub seen : (bytes : List ℕ) (n : ℕ) → n ≡ scopeBytes bytes → FewScopes bytes (leb n 8)
 seen bytes n e h = let l = leb-true n 8 h in omega arith
 
-one-more : (b : Bool) (n : ℕ) → n ≤ cond b (suc n) n
+pub one-more : (b : Bool) (n : ℕ) → n ≤ cond b (suc n) n
 one-more true n = omega arith
 one-more false n = omega arith
 
@@ -82,7 +86,7 @@ module _ (bytes : List ℕ) (at scopes st n : ℕ) (here : at < length bytes) (e
       let b = behind in
       ⊎-elim
       (λ (q : eqb st 1 ≡ true).
-      let u = one-counted bytes at here (scope-kind (getD bytes at 0) (sym e ∙ eqb-true st 1 q)) in
+      let u = one-counted bytes at here (scope-kind Book (getD bytes at 0) (sym e ∙ eqb-true st 1 q)) in
       rw q (omega arith))
       (λ (q : eqb st 1 ≡ false).
       let t = bytes-turn bytes at here in

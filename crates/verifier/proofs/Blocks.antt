@@ -16,7 +16,7 @@ use borrow.Author.Tests.{ltb-true, leb-true, lt-ltb, le-leb, not-true}
 use Rattle.book.specs.Lists.{any}
 use Rattle.machine.specs.Blocks.{Block, emptyBlock, parse, blocksOf, hasBlock}
 use Rattle.machine.specs.Acceptance.{sound, start, allFit, weightIn, wellFormed, allWellFormed, accepted}
-use Rattle.verifier.specs.Tables.{blockAt}
+use Rattle.directory.specs.Tabled.{blockAt}
 use Rattle.verifier.specs.Pass.{earlier}
 
 tail-fits : (xs ys : List Block) → allWellFormed (xs ++ ys) ≡ true → allWellFormed ys ≡ true

@@ -1,97 +1,40 @@
 -- The end of a block: what is refused, and what holds after it.
---     at-scope, weight-at, width-at                        tables by scope
---     filled-set, filled-bound, filled-room                how many scopes have a block
 --     reach-refused, weight-refused                        a landing past the end; a weight above the limit
 --     leave-closed, leave-idle                             one more block is closed, or none was open
---     leave-bounds                                         the room of the tables
+--     leave-bounds                                         the room for its row
 -- Assumes nothing.
-use Prim.Native.Nat.{ℕ, zero, suc, _+_, _-_, _*_, _%_, _<_, _≤_}
+use Prim.Native.Nat.{ℕ, suc, _+_, _-_, _*_, _%_, _<_, _≤_}
 use mathlib.Core.Path.{_≡_, refl, sym, ap, _∙_}
 use mathlib.Core.Bool.{true, false, cond, not}
 use mathlib.Core.List.{List, [], _∷_, _++_, append-nil}
 use mathlib.Core.Logic.{⊎-elim}
 use native.Mathlib.Omega.{arith}
 use lib.ListN.{length, getD, take, drop, set, length-set}
-use lib.Seq.{getD-set-same, getD-set-other, take-all}
+use lib.Seq.{getD-set-other, take-all}
 use lib.Dec.{eqb, ltb}
-use borrow.Author.Tests.{eq-eqb, ne-eqb, lt-ltb, ltb-false, eqb-true, eqb-false}
+use borrow.Author.Tests.{eq-eqb, ne-eqb, lt-ltb, ltb-false, eqb-true}
 use Rattle.laws.proofs.Booleans.{decide}
 use Rattle.book.specs.Lists.{any}
 use Rattle.book.specs.Scopes.{sum}
-use Rattle.book.specs.Syntax.{typeOf}
 use Rattle.machine.specs.Blocks.{Block, hasBlock, variablesOf}
 use Rattle.machine.specs.Acceptance.{weightIn, wellFormed, accepted}
-use Rattle.verifier.specs.Tables.{blockAt, Entered}
-use Rattle.verifier.specs.Pass.{weightAt, widthAt, Marks, earlier, AreClosed, Busy, Reading, filled, Leaving, AllClosed}
+use Rattle.directory.specs.Layout.{placeIn, bodyIn, blockWeight, blockIn, typeIn}
+use Rattle.directory.specs.Tabled.{blockAt, Entered}
+use Rattle.verifier.specs.Pass.{Marks, earlier, AreClosed, Busy, Reading, Leaving, AllClosed}
 use Rattle.verifier.specs.declared.Progress.{Progress}
 use Rattle.verifier.proofs.Blocks.{refused, block-fits, Formed, formed, well-formed, earlier-suc, all-fit}
 use Rattle.verifier.proofs.Turns.{drop-end}
-use Rattle.verifier.proofs.Entries.{entered-same}
+use Rattle.verifier.proofs.Entries.{place-set, place-here, place-other, filled-set, rowSet, row-length, row-other, row-begin, row-end, row-weight, row-variables, row-subs, weight-same, entered-same, closed-same, row-room, sized-same}
 use Rattle.verifier.proofs.Ring.{end-refused, end-fits, end-quiet}
 use Rattle.book.proofs.Searches.{any-none}
 use native.Mathlib.Nat.{eq-or-lt-of-le}
 use native.Mathlib.Numerals.{add-one}
 
--- Tables by scope
-
-pub at-scope : (xs : List ℕ) (s v i : ℕ) → s < length xs → getD (set xs s v) i 0 ≡ cond (eqb s i) v (getD xs i 0)
-at-scope xs s v i h =
-    ⊎-elim
-    (λ (q : eqb s i ≡ true). rw q (rw (← eqb-true s i q) (getD-set-same xs s v 0 h)))
-    (λ (q : eqb s i ≡ false). rw q (getD-set-other xs s i v 0 (λ e. eqb-false s i q (sym e))))
-    (decide (eqb s i))
-
-same-test : (a b x y : ℕ) → (a ≡ b → x ≡ y) → (x ≡ y → a ≡ b) → eqb x y ≡ eqb a b
-same-test a b x y there back =
-    ⊎-elim
-    (λ (q : eqb a b ≡ true). rw q (eq-eqb x y (there (eqb-true a b q))))
-    (λ (q : eqb a b ≡ false). rw q (ne-eqb x y (λ z. eqb-false a b q (back z))))
-    (decide (eqb a b))
-
--- the two numbers of a scope
-module _ (xs : List ℕ) (s w v i : ℕ) (h : s * 2 + 1 < length xs) where
-  pub weight-at : weightAt (set (set xs (s * 2) w) (s * 2 + 1) v) i ≡ cond (eqb s i) w (weightAt xs i)
-  unfolding weightAt
-  weight-at =
-      getD-set-other (set xs (s * 2) w) (s * 2 + 1) (i * 2) v 0 (λ z. omega arith)
-      ∙ at-scope xs (s * 2) w (i * 2) (omega arith)
-      ∙ rw (same-test s i (s * 2) (i * 2) (λ z. omega arith) (λ z. omega arith))
-
-  pub width-at : widthAt (set (set xs (s * 2) w) (s * 2 + 1) v) i ≡ cond (eqb s i) v (widthAt xs i)
-  unfolding widthAt
-  width-at =
-      at-scope (set xs (s * 2) w) (s * 2 + 1) v (i * 2 + 1) (rw length-set h)
-      ∙ rw (
-        same-test s i (s * 2 + 1) (i * 2 + 1) (λ z. omega arith) (λ z. omega arith),
-        getD-set-other xs (s * 2) (i * 2 + 1) w 0 (λ z. omega arith),
-      )
-
-pub filled-set : (xs : List ℕ) (s v : ℕ) → s < length xs → getD xs s 0 ≡ 0 → 0 < v → filled (set xs s v) ≡ suc (filled xs)
-unfolding filled
-filled-set [] s v h e l = absurd (omega arith)
-filled-set (x ∷ xs) zero v h e l = rw (ne-eqb v 0 (λ z. omega arith), eq-eqb x 0 e) (omega arith)
-filled-set (x ∷ xs) (suc s) v h e l = let r = filled-set xs s v (omega arith) e l in omega arith
-
-pub filled-bound : (xs : List ℕ) → filled xs ≤ length xs
-unfolding filled
-filled-bound [] = omega arith
-filled-bound (x ∷ xs) =
-    let h = filled-bound xs in
-    ⊎-elim (λ (q : eqb x 0 ≡ true). rw q (omega arith)) (λ (q : eqb x 0 ≡ false). rw q (omega arith)) (decide (eqb x 0))
-
--- there is room where one number is 0
-pub filled-room : (xs : List ℕ) (s : ℕ) → s < length xs → getD xs s 0 ≡ 0 → filled xs < length xs
-filled-room xs s h e =
-    let a = filled-set xs s 1 h e (omega arith) in
-    let b = filled-bound (set xs s 1) in
-    let n = length-set xs s 1 in
-    omega arith
-
 -- The end of the present block
 
-module _ (code : List ℕ) (at : ℕ) (u : Progress) (spans heads places sizes ring : List ℕ)
-    (l : Leaving code at u spans heads places sizes ring) (opened : 1 ≤ u .stage) where
-  abbrev r : Reading code at u spans heads places sizes ring
+module _ (code : List ℕ) (at : ℕ) (u : Progress) (directory ring : List ℕ)
+    (l : Leaving code at u directory ring) (opened : 1 ≤ u .stage) where
+  abbrev r : Reading code at u directory ring
   r = l .reading
 
   abbrev b : Block
@@ -100,7 +43,7 @@ module _ (code : List ℕ) (at : ℕ) (u : Progress) (spans heads places sizes r
   abbrev e : List Block
   e = earlier code (u .blocks)
 
-  busy : Busy code at u heads ring
+  busy : Busy code at u directory ring
   busy = r .busy opened
 
   variables-are : length (b .variables) ≡ u .variables
@@ -134,7 +77,7 @@ module _ (code : List ℕ) (at : ℕ) (u : Progress) (spans heads places sizes r
   weight-is = rw (eq-eqb (b .scope) (b .scope) refl) (sym weight-sum)
 
   -- what is refused
-  pub reach-refused : 0 < u .reach → accepted code ≡ false
+  pub reach-refused : at < u .reach → accepted code ≡ false
   reach-refused h =
       refused code
       (λ a. end-refused e b at (u .reach) ring marks h (formed e b (block-fits code (u .blocks) (busy .head .present) a) .fit))
@@ -144,17 +87,8 @@ module _ (code : List ℕ) (at : ℕ) (u : Progress) (spans heads places sizes r
       refused code
       (λ a. let z = formed e b (block-fits code (u .blocks) (busy .head .present) a) .light in let y = weight-is in omega arith)
 
-  -- what there is room for
-  pub leave-room : (u .blocks < 32) × (u .scope < 32)
-  leave-room = (busy .head .room, busy .head .scopeSmall)
-
-  no-place : getD places (u .scope) 0 ≡ 0
-  no-place =
-      let z = ltb-false 0 (getD places (u .scope) 0) (sym (r .closed .known (u .scope)) ∙ busy .head .fresh) in
-      omega arith
-
   -- what holds after it
-  module _ (still : u .reach ≡ 0) (light : u .weight ≤ 4096) where
+  module _ (still : u .reach ≤ at) (light : u .weight ≤ 4096) where
     is-formed : Formed e b
     is-formed =
         record {
@@ -165,242 +99,201 @@ module _ (code : List ℕ) (at : ℕ) (u : Progress) (spans heads places sizes r
           light = let y = weight-is in omega arith;
         }
 
-    abbrev spans' : List ℕ
-    spans' = set (set spans (u .blocks * 2) (u .begin)) (u .blocks * 2 + 1) at
+    abbrev m : ℕ
+    m = u .blocks
 
-    abbrev heads' : List ℕ
-    heads' = set (set (set heads (u .blocks * 48) (u .scope)) (u .blocks * 48 + 1) (u .variables)) (u .blocks * 48 + 2) (u .subs)
-
-    span-first : getD spans' (u .blocks * 2) 0 ≡ u .begin
-    span-first =
-        getD-set-other (set spans (u .blocks * 2) (u .begin)) (u .blocks * 2 + 1) (u .blocks * 2) at 0 (λ z. omega arith)
-        ∙ getD-set-same spans (u .blocks * 2) (u .begin) 0 (let y = busy .head .room in rw (r .sized .room .spanRoom) (omega arith))
-
-    span-last : getD spans' (u .blocks * 2 + 1) 0 ≡ at
-    span-last =
-        getD-set-same (set spans (u .blocks * 2) (u .begin)) (u .blocks * 2 + 1) at 0
-        (let y = busy .head .room in rw (length-set spans (u .blocks * 2) (u .begin), r .sized .room .spanRoom) (omega arith))
-
-    span-other : (i : ℕ) → i < u .blocks * 2 → getD spans' i 0 ≡ getD spans i 0
-    span-other i h =
-        getD-set-other (set spans (u .blocks * 2) (u .begin)) (u .blocks * 2 + 1) i at 0 (λ z. omega arith)
-        ∙ getD-set-other spans (u .blocks * 2) i (u .begin) 0 (λ z. omega arith)
-
-    head-other : (i : ℕ) → (i ≡ u .blocks * 48 → ⊥) → (i ≡ u .blocks * 48 + 1 → ⊥) → (i ≡ u .blocks * 48 + 2 → ⊥) → getD heads' i 0 ≡ getD heads i 0
-    head-other i x y z =
-        getD-set-other (set (set heads (u .blocks * 48) (u .scope)) (u .blocks * 48 + 1) (u .variables)) (u .blocks * 48 + 2) i (u .subs) 0 z
-        ∙ getD-set-other (set heads (u .blocks * 48) (u .scope)) (u .blocks * 48 + 1) i (u .variables) 0 y
-        ∙ getD-set-other heads (u .blocks * 48) i (u .scope) 0 x
-
-    head-zero : getD heads' (u .blocks * 48) 0 ≡ u .scope
-    head-zero =
-        getD-set-other (set (set heads (u .blocks * 48) (u .scope)) (u .blocks * 48 + 1) (u .variables)) (u .blocks * 48 + 2) (u .blocks * 48)
-        (u .subs) 0 (λ z. omega arith)
-        ∙ getD-set-other (set heads (u .blocks * 48) (u .scope)) (u .blocks * 48 + 1) (u .blocks * 48) (u .variables) 0 (λ z. omega arith)
-        ∙ getD-set-same heads (u .blocks * 48) (u .scope) 0 (let y = busy .head .room in rw (r .sized .room .headRoom) (omega arith))
-
-    head-one : getD heads' (u .blocks * 48 + 1) 0 ≡ u .variables
-    head-one =
-        getD-set-other (set (set heads (u .blocks * 48) (u .scope)) (u .blocks * 48 + 1) (u .variables)) (u .blocks * 48 + 2) (u .blocks * 48 + 1)
-        (u .subs) 0 (λ z. omega arith)
-        ∙ getD-set-same (set heads (u .blocks * 48) (u .scope)) (u .blocks * 48 + 1) (u .variables) 0
-        (let y = busy .head .room in rw (length-set heads (u .blocks * 48) (u .scope), r .sized .room .headRoom) (omega arith))
-
-    head-two : getD heads' (u .blocks * 48 + 2) 0 ≡ u .subs
-    head-two =
-        getD-set-same (set (set heads (u .blocks * 48) (u .scope)) (u .blocks * 48 + 1) (u .variables)) (u .blocks * 48 + 2) (u .subs) 0
-        (let y = busy .head .room in rw (
-          length-set (set heads (u .blocks * 48) (u .scope)) (u .blocks * 48 + 1) (u .variables),
-          length-set heads
-              (u .blocks * 48) (u .scope),
-          r .sized .room .headRoom,
-        ) (omega arith))
-
-    entered-here : Entered code spans' heads' (u .blocks)
-    entered-here =
-        let n = r .inside in
-        let g = busy .head .begun in
-        record {
-          ordered = rw (span-first, span-last) g;
-          inside = rw span-last n;
-          body = rw (span-first, span-last) body-is;
-          scope = head-zero ∙ busy .head .scope;
-          variables = head-one ∙ sym variables-are;
-          subScopes = head-two ∙ sym subs-are;
-          types =
-              λ v h.
-              ap typeOf (head-other (u .blocks * 48 + 3 + v) (λ z. omega arith) (λ z. omega arith) (λ z. omega arith))
-              ∙ busy .noted .types v (let x = variables-are in omega arith);
-          subs =
-              λ k h.
-              head-other (u .blocks * 48 + 35 + k) (λ z. omega arith) (λ z. omega arith) (λ z. omega arith)
-              ∙ busy .noted .subs k (let x = subs-are in omega arith);
-        }
-
-    entered-before : (p : ℕ) → p < u .blocks → Entered code spans' heads' p
-    entered-before p h =
-        entered-same code spans heads spans' heads' p (r .closed .small p h)
-        (λ i l. span-other i (omega arith))
-        (λ i l. head-other i (λ z. omega arith) (λ z. omega arith) (λ z. omega arith))
-        (r .closed .entered p h)
-
-    abbrev m' : ℕ
-    m' = suc (u .blocks)
-
-    by-block : (P : ℕ → Type 0) → P (u .blocks) → ((p : ℕ) → p < u .blocks → P p) → (p : ℕ) → p < m' → P p
+    by-block : (P : ℕ → Type 0) → P (u .blocks) → ((p : ℕ) → p < u .blocks → P p) → (p : ℕ) → p < suc (u .blocks) → P p
     by-block P new old p h =
         ⊎-elim
         (λ (q : p ≡ u .blocks). rw q new)
         (λ (q : p < u .blocks). old p q)
         (eq-or-lt-of-le {n = p} {m = u .blocks} (omega arith))
 
-    scope-in : (xs : List ℕ) → length xs ≡ 32 → u .scope < length xs
-    scope-in xs n = let z = busy .head .scopeSmall in omega arith
+    -- the directory with the block's row, then with its place
+    abbrev rows : List ℕ
+    rows = rowSet directory m (u .begin) at (u .weight) (u .variables) (u .subs)
 
-    places-at : (i : ℕ) → getD (set places (u .scope) m') i 0 ≡ cond (eqb (u .scope) i) m' (getD places i 0)
-    places-at i = at-scope places (u .scope) m' i (scope-in places (r .sized .room .placeRoom))
+    abbrev placed : List ℕ
+    placed = set rows (u .scope) (suc m)
 
-    found-here : getD (set places (u .scope) m') (b .scope) 0 ≡ m'
-    found-here = rw (← busy .head .scope) (getD-set-same places (u .scope) m' 0 (scope-in places (r .sized .room .placeRoom)))
+    room : m * 45 + 77 ≤ length directory
+    room = row-room code at u directory ring (r .sized) (r .closed) (busy .head)
 
-    found-before : (p : ℕ) → p < u .blocks → getD (set places (u .scope) m') (blockAt code p .scope) 0 ≡ suc p
+    row-above : (i : ℕ) → m * 45 + 37 ≤ i → getD rows i 0 ≡ getD directory i 0
+    row-above i h = row-other directory m (u .begin) at (u .weight) (u .variables) (u .subs) i (λ j l z. omega arith)
+
+    -- the rows of the blocks before, with the places as they were
+    before : AreClosed code m rows
+    before =
+        closed-same code m directory rows (r .closed)
+        (λ i h. row-other directory m (u .begin) at (u .weight) (u .variables) (u .subs) i (λ j l z. omega arith))
+
+    small : (p : ℕ) → p < suc m → (length (blockAt code p .variables) ≤ 32) × (length (blockAt code p .subScopes) ≤ 8)
+    small =
+        by-block (λ p. (length (blockAt code p .variables) ≤ 32) × (length (blockAt code p .subScopes) ≤ 8))
+        (let x = variables-are in let y = subs-are in let z = r .limited in (omega arith, omega arith))
+        (r .closed .small)
+
+    entered-here : Entered code rows m
+    unfolding bodyIn blockIn typeIn
+    entered-here =
+        let n = r .inside in
+        let g = busy .head .begun in
+        let x = row-begin directory m (u .begin) at (u .weight) (u .variables) (u .subs) room in
+        let y = row-end directory m (u .begin) at (u .weight) (u .variables) (u .subs) room in
+        record {
+          ordered = rw (x, y) g;
+          inside = rw y n;
+          body = rw (x, y) body-is;
+          declares =
+              record {
+                number = row-variables directory m (u .begin) at (u .weight) (u .variables) (u .subs) room ∙ sym variables-are;
+                types =
+                    λ v h.
+                    rw (row-above (m * 45 + 45 + v) (omega arith)) (busy .noted .types v (let x = variables-are in omega arith));
+              };
+          subScopes = row-subs directory m (u .begin) at (u .weight) (u .variables) (u .subs) room ∙ sym subs-are;
+          earlier =
+              λ k h.
+              rw (row-above (m * 45 + 37 + k) (omega arith)) (busy .noted .earlier k (let x = subs-are in omega arith));
+          subs =
+              λ k h.
+              rw (row-above (m * 45 + 37 + k) (omega arith)) (busy .noted .subs k (let x = subs-are in omega arith));
+        }
+
+    scope-in : u .scope < length rows
+    scope-in =
+        let n = row-length directory m (u .begin) at (u .weight) (u .variables) (u .subs) in
+        let z = busy .head .scopeSmall in
+        let y = r .sized .room .places in
+        omega arith
+
+    above : (i : ℕ) → 32 ≤ i → getD placed i 0 ≡ getD rows i 0
+    above i h = getD-set-other rows (u .scope) i (suc m) 0 (λ z. let y = busy .head .scopeSmall in omega arith)
+
+    no-place-before : placeIn rows (u .scope) ≡ 0
+    no-place-before =
+        let z = ltb-false 0 (placeIn rows (u .scope)) (sym (before .known (u .scope)) ∙ busy .head .fresh) in
+        omega arith
+
+    place-at : (i : ℕ) → placeIn placed i ≡ cond (eqb (u .scope) i) (suc m) (placeIn rows i)
+    place-at i = place-set rows (u .scope) (suc m) scope-in (busy .head .scopeSmall) i
+
+    -- no block before is of the scope
+    other-scope : (p : ℕ) → p < m → u .scope ≡ blockAt code p .scope → ⊥
+    other-scope p h e =
+        let f = before .found p h in
+        let n = no-place-before in
+        let y : placeIn rows (u .scope) ≡ placeIn rows (blockAt code p .scope) = ap (placeIn rows) e in
+        omega arith
+
+    found-here : placeIn placed (b .scope) ≡ suc m
+    found-here = rw (← busy .head .scope) (place-here rows (u .scope) (suc m) scope-in (busy .head .scopeSmall))
+
+    found-before : (p : ℕ) → p < m → placeIn placed (blockAt code p .scope) ≡ suc p
     found-before p h =
-        let f = r .closed .found p h in
-        let n = no-place in
-        getD-set-other places (u .scope) (blockAt code p .scope) m' 0
-        (λ z. let y : getD places (blockAt code p .scope) 0 ≡ getD places (u .scope) 0 = ap (λ (i : ℕ). getD places i 0) z in omega arith)
-        ∙ f
+        place-other rows (u .scope) (suc m) scope-in (busy .head .scopeSmall) (blockAt code p .scope) (other-scope p h)
+        ∙ before .found p h
 
-    present-here : (i : ℕ) → 0 < getD (set places (u .scope) m') i 0
-        → (getD (set places (u .scope) m') i 0 ≤ m') × (blockAt code (getD (set places (u .scope) m') i 0 - 1) .scope ≡ i)
+    present-here : (i : ℕ) → 0 < placeIn placed i → (placeIn placed i ≤ suc m) × (blockAt code (placeIn placed i - 1) .scope ≡ i)
     present-here i h =
         ⊎-elim
         (λ (q : eqb (u .scope) i ≡ true).
-        let x : getD (set places (u .scope) m') i 0 ≡ m' = places-at i ∙ rw q in
-        let z : m' - 1 ≡ u .blocks = omega arith in
+        let x : placeIn placed i ≡ suc m = place-at i ∙ rw q in
+        let z : suc m - 1 ≡ m = omega arith in
         rw x (omega arith, ap (λ (p : ℕ). blockAt code p .scope) z ∙ sym (busy .head .scope) ∙ eqb-true (u .scope) i q))
         (λ (q : eqb (u .scope) i ≡ false).
-        let x : getD (set places (u .scope) m') i 0 ≡ getD places i 0 = places-at i ∙ rw q in
-        let o = r .closed .present i (rw x at h) in
+        let x : placeIn placed i ≡ placeIn rows i = place-at i ∙ rw q in
+        let o = before .present i (rw x at h) in
         rw x (let z = o .0 in omega arith, o .1))
         (decide (eqb (u .scope) i))
 
-    known-here : (i : ℕ) → hasBlock (b ∷ e) i ≡ ltb 0 (getD (set places (u .scope) m') i 0)
+    known-here : (i : ℕ) → hasBlock (b ∷ e) i ≡ ltb 0 (placeIn placed i)
     unfolding hasBlock any
     known-here i =
-        rw (places-at i, ← busy .head .scope)
+        rw (place-at i, ← busy .head .scope)
         (⊎-elim
-        (λ (q : eqb (u .scope) i ≡ true). rw q (sym (lt-ltb 0 m' (omega arith))))
-        (λ (q : eqb (u .scope) i ≡ false). rw q (r .closed .known i))
+        (λ (q : eqb (u .scope) i ≡ true). rw q (sym (lt-ltb 0 (suc m) (omega arith))))
+        (λ (q : eqb (u .scope) i ≡ false). rw q (before .known i))
         (decide (eqb (u .scope) i)))
 
-    abbrev sizes' : List ℕ
-    sizes' = set (set sizes (u .scope * 2) (u .weight)) (u .scope * 2 + 1) (u .variables)
+    weight-here : blockWeight rows m ≡ u .weight
+    weight-here = row-weight directory m (u .begin) at (u .weight) (u .variables) (u .subs) room
 
-    size-in : u .scope * 2 + 1 < length sizes
-    size-in = let z = busy .head .scopeSmall in let n = r .sized .sizeRoom in omega arith
+    weight-placed : (p : ℕ) → p < suc m → blockWeight placed p ≡ blockWeight rows p
+    weight-placed p h = weight-same code rows placed p (small p h) (λ i x y. above i (omega arith))
 
-    weights-at : (i : ℕ) → weightAt sizes' i ≡ cond (eqb (u .scope) i) (u .weight) (weightAt sizes i)
-    weights-at i = weight-at sizes (u .scope) (u .weight) (u .variables) i size-in
-
-    weighed-here : (i : ℕ) → weightIn (b ∷ e) i ≡ weightAt sizes' i
+    weighed-before : (p : ℕ) → p < m → weightIn (b ∷ e) (blockAt code p .scope) ≡ blockWeight rows p
     unfolding weightIn
-    weighed-here i = rw (weights-at i, ← busy .head .scope, weight-sum, r .closed .weighed i)
+    weighed-before p h =
+        rw (ne-eqb (b .scope) (blockAt code p .scope) (λ z. other-scope p h (busy .head .scope ∙ z))) (before .weighed p h)
 
-    light-here : (i : ℕ) → weightAt sizes' i ≤ 4096
-    light-here i =
-        rw (weights-at i)
-        (⊎-elim
-        (λ (q : eqb (u .scope) i ≡ true). rw q light)
-        (λ (q : eqb (u .scope) i ≡ false). rw q (r .closed .light i))
-        (decide (eqb (u .scope) i)))
-
-    wide-here : (i : ℕ) → length (variablesOf (b ∷ e) i) ≡ widthAt sizes' i
+    declared-here : variablesOf (b ∷ e) (b .scope) ≡ b .variables
     unfolding variablesOf
-    wide-here i =
-        rw (width-at sizes (u .scope) (u .weight) (u .variables) i size-in, ← busy .head .scope)
-        (⊎-elim
-        (λ (q : eqb (u .scope) i ≡ true). rw q variables-are)
-        (λ (q : eqb (u .scope) i ≡ false). rw q (r .closed .wide i))
-        (decide (eqb (u .scope) i)))
+    declared-here = rw (eq-eqb (b .scope) (b .scope) refl)
 
-    closed-more : AreClosed code m' spans' heads' (set places (u .scope) m') sizes'
+    declared-before : (p : ℕ) → p < m → variablesOf (b ∷ e) (blockAt code p .scope) ≡ blockAt code p .variables
+    unfolding variablesOf
+    declared-before p h =
+        rw (ne-eqb (b .scope) (blockAt code p .scope) (λ z. other-scope p h (busy .head .scope ∙ z))) (before .declared p h)
+
+    closed-more : AreClosed code (suc m) placed
     closed-more =
-        let s = earlier-suc code (u .blocks) (busy .head .present) in
+        let s = earlier-suc code m (busy .head .present) in
         record {
           within = let z = busy .head .present in omega arith;
-          wellFormed = all-fit code (u .blocks) (busy .head .present) (well-formed e b is-formed) (r .closed .wellFormed);
-          entered = by-block (λ p. Entered code spans' heads' p) entered-here entered-before;
-          found = by-block (λ p. getD (set places (u .scope) m') (blockAt code p .scope) 0 ≡ suc p) found-here found-before;
+          wellFormed = all-fit code m (busy .head .present) (well-formed e b is-formed) (r .closed .wellFormed);
+          entered =
+              λ p h.
+              entered-same code rows placed p (small p h) (λ i x y. above i (omega arith)) (by-block (Entered code rows) entered-here (before .entered) p h);
+          found = by-block (λ p. placeIn placed (blockAt code p .scope) ≡ suc p) found-here found-before;
           present = present-here;
-          used = filled-set places (u .scope) m' (scope-in places (r .sized .room .placeRoom)) no-place (omega arith) ∙ ap suc (r .closed .used);
-          small =
-              by-block (λ p. (length (blockAt code p .variables) ≤ 32) × (length (blockAt code p .subScopes) ≤ 8))
-              (let x = variables-are in let y = subs-are in let z = r .limited in (omega arith, omega arith))
-              (r .closed .small);
+          used =
+              filled-set rows placed (u .scope) no-place-before (rw (place-here rows (u .scope) (suc m) scope-in (busy .head .scopeSmall)) (omega arith))
+              (place-other rows (u .scope) (suc m) scope-in (busy .head .scopeSmall)) 32 (busy .head .scopeSmall) ∙ ap suc (before .used);
+          small = small;
           known = λ i. ap (λ (x : List Block). hasBlock x i) s ∙ known-here i;
-          weighed = λ i. ap (λ (x : List Block). weightIn x i) s ∙ weighed-here i;
-          light = light-here;
-          wide = λ i. ap (λ (x : List Block). length (variablesOf x i)) s ∙ wide-here i;
+          weighed =
+              λ p h.
+              ap (λ (x : List Block). weightIn x (blockAt code p .scope)) s
+              ∙ by-block (λ q. weightIn (b ∷ e) (blockAt code q .scope) ≡ blockWeight rows q) (weight-is ∙ sym weight-here) weighed-before p h
+              ∙ sym (weight-placed p h);
+          light =
+              λ p h. rw (weight-placed p h) (by-block (λ q. blockWeight rows q ≤ 4096) (rw weight-here light) (before .light) p h);
+          declared =
+              λ p h.
+              ap (λ (x : List Block). variablesOf x (blockAt code p .scope)) s
+              ∙ by-block (λ q. variablesOf (b ∷ e) (blockAt code q .scope) ≡ blockAt code q .variables) declared-here declared-before p h;
         }
 
-    pub leave-closed : AllClosed code at (u .blocks + 1) (set (set spans (u .blocks * 2) (u .begin)) (u .blocks * 2 + 1) at)
-        (set (set (set heads (u .blocks * 48) (u .scope)) (u .blocks * 48 + 1) (u .variables)) (u .blocks * 48 + 2) (u .subs))
-        (set places (u .scope) (u .blocks + 1)) (set (set sizes (u .scope * 2) (u .weight)) (u .scope * 2 + 1) (u .variables)) (set ring (at % 65536) 0)
+    pub leave-closed : AllClosed code at (u .blocks + 1)
+        (set (rowSet directory (u .blocks) (u .begin) at (u .weight) (u .variables) (u .subs)) (u .scope) (u .blocks + 1)) (set ring (at % 65536) 0)
     leave-closed =
         rw (add-one (u .blocks))
         (record {
           sized =
-              record {
-                room =
-                    record {
-                      spanRoom = length-set (set spans (u .blocks * 2) (u .begin)) (u .blocks * 2 + 1) at
-                          ∙ length-set spans (u .blocks * 2) (u .begin) ∙ r .sized .room .spanRoom;
-                      headRoom =
-                          length-set (set (set heads (u .blocks * 48) (u .scope)) (u .blocks * 48 + 1) (u .variables)) (u .blocks * 48 + 2) (u .subs)
-                          ∙ length-set (set heads (u .blocks * 48) (u .scope)) (u .blocks * 48 + 1) (u .variables)
-                          ∙ length-set heads (u .blocks * 48) (u .scope)
-                          ∙ r .sized .room .headRoom;
-                      placeRoom = length-set places (u .scope) m' ∙ r .sized .room .placeRoom;
-                    };
-                sizeRoom = length-set (set sizes (u .scope * 2) (u .weight)) (u .scope * 2 + 1) (u .variables)
-                    ∙ length-set sizes (u .scope * 2) (u .weight) ∙ r .sized .sizeRoom;
-                ringRoom = λ p h. rw (length-set ring (at % 65536) 0) (r .sized .ringRoom p h);
-              };
+              sized-same code directory placed ring (set ring (at % 65536) 0)
+              (length-set rows (u .scope) (suc m) ∙ row-length directory m (u .begin) at (u .weight) (u .variables) (u .subs))
+              (length-set ring (at % 65536) 0) (r .sized);
           closed = closed-more;
           idle = record { later = busy .head .later; quiet = end-quiet e b at (u .reach) ring marks still (r .sized .ringRoom at (r .inside)) };
         })
 
-pub leave-idle : (code : List ℕ) (at : ℕ) (u : Progress) (spans heads places sizes ring : List ℕ)
-    → Leaving code at u spans heads places sizes ring → u .stage ≡ 0 → AllClosed code at (u .blocks) spans heads places sizes ring
-leave-idle code at u spans heads places sizes ring l z =
+pub leave-idle : (code : List ℕ) (at : ℕ) (u : Progress) (directory ring : List ℕ)
+    → Leaving code at u directory ring → u .stage ≡ 0 → AllClosed code at (u .blocks) directory ring
+leave-idle code at u directory ring l z =
     record { sized = l .reading .sized; closed = l .reading .closed; idle = l .reading .idle z }
 
--- the room of the tables
-pub record LeaveRoom (at : ℕ) (u : Progress) (spans heads places sizes ring : List ℕ) : Type 0 where
+-- the room for the block's row
+pub record LeaveRoom (at : ℕ) (u : Progress) (directory ring : List ℕ) : Type 0 where
   pub blocks : u .blocks < 32
   pub scope : u .scope < 32
-  pub variables : u .variables ≤ 32
-  pub subs : u .subs ≤ 8
-  pub spanRoom : length spans ≡ 64
-  pub headRoom : length heads ≡ 1536
-  pub placeRoom : length places ≡ 32
-  pub sizeRoom : length sizes ≡ 64
+  pub row : u .blocks * 45 + 77 ≤ length directory
   pub ringRoom : at % 65536 < length ring
 
-pub leave-bounds : (code : List ℕ) (at : ℕ) (u : Progress) (spans heads places sizes ring : List ℕ)
-    → Leaving code at u spans heads places sizes ring → (u .stage ≡ 0 → ⊥) → LeaveRoom at u spans heads places sizes ring
-leave-bounds code at u spans heads places sizes ring l n =
-    let h = leave-room code at u spans heads places sizes ring l (omega arith) in
+pub leave-bounds : (code : List ℕ) (at : ℕ) (u : Progress) (directory ring : List ℕ)
+    → Leaving code at u directory ring → (u .stage ≡ 0 → ⊥) → LeaveRoom at u directory ring
+leave-bounds code at u directory ring l n =
     let r = l .reading in
-    record {
-      blocks = h .0;
-      scope = h .1;
-      variables = r .limited .variables;
-      subs = r .limited .subs;
-      spanRoom = r .sized .room .spanRoom;
-      headRoom = r .sized .room .headRoom;
-      placeRoom = r .sized .room .placeRoom;
-      sizeRoom = r .sized .sizeRoom;
-      ringRoom = r .sized .ringRoom at (r .inside);
-    }
+    let h = r .busy (omega arith) .head in
+    record { blocks = h .room; scope = h .scopeSmall; row = row-room code at u directory ring (r .sized) (r .closed) h; ringRoom = r .sized .ringRoom at (r .inside) }

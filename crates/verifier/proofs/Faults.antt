@@ -2,6 +2,7 @@
 --     variable-more, sub-more, none-more                                  limits
 --     fault-kind, fault-length, fault-order, fault-limit, fault-byte,
 --     fault-none                                                          one law for each way through `is_faulty`
+--     no-byte, fault-free                                                 an instruction
 -- Assumes nothing.
 use Prim.Native.Nat.{ℕ, suc, _+_, _-_, _<_, _≤_}
 use mathlib.Core.Path.{_≡_, refl, sym, ap, _∙_}
@@ -12,9 +13,10 @@ use native.Mathlib.Omega.{arith}
 use lib.ListN.{length, getD, take, drop, length-drop}
 use lib.Seq.{getD-take}
 use lib.Dec.{eqb, ltb}
-use borrow.Author.Tests.{eq-eqb, ne-eqb, lt-ltb, le-ltb, ltb-true, ltb-false, eqb-true, eqb-false}
+use borrow.Author.Tests.{eq-eqb, ne-eqb, lt-ltb, le-ltb, le-leb, ltb-true, ltb-false, eqb-true, eqb-false}
 use Rattle.laws.proofs.Booleans.{decide}
 use Rattle.book.specs.Records.{follows, invalid}
+use Rattle.book.proofs.Shapes.{in-order}
 use Rattle.machine.specs.Acceptance.{counted, faulty}
 use Rattle.record.specs.Kinds.{shapeIn, shapesOf, kinds}
 use Rattle.record.specs.Record.{bodyAt}
@@ -62,7 +64,7 @@ or-group true b d = refl
 or-group false b d = refl
 
 -- 8, 9 and 20 are unknown in code
-no-byte : (k : ℕ) (body : List ℕ) → (shapeIn Code k .stage ≡ 0 → ⊥) → (k ≡ 2 → ⊥) → (k ≡ 4 → ⊥) → invalid k body ≡ false
+pub no-byte : (k : ℕ) (body : List ℕ) → (shapeIn Code k .stage ≡ 0 → ⊥) → (k ≡ 2 → ⊥) → (k ≡ 4 → ⊥) → invalid k body ≡ false
 unfolding invalid shapeIn shapesOf kinds
 no-byte k body zero two four =
     rw (
@@ -143,9 +145,30 @@ module _ (code : List ℕ) (at : ℕ) (u : Progress) (s : Shape) (es : s ≡ sha
             ∙ same-byte (getD code at 0) (drop (at + 1) code) (λ z. known (stage-at ∙ z))
             ∙ rw h at rest-is
 
-        -- a kind other than 4 that is not of stage 2 has no such byte
-        pub fault-none : c ≡ false → (s .stage ≡ 2 → ⊥) → (kind : ℕ) → kind ≡ getD code at 0 → (kind ≡ 4 → ⊥) → false ≡ faultyAt code at u
+        -- a kind that is not of stage 2 has no such byte where it is no instruction, or one before any block
+        pub fault-none : c ≡ false → (s .stage ≡ 2 → ⊥) → (shapeIn Code (getD code at 0) .stage ≡ 4 → u .stage ≡ 0) → false ≡ faultyAt code at u
         unfolding shapeIn shapesOf kinds
-        fault-none h two kind ek four =
+        fault-none h two none =
             sym (no-byte (getD code at 0) (drop (at + 1) code) (λ z. known (stage-at ∙ z))
-            (λ z. two (stage-at ∙ ap (λ (x : ℕ). shapeIn Code x .stage) z)) (λ z. four (ek ∙ z))) ∙ rw h at rest-is
+            (λ z. two (stage-at ∙ ap (λ (x : ℕ). shapeIn Code x .stage) z))
+            (λ z.
+            let four : shapeIn Code (getD code at 0) .stage ≡ 4 = ap (λ (x : ℕ). shapeIn Code x .stage) z in
+            let e = stage-at in
+            let n = none four in
+            let o = in-order (u .stage) (s .stage) (sym ef ∙ ok) (omega arith) .0 in
+            omega arith)) ∙ rw h at rest-is
+
+-- an instruction of a block that is whole, with a byte that it may have, has no fault
+pub fault-free : (code : List ℕ) (at : ℕ) (u : Progress) → Limited u → 1 ≤ u .stage → shapeIn Code (getD code at 0) .stage ≡ 4
+    → shapeIn Code (getD code at 0) .length ≤ length (drop (at + 1) code) → invalid (getD code at 0) (drop (at + 1) code) ≡ false → faultyAt code at u ≡ false
+unfolding faultyAt faulty counted follows
+fault-free code at u l opened four whole valid =
+    rw (
+      four,
+      le-ltb (length (drop (at + 1) code)) (shapeIn Code (getD code at 0) .length) whole,
+      le-leb 1 (u .stage) opened,
+      le-leb (u .stage) 4 (l .stage),
+      le-ltb 32 (u .variables) (l .variables),
+      le-ltb 8 (u .subs) (l .subs),
+      valid,
+    )

@@ -2,9 +2,9 @@
 --     head-turn                                            what both have in common
 --     variable-room, variable-turn                         kind 2
 --     sub-room, sub-refused, sub-turn                      kind 3
---     sub-missing, sub-read, weight-room                   the same, as the code takes it
+--     sub-missing, sub-block-below, weight-room, sub-read  the same, as the code takes it
 -- Assumes nothing.
-use Prim.Native.Nat.{ℕ, suc, _+_, _-_, _*_, _<_, _≤_}
+use Prim.Native.Nat.{ℕ, suc, _+_, _-_, _*_, _%_, _<_, _≤_}
 use mathlib.Core.Path.{_≡_, refl, sym, ap, _∙_}
 use mathlib.Core.Bool.{true, false, not, false≢true}
 use mathlib.Core.List.{List, [], _∷_, _++_}
@@ -12,14 +12,17 @@ use mathlib.Core.Logic.{⊎-elim}
 use native.Mathlib.Omega.{arith}
 use lib.ListN.{length, getD, take, drop, set, length-set}
 use lib.Seq.{getD-set-same, getD-set-other, take-suc}
-use borrow.Author.Tests.{lt-ltb, not-false}
+use lib.Dec.{ltb}
+use borrow.Author.Tests.{lt-ltb, ltb-true, ltb-false, not-false}
+use Rattle.laws.proofs.Booleans.{decide}
 use Rattle.book.specs.Scopes.{sum}
-use Rattle.book.specs.Syntax.{typeOf, variableOf}
+use Rattle.book.specs.Syntax.{variableOf}
 use Rattle.book.specs.declared.Variable.{Variable}
 use Rattle.machine.specs.Blocks.{Block, Parsed, stageOf, hasBlock}
 use Rattle.machine.specs.Acceptance.{counted, sound, weightIn, accepted}
-use Rattle.verifier.specs.Tables.{blockAt}
-use Rattle.verifier.specs.Pass.{weightAt, countOf, faultyAt, variableRead, subScopeRead, Quiet, earlier, ahead, Head, Noted, Busy, Sized, Reading, SubRoom, SubRead}
+use Rattle.directory.specs.Layout.{placeIn, blockWeight, blockIn, typeIn}
+use Rattle.directory.specs.Tabled.{blockAt}
+use Rattle.verifier.specs.Pass.{countOf, faultyAt, variableRead, subScopeRead, Quiet, earlier, ahead, Head, Noted, Busy, Reading, VariableRoom, blockOf, SubRoom, SubRead}
 use Rattle.verifier.specs.declared.Progress.{Progress}
 use Rattle.verifier.proofs.Reading.{ahead-at, front-two, front-three, length-below}
 use Rattle.verifier.proofs.Blocks.{refused, block-fits, formed}
@@ -30,16 +33,7 @@ use native.Mathlib.Nat.{eq-or-lt-of-le}
 use Rattle.verifier.specs.declared.Step.the-variants.{Refused, Next}
 use native.Mathlib.Numerals.{add-one}
 use Rattle.book.proofs.Searches.{any-false}
-use Rattle.verifier.proofs.Entries.{closed-heads}
-
-sized-heads : (code spans heads places sizes ring : List ℕ) (i v : ℕ) → Sized code spans heads places sizes ring
-    → Sized code spans (set heads i v) places sizes ring
-sized-heads code spans heads places sizes ring i v s =
-    record {
-      room = record { spanRoom = s .room .spanRoom; headRoom = length-set heads i v ∙ s .room .headRoom; placeRoom = s .room .placeRoom };
-      sizeRoom = s .sizeRoom;
-      ringRoom = s .ringRoom;
-    }
+use Rattle.verifier.proofs.Entries.{closed-same, row-room, sized-same}
 
 -- sums
 sum-more : (f : ℕ → ℕ) (xs : List ℕ) (x : ℕ) → sum f (xs ++ (x ∷ [])) ≡ sum f xs + f x
@@ -49,8 +43,8 @@ sum-more f (y ∷ xs) x = let h = sum-more f xs x in omega arith
 
 -- A record of the present block's head
 
-module _ (code : List ℕ) (at : ℕ) (u : Progress) (spans heads places sizes ring : List ℕ)
-    (r : Reading code at u spans heads places sizes ring) (here : at < length code) (fine : faultyAt code at u ≡ false) where
+module _ (code : List ℕ) (at : ℕ) (u : Progress) (directory ring : List ℕ)
+    (r : Reading code at u directory ring) (here : at < length code) (fine : faultyAt code at u ≡ false) where
   abbrev next : ℕ
   next = nextAt code at
 
@@ -62,9 +56,9 @@ module _ (code : List ℕ) (at : ℕ) (u : Progress) (spans heads places sizes r
 
   module _ (low : 2 ≤ stageOf (getD code at 0)) (high : stageOf (getD code at 0) ≤ 3) where
     early : (1 ≤ u .stage) × (u .stage < 4)
-    early = let o = was-open code at u spans heads places sizes ring r here fine low in (o .0, omega arith)
+    early = let o = was-open code at u directory ring r here fine low in (o .0, omega arith)
 
-    busy : Busy code at u heads ring
+    busy : Busy code at u directory ring
     busy = r .busy (early .0)
 
     quiet : Quiet ring next
@@ -90,19 +84,19 @@ module _ (code : List ℕ) (at : ℕ) (u : Progress) (spans heads places sizes r
     }
 
     head-turn : (s vs ss w i x : ℕ) → 1 ≤ s → s ≤ 3 → vs ≤ 32 → ss ≤ 8 → counted (stageOf (getD code at 0)) (countOf u) ≡ countOf (after s vs ss w)
-        → u .blocks * 48 ≤ i → ahead code at .opened .body ≡ ahead code next .opened .body → Head code next (after s vs ss w)
-        → Noted code (after s vs ss w) (set heads i x)
-        → Reading code next (after s vs ss w) spans (set heads i x) places sizes ring
+        → u .blocks * 45 + 32 ≤ i → ahead code at .opened .body ≡ ahead code next .opened .body → Head code next (after s vs ss w)
+        → Noted code (after s vs ss w) (set directory i x)
+        → Reading code next (after s vs ss w) (set directory i x) ring
     head-turn s vs ss w i x s1 s3 hv hs count above same head noted =
         let z = busy .still (early .1) .0 in
         record {
-          sized = sized-heads code spans heads places sizes ring i x (r .sized);
+          sized = sized-same code directory (set directory i x) ring ring (length-set directory i x) refl (r .sized);
           limited = record { stage = omega arith; variables = hv; subs = hs };
-          inside = next-inside code at u spans heads places sizes ring r here fine;
-          sound = rw count at (sound-next code at u spans heads places sizes ring r here fine);
+          inside = next-inside code at u directory ring r here fine;
+          sound = rw count at (sound-next code at u directory ring r here fine);
           closed =
-              closed-heads code (u .blocks) spans heads places sizes (set heads i x) (r .closed)
-              (λ j l. getD-set-other heads i j x 0 (λ q. omega arith));
+              closed-same code (u .blocks) directory (set directory i x) (r .closed)
+              (λ j l. getD-set-other directory i j x 0 (λ q. omega arith));
           idle = λ q. absurd (omega arith);
           busy =
               λ _. record {
@@ -122,7 +116,7 @@ module _ (code : List ℕ) (at : ℕ) (u : Progress) (spans heads places sizes r
     high2 : stageOf (getD code at 0) ≤ 3
     high2 = rw two (omega arith)
 
-    busy2 : Busy code at u heads ring
+    busy2 : Busy code at u directory ring
     busy2 = busy low2 high2
 
     front2 : ahead code at
@@ -148,30 +142,36 @@ module _ (code : List ℕ) (at : ℕ) (u : Progress) (spans heads places sizes r
 
     few2 : u .variables < 32
     unfolding counted
-    few2 = let z = rw two at (is-clean code at u spans heads places sizes ring r here fine .variables) in omega arith
+    few2 = let z = rw two at (is-clean code at u directory ring r here fine .variables) in omega arith
 
-    pub variable-room : (u .variables < 32) × (u .blocks < 32)
-    variable-room = (few2, busy2 .head .room)
+    pub variable-room : VariableRoom u directory
+    variable-room =
+        record { blocks = busy2 .head .room; variables = few2; row = row-room code at u directory ring (r .sized) (r .closed) (busy2 .head) }
 
-    noted2 : Noted code (variableRead u next) (set heads (u .blocks * 48 + 3 + u .variables) first)
-    noted2 =
+    row2 : u .blocks * 45 + 77 ≤ length directory
+    row2 = row-room code at u directory ring (r .sized) (r .closed) (busy2 .head)
+
+    other2 : (i : ℕ) → i < u .blocks * 45 + 45 + u .variables → getD (set directory (u .blocks * 45 + 45 + u .variables) first) i 0 ≡ getD directory i 0
+    other2 i h = getD-set-other directory (u .blocks * 45 + 45 + u .variables) i first 0 (λ z. omega arith)
+
+    noted2 : first < 256 → Noted code (variableRead u next) (set directory (u .blocks * 45 + 45 + u .variables) first)
+    unfolding typeIn blockIn
+    noted2 byte =
         record {
           types =
               λ v h.
               ⊎-elim
               (λ (q : v ≡ u .variables).
-              rw q
-              (ap typeOf (getD-set-same heads (u .blocks * 48 + 3 + u .variables) first 0
-              (let x = few2 in let y = busy2 .head .room in rw (r .sized .room .headRoom) (omega arith)))
-              ∙ sym (ap (λ (x : Variable). x .holds) (more2 .here))))
-              (λ (q : v < u .variables).
-              ap typeOf (getD-set-other heads (u .blocks * 48 + 3 + u .variables) (u .blocks * 48 + 3 + v) first 0 (λ z. omega arith))
-              ∙ busy2 .noted .types v q)
+              let e : first % 256 ≡ first = omega arith in
+              rw (
+                q,
+                getD-set-same directory (u .blocks * 45 + 45 + u .variables) first 0 (let x = few2 in let y = row2 in omega arith),
+                e,
+              ) (sym (ap (λ (x : Variable). x .holds) (more2 .here))))
+              (λ (q : v < u .variables). rw (other2 (u .blocks * 45 + 45 + v) (omega arith)) (busy2 .noted .types v q))
               (eq-or-lt-of-le {n = v} {m = u .variables} (omega arith));
-          subs =
-              λ k h.
-              getD-set-other heads (u .blocks * 48 + 3 + u .variables) (u .blocks * 48 + 35 + k) first 0 (λ z. let x = few2 in omega arith)
-              ∙ busy2 .noted .subs k h;
+          earlier = λ k h. rw (other2 (u .blocks * 45 + 37 + k) (let x = r .limited .subs in omega arith)) (busy2 .noted .earlier k h);
+          subs = λ k h. rw (other2 (u .blocks * 45 + 37 + k) (let x = r .limited .subs in omega arith)) (busy2 .noted .subs k h);
         }
 
     head2 : Head code next (variableRead u next)
@@ -195,12 +195,12 @@ module _ (code : List ℕ) (at : ℕ) (u : Progress) (spans heads places sizes r
           weightFew = h .weightFew;
         }
 
-    pub variable-turn : Reading code next (variableRead u next) spans (set heads (u .blocks * 48 + 3 + u .variables) first) places sizes ring
+    pub variable-turn : first < 256 → Reading code next (variableRead u next) (set directory (u .blocks * 45 + 45 + u .variables) first) ring
     unfolding counted
-    variable-turn =
+    variable-turn byte =
         let f = few2 in
-        head-turn low2 high2 2 (u .variables + 1) (u .subs) (u .weight) (u .blocks * 48 + 3 + u .variables) first (omega arith) (omega arith)
-        (omega arith) (r .limited .subs) (rw two) (omega arith) same2 head2 noted2
+        head-turn low2 high2 2 (u .variables + 1) (u .subs) (u .weight) (u .blocks * 45 + 45 + u .variables) first (omega arith) (omega arith)
+        (omega arith) (r .limited .subs) (rw two) (omega arith) same2 head2 (noted2 byte)
 
   -- kind 3
   module _ (three : stageOf (getD code at 0) ≡ 3) where
@@ -210,7 +210,7 @@ module _ (code : List ℕ) (at : ℕ) (u : Progress) (spans heads places sizes r
     high3 : stageOf (getD code at 0) ≤ 3
     high3 = rw three (omega arith)
 
-    busy3 : Busy code at u heads ring
+    busy3 : Busy code at u directory ring
     busy3 = busy low3 high3
 
     front3 : ahead code at
@@ -235,13 +235,34 @@ module _ (code : List ℕ) (at : ℕ) (u : Progress) (spans heads places sizes r
 
     few3 : u .subs < 8
     unfolding counted
-    few3 = let z = rw three at (is-clean code at u spans heads places sizes ring r here fine .subScopes) in omega arith
+    few3 = let z = rw three at (is-clean code at u directory ring r here fine .subScopes) in omega arith
 
-    pub sub-room : (u .subs < 8) × (u .blocks < 32) × (u .weight + weightAt sizes first ≤ 40000)
-    sub-room = (few3, busy3 .head .room, let x = few3 in let y = busy3 .head .weightFew in let z = r .closed .light first in omega arith)
+    -- the block of a scope that has one, and the number of a scope's place
+    abbrev block : ℕ
+    block = blockOf directory first
+
+    place-bound : placeIn directory first ≤ u .blocks
+    place-bound =
+        ⊎-elim
+        (λ (q : ltb 0 (placeIn directory first) ≡ true). r .closed .present first (ltb-true 0 (placeIn directory first) q) .0)
+        (λ (q : ltb 0 (placeIn directory first) ≡ false). let z = ltb-false 0 (placeIn directory first) q in omega arith)
+        (decide (ltb 0 (placeIn directory first)))
+
+    light3 : 0 < placeIn directory first → blockWeight directory block ≤ 4096
+    light3 h = let b = place-bound in r .closed .light block (omega arith)
+
+    pub sub-room : SubRoom first u directory
+    sub-room =
+        record {
+          blocks = busy3 .head .room;
+          subs = few3;
+          row = row-room code at u directory ring (r .sized) (r .closed) (busy3 .head);
+          place = let b = place-bound in let y = busy3 .head .room in omega arith;
+          weight = λ h. let x = few3 in let y = busy3 .head .weightFew in let z = light3 h in omega arith;
+        }
 
     -- no block of that scope stands before
-    pub sub-refused : getD places first 0 ≡ 0 → accepted code ≡ false
+    pub sub-refused : placeIn directory first ≡ 0 → accepted code ≡ false
     sub-refused q =
         refused code
         (λ a.
@@ -250,47 +271,63 @@ module _ (code : List ℕ) (at : ℕ) (u : Progress) (spans heads places sizes r
         let h : hasBlock (earlier code (u .blocks)) first ≡ true = not-false (hasBlock (earlier code (u .blocks)) first) (rw (more3 .here) at n) in
         false≢true (sym (r .closed .known first ∙ rw q) ∙ h))
 
-    module _ (there : getD places first 0 ≡ 0 → ⊥) where
-      noted3 : Noted code (subScopeRead u (weightAt sizes first) next) (set heads (u .blocks * 48 + 35 + u .subs) first)
+    module _ (there : placeIn directory first ≡ 0 → ⊥) where
+      row3 : u .blocks * 45 + 77 ≤ length directory
+      row3 = row-room code at u directory ring (r .sized) (r .closed) (busy3 .head)
+
+      earlier3 : block < u .blocks
+      earlier3 = let b = place-bound in omega arith
+
+      scope3 : blockAt code block .scope ≡ first
+      scope3 = r .closed .present first (omega arith) .1
+
+      other3 : (i : ℕ) → (i ≡ u .blocks * 45 + 37 + u .subs → ⊥)
+          → getD (set directory (u .blocks * 45 + 37 + u .subs) block) i 0 ≡ getD directory i 0
+      other3 i ne = getD-set-other directory (u .blocks * 45 + 37 + u .subs) i block 0 ne
+
+      here3 : getD (set directory (u .blocks * 45 + 37 + u .subs) block) (u .blocks * 45 + 37 + u .subs) 0 ≡ block
+      here3 = getD-set-same directory (u .blocks * 45 + 37 + u .subs) block 0 (let x = few3 in let y = row3 in omega arith)
+
+      noted3 : Noted code (subScopeRead u (blockWeight directory block) next) (set directory (u .blocks * 45 + 37 + u .subs) block)
+      unfolding typeIn blockIn
       noted3 =
           record {
-            types =
-                λ v h.
-                ap typeOf (getD-set-other heads (u .blocks * 48 + 35 + u .subs) (u .blocks * 48 + 3 + v) first 0
-                (λ z. let x = r .limited .variables in omega arith))
-                ∙ busy3 .noted .types v h;
+            types = λ v h. rw (other3 (u .blocks * 45 + 45 + v) (λ z. let x = few3 in omega arith)) (busy3 .noted .types v h);
+            earlier =
+                λ k h.
+                ⊎-elim
+                (λ (q : k ≡ u .subs). rw (q, here3) earlier3)
+                (λ (q : k < u .subs). rw (other3 (u .blocks * 45 + 37 + k) (λ z. omega arith)) (busy3 .noted .earlier k q))
+                (eq-or-lt-of-le {n = k} {m = u .subs} (omega arith));
             subs =
                 λ k h.
                 ⊎-elim
-                (λ (q : k ≡ u .subs).
-                rw q
-                (getD-set-same heads (u .blocks * 48 + 35 + u .subs) first 0
-                (let x = few3 in let y = busy3 .head .room in rw (r .sized .room .headRoom) (omega arith))
-                ∙ sym (more3 .here)))
-                (λ (q : k < u .subs).
-                getD-set-other heads (u .blocks * 48 + 35 + u .subs) (u .blocks * 48 + 35 + k) first 0 (λ z. omega arith)
-                ∙ busy3 .noted .subs k q)
+                (λ (q : k ≡ u .subs). rw (q, here3) (scope3 ∙ sym (more3 .here)))
+                (λ (q : k < u .subs). rw (other3 (u .blocks * 45 + 37 + k) (λ z. omega arith)) (busy3 .noted .subs k q))
                 (eq-or-lt-of-le {n = k} {m = u .subs} (omega arith));
           }
 
       known3 : (k : ℕ) → k < u .subs + 1 → hasBlock (earlier code (u .blocks)) (getD (b .subScopes) k 0) ≡ true
       known3 k h =
           ⊎-elim
-          (λ (q : k ≡ u .subs). rw (q, more3 .here) (r .closed .known first ∙ lt-ltb 0 (getD places first 0) (omega arith)))
+          (λ (q : k ≡ u .subs). rw (q, more3 .here) (r .closed .known first ∙ lt-ltb 0 (placeIn directory first) (omega arith)))
           (λ (q : k < u .subs). busy3 .head .known k q)
           (eq-or-lt-of-le {n = k} {m = u .subs} (omega arith))
 
-      weight3 : u .weight + weightAt sizes first ≡ suc (sum (weightIn (earlier code (u .blocks))) (take (u .subs + 1) (b .subScopes)))
+      weighed3 : weightIn (earlier code (u .blocks)) first ≡ blockWeight directory block
+      weighed3 = ap (weightIn (earlier code (u .blocks))) (sym scope3) ∙ r .closed .weighed block earlier3
+
+      weight3 : u .weight + blockWeight directory block ≡ suc (sum (weightIn (earlier code (u .blocks))) (take (u .subs + 1) (b .subScopes)))
       weight3 =
           let s = sum-more (weightIn (earlier code (u .blocks))) (take (u .subs) (b .subScopes)) first in
           let t : take (u .subs + 1) (b .subScopes) ≡ take (u .subs) (b .subScopes) ++ (first ∷ []) =
           ap (λ (n : ℕ). take n (b .subScopes)) (add-one (u .subs)) ∙ take-suc (b .subScopes) (u .subs) 0 (more3 .inside)
           ∙ ap (λ (x : ℕ). take (u .subs) (b .subScopes) ++ (x ∷ [])) (more3 .here) in
           let w = busy3 .head .weight in
-          let x = r .closed .weighed first in
+          let x = weighed3 in
           rw t (omega arith)
 
-      head3 : Head code next (subScopeRead u (weightAt sizes first) next)
+      head3 : Head code next (subScopeRead u (blockWeight directory block) next)
       head3 =
           let h = busy3 .head in
           record {
@@ -308,34 +345,45 @@ module _ (code : List ℕ) (at : ℕ) (u : Progress) (spans heads places sizes r
             body = let z : next - next ≡ 0 = omega arith in rw z (body-left low3 high3 same3);
             known = known3;
             weight = weight3;
-            weightFew = let y = h .weightFew in let z = r .closed .light first in omega arith;
+            weightFew = let y = h .weightFew in let z = light3 (omega arith) in omega arith;
           }
 
-      pub sub-turn : Reading code next (subScopeRead u (weightAt sizes first) next) spans (set heads (u .blocks * 48 + 35 + u .subs) first) places
-          sizes ring
+      pub sub-turn : Reading code next (subScopeRead u (blockWeight directory (blockOf directory first)) next)
+          (set directory (u .blocks * 45 + 37 + u .subs) (blockOf directory first)) ring
       unfolding counted
       sub-turn =
           let f = few3 in
-          head-turn low3 high3 3 (u .variables) (u .subs + 1) (u .weight + weightAt sizes first) (u .blocks * 48 + 35 + u .subs) first
+          head-turn low3 high3 3 (u .variables) (u .subs + 1) (u .weight + blockWeight directory block) (u .blocks * 45 + 37 + u .subs) block
           (omega arith) (omega arith) (r .limited .variables) (omega arith) (rw three) (omega arith) same3 head3 noted3
 
 -- What the code reads
 
-module _ (scope next : ℕ) (u : Progress) (heads places sizes : List ℕ) where
-  pub sub-missing : (i x : ℕ) → i ≡ scope → x ≡ getD places i 0 → x ≡ 0 → SubRead scope next u heads places sizes heads Refused
-  sub-missing i x ei ex h =
-      record { missing = λ _. refl; read = λ n. absurd (n (ap (λ (j : ℕ). getD places j 0) (sym ei) ∙ sym ex ∙ h)) }
+module _ (scope next : ℕ) (u : Progress) (directory : List ℕ) (i x : ℕ) (ei : i ≡ scope) (ex : x ≡ placeIn directory i) where
+  place-is : x ≡ placeIn directory scope
+  place-is = ex ∙ ap (placeIn directory) ei
 
-  pub sub-read : (i x w : ℕ) → i ≡ scope → x ≡ getD places i 0 → (x ≡ 0 → ⊥) → w ≡ getD sizes (i * 2) 0
-      → SubRead scope next u heads places sizes (set heads (u .blocks * 48 + 35 + u .subs) scope) (Next next (subScopeRead u w next))
-  unfolding weightAt
-  sub-read i x w ei ex h ew =
-      record {
-        missing = λ z. absurd (h (ex ∙ ap (λ (j : ℕ). getD places j 0) ei ∙ z));
-        read = λ _. (ap (λ (y : ℕ). Next next (subScopeRead u y next)) (ew ∙ ap (λ (j : ℕ). getD sizes (j * 2) 0) ei), refl);
-      }
+  pub sub-missing : x ≡ 0 → SubRead scope next u directory directory Refused
+  sub-missing h = record { missing = λ _. refl; read = λ n. absurd (n (sym place-is ∙ h)) }
 
-pub weight-room : (scope : ℕ) (u : Progress) (heads sizes : List ℕ) → SubRoom scope u heads sizes → (i w : ℕ) → i ≡ scope
-    → w ≡ getD sizes (i * 2) 0 → u .weight + w ≤ 40000
-unfolding weightAt
-weight-room scope u heads sizes r i w ei ew = let z = r .weight in rw (ew, ei) z
+  module _ (there : x ≡ 0 → ⊥) where
+    -- the block is one of 32
+    pub sub-block-below : SubRoom scope u directory → x - 1 < 32
+    sub-block-below room = let z = room .place in let y = place-is in omega arith
+
+    module _ (w : ℕ) (ew : w ≡ blockWeight directory (x - 1)) where
+      weight-is : w ≡ blockWeight directory (blockOf directory scope)
+      weight-is = ew ∙ ap (λ (p : ℕ). blockWeight directory (p - 1)) place-is
+
+      pub weight-room : SubRoom scope u directory → u .weight + w ≤ 40000
+      weight-room room = let z = room .weight (let y = place-is in omega arith) in rw weight-is z
+
+      pub sub-read : SubRead scope next u directory (set directory (u .blocks * 45 + 37 + u .subs) (x - 1)) (Next next (subScopeRead u w next))
+      sub-read =
+          record {
+            missing = λ z. absurd (there (place-is ∙ z));
+            read =
+                λ _. (
+                  ap (λ (y : ℕ). Next next (subScopeRead u y next)) weight-is,
+                  ap (λ (p : ℕ). set directory (u .blocks * 45 + 37 + u .subs) (p - 1)) place-is,
+                );
+          }

@@ -3,9 +3,9 @@ mod Ring
 mod Reading
 mod Blocks
 mod Fitting
-mod Landings
 mod Turns
 mod Steps
+mod Landings
 mod Entries
 mod Heads
 mod Ends

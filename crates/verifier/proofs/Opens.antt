@@ -3,9 +3,9 @@
 --     begin-leaves, begin-stepped, left-refused, left-closed    the same, as the code takes it
 --     makes-empty, start-reading, empty-start                   the start
 --     stepped-refused, stepped-next                             the loop
---     end-leaves, end-judged, judged-refused, judged-accepted   the end
+--     end-leaves, end-judged                                    the end
 -- Assumes nothing.
-use Prim.Native.Nat.{ℕ, zero, suc, _+_, _-_, _*_, _%_, _<_, _≤_}
+use Prim.Native.Nat.{ℕ, zero, suc, _+_, _-_, _%_, _<_, _≤_}
 use mathlib.Core.Path.{_≡_, refl, sym, ap, _∙_}
 use mathlib.Core.Bool.{true, false, false≢true}
 use mathlib.Core.List.{List, _∷_}
@@ -17,30 +17,29 @@ use borrow.Author.Tests.{lt-ltb, ltb-true, ltb-false, eqb-true, eqb-false}
 use Rattle.laws.proofs.Booleans.{decide}
 use Rattle.book.specs.Lists.{any}
 use Rattle.book.specs.Scopes.{sum}
-use Rattle.machine.specs.Blocks.{Block, Parsed, emptyBlock, stageOf, parse, hasBlock, variablesOf}
-use Rattle.machine.specs.Acceptance.{start, counted, sound, weightIn, wellFormed, allWellFormed, accepted}
-use Rattle.verifier.specs.Tables.{blockAt, Tabled, blockCount, Room}
-use Rattle.verifier.specs.Pass.{weightAt, widthAt, countOf, faultyAt, blockRead, mark, Quiet, earlier, ahead, Reading, nothingRead, filled, Leaving, AllClosed, Beginning, opening, Empty, Stepped, Judged, Left}
+use Rattle.machine.specs.Blocks.{Block, Parsed, emptyBlock, stageOf, parse, hasBlock}
+use Rattle.machine.specs.Acceptance.{start, counted, sound, wellFormed, allWellFormed, accepted}
+use Rattle.directory.specs.Layout.{placeIn}
+use Rattle.directory.specs.Tabled.{blockAt, Tabled, blockCount, Room}
+use Rattle.verifier.specs.Pass.{countOf, faultyAt, blockRead, mark, Quiet, earlier, ahead, Reading, nothingRead, filled, Leaving, AllClosed, Beginning, opening, Empty, Stepped, Left}
 use Rattle.verifier.specs.declared.Progress.{Progress}
 use Rattle.verifier.proofs.Reading.{ahead-at, front-one, ahead-end, length-below}
 use Rattle.verifier.proofs.Blocks.{refused, block-fits, Formed, formed, all-accepted}
 use Rattle.verifier.proofs.Ring.{quiet-next, marks-quiet}
 use Rattle.verifier.proofs.Turns.{More, drop-more, drop-end, nextAt, next-inside, sound-next}
-use Rattle.verifier.proofs.Ends.{filled-room, filled-bound}
+use Rattle.verifier.proofs.Entries.{filled-room, filled-bound}
 use Rattle.verifier.specs.declared.Step.{Step}
 use Rattle.verifier.specs.declared.Step.the-variants.{Refused, Next}
 use Rattle.verifier.specs.declared.Closing.{Closing}
 use Rattle.verifier.specs.declared.Closing.the-variants.{Closed}
 use Rattle.verifier.specs.declared.Closing.the-variants as closing
-use Rattle.verifier.specs.declared.Verdict.{Verdict}
-use Rattle.verifier.specs.declared.Verdict.the-variants as verdict
 use Rattle.laws.proofs.Zeros.{zeros}
 use native.Mathlib.Numerals.{add-one}
 
 -- at a record of kind 1 the present block ends
-pub begin-leaves : (code : List ℕ) (at next scope : ℕ) (u : Progress) (spans heads places sizes ring : List ℕ)
-    → Beginning code at next scope u spans heads places sizes ring → Leaving code at u spans heads places sizes ring
-begin-leaves code at next scope u spans heads places sizes ring g =
+pub begin-leaves : (code : List ℕ) (at next scope : ℕ) (u : Progress) (directory ring : List ℕ)
+    → Beginning code at next scope u directory ring → Leaving code at u directory ring
+begin-leaves code at next scope u directory ring g =
     record {
       reading = g .reading;
       ended = ap (λ (p : Parsed). p .opened) (ahead-at code at (g .here)
@@ -48,10 +47,10 @@ begin-leaves code at next scope u spans heads places sizes ring g =
     }
 
 -- a block begins
-module _ (code : List ℕ) (at : ℕ) (u : Progress) (spans₀ heads₀ places₀ sizes₀ ring₀ : List ℕ)
-    (r : Reading code at u spans₀ heads₀ places₀ sizes₀ ring₀) (here : at < length code) (fine : faultyAt code at u ≡ false)
+module _ (code : List ℕ) (at : ℕ) (u : Progress) (directory₀ ring₀ : List ℕ)
+    (r : Reading code at u directory₀ ring₀) (here : at < length code) (fine : faultyAt code at u ≡ false)
     (one : stageOf (getD code at 0) ≡ 1)
-    (m : ℕ) (spans heads places sizes ring : List ℕ) (c : AllClosed code at m spans heads places sizes ring) where
+    (m : ℕ) (directory ring : List ℕ) (c : AllClosed code at m directory ring) where
   abbrev next : ℕ
   next = nextAt code at
 
@@ -89,18 +88,17 @@ module _ (code : List ℕ) (at : ℕ) (u : Progress) (spans₀ heads₀ places�
   pub scope-refused : 31 < s → accepted code ≡ false
   scope-refused h = refused code (λ a. let z = formed-here a .scope in let y = scope-is in omega arith)
 
-  pub repeat-refused : (getD places s 0 ≡ 0 → ⊥) → accepted code ≡ false
+  pub repeat-refused : (placeIn directory s ≡ 0 → ⊥) → accepted code ≡ false
   repeat-refused h =
       refused code
       (λ a.
       let z : hasBlock (earlier code m) s ≡ false = ap (hasBlock (earlier code m)) (sym scope-is) ∙ formed-here a .fresh in
-      false≢true (sym z ∙ c .closed .known s ∙ lt-ltb 0 (getD places s 0) (omega arith)))
+      false≢true (sym z ∙ c .closed .known s ∙ lt-ltb 0 (placeIn directory s) (omega arith)))
 
-  module _ (small : s ≤ 31) (free : getD places s 0 ≡ 0) where
+  module _ (small : s ≤ 31) (free : placeIn directory s ≡ 0) where
     room : m < 32
     room =
-        let n = c .sized .room .placeRoom in
-        let z = filled-room places s (omega arith) free in
+        let z = filled-room directory s 32 (omega arith) free in
         let y = c .closed .used in
         omega arith
 
@@ -111,14 +109,14 @@ module _ (code : List ℕ) (at : ℕ) (u : Progress) (spans₀ heads₀ places�
     unfolding new
     body-is = sym (ap (λ (x : Block). x .body) block-is)
 
-    pub open-turn : Reading code next (blockRead m s next) spans heads places sizes ring
+    pub open-turn : Reading code next (blockRead m s next) directory ring
     unfolding counted new sum
     open-turn =
         record {
           sized = c .sized;
           limited = record { stage = omega arith; variables = omega arith; subs = omega arith };
-          inside = next-inside code at u spans₀ heads₀ places₀ sizes₀ ring₀ r here fine;
-          sound = rw one at (sound-next code at u spans₀ heads₀ places₀ sizes₀ ring₀ r here fine);
+          inside = next-inside code at u directory₀ ring₀ r here fine;
+          sound = rw one at (sound-next code at u directory₀ ring₀ r here fine);
           closed = c .closed;
           idle = λ z. absurd (omega arith);
           busy =
@@ -141,77 +139,62 @@ module _ (code : List ℕ) (at : ℕ) (u : Progress) (spans₀ heads₀ places�
                       weight = refl;
                       weightFew = omega arith;
                     };
-                noted = record { types = λ v h. absurd (omega arith); subs = λ k h. absurd (omega arith) };
+                noted = record { types = λ v h. absurd (omega arith); earlier = λ k h. absurd (omega arith); subs = λ k h. absurd (omega arith) };
                 marks = marks-quiet (earlier code m) (blockAt code m) (ahead code next .opened .body) next 0 ring quiet refl body-is;
                 quiet = λ _. quiet;
                 still = λ _. (refl, refl);
               };
         }
 
-  pub open-stepped : Stepped code at spans heads places sizes ring (opening s next m places)
+  pub open-stepped : Stepped code at directory ring (opening s next m directory)
   unfolding opening
   open-stepped =
       ⊎-elim
       (λ (q : ltb 31 s ≡ true). rw q (scope-refused (ltb-true 31 s q)))
       (λ (q : ltb 31 s ≡ false).
       ⊎-elim
-      (λ (p : eqb (getD places s 0) 0 ≡ true). rw (q, p) (omega arith, open-turn (ltb-false 31 s q) (eqb-true (getD places s 0) 0 p)))
-      (λ (p : eqb (getD places s 0) 0 ≡ false). rw (q, p) (repeat-refused (eqb-false (getD places s 0) 0 p)))
-      (decide (eqb (getD places s 0) 0)))
+      (λ (p : eqb (placeIn directory s) 0 ≡ true). rw (q, p) (omega arith, open-turn (ltb-false 31 s q) (eqb-true (placeIn directory s) 0 p)))
+      (λ (p : eqb (placeIn directory s) 0 ≡ false). rw (q, p) (repeat-refused (eqb-false (placeIn directory s) 0 p)))
+      (decide (eqb (placeIn directory s) 0)))
       (decide (ltb 31 s))
 
-pub begin-stepped : (code : List ℕ) (at next scope : ℕ) (u : Progress) (spans₀ heads₀ places₀ sizes₀ ring₀ : List ℕ)
-    → Beginning code at next scope u spans₀ heads₀ places₀ sizes₀ ring₀
-    → (m : ℕ) (spans heads places sizes ring : List ℕ) → AllClosed code at m spans heads places sizes ring
-    → (r : Step) → r ≡ opening scope next m places → Stepped code at spans heads places sizes ring r
-begin-stepped code at next scope u spans₀ heads₀ places₀ sizes₀ ring₀ g m spans heads places sizes ring c r e =
+pub begin-stepped : (code : List ℕ) (at next scope : ℕ) (u : Progress) (directory₀ ring₀ : List ℕ)
+    → Beginning code at next scope u directory₀ ring₀
+    → (m : ℕ) (directory ring : List ℕ) → AllClosed code at m directory ring
+    → (r : Step) → r ≡ opening scope next m directory → Stepped code at directory ring r
+begin-stepped code at next scope u directory₀ ring₀ g m directory ring c r e =
     rw (e, g .scopeIs, g .nextIs)
-    (open-stepped code at u spans₀ heads₀ places₀ sizes₀ ring₀ (g .reading) (g .here) (g .fine) (g .stage) m spans heads places sizes
+    (open-stepped code at u directory₀ ring₀ (g .reading) (g .here) (g .fine) (g .stage) m directory
     ring c)
 
 -- a refused end
-pub left-refused : (code : List ℕ) (at : ℕ) (spans heads places sizes ring : List ℕ) (x : Closing) → x ≡ closing.Refused
-    → Left code at spans heads places sizes ring x → accepted code ≡ false
-left-refused code at spans heads places sizes ring x e l = rw e at l
+pub left-refused : (code : List ℕ) (at : ℕ) (directory ring : List ℕ) (x : Closing) → x ≡ closing.Refused
+    → Left code at directory ring x → accepted code ≡ false
+left-refused code at directory ring x e l = rw e at l
 
-pub left-closed : (code : List ℕ) (at m : ℕ) (spans heads places sizes ring : List ℕ) (x : Closing) → x ≡ Closed m
-    → Left code at spans heads places sizes ring x → AllClosed code at m spans heads places sizes ring
-left-closed code at m spans heads places sizes ring x e l = rw e at l
+pub left-closed : (code : List ℕ) (at m : ℕ) (directory ring : List ℕ) (x : Closing) → x ≡ Closed m
+    → Left code at directory ring x → AllClosed code at m directory ring
+left-closed code at m directory ring x e l = rw e at l
 
 -- The start
 
--- tables and a ring that are lent
-pub makes-empty : (code spans heads places : List ℕ) (n : ℕ) → Room spans heads places × (places ≡ replicate 32 0)
-    → ((d : ℕ) → d ≤ length code → d % 65536 < n) → Empty code spans heads places (replicate 64 0) (replicate n 0)
-makes-empty code spans heads places n r room =
-    record {
-      spanRoom = r .0 .spanRoom;
-      headRoom = r .0 .headRoom;
-      noPlaces = r .1;
-      noSizes = refl;
-      noMarks = zeros n;
-      ringRoom = λ d h. rw (length-replicate {A = ℕ} n 0) (room d h);
-    }
+-- a directory and a ring that are lent
+pub makes-empty : (code directory : List ℕ) (n : ℕ) → Room code directory × ((i : ℕ) → placeIn directory i ≡ 0)
+    → ((d : ℕ) → d ≤ length code → d % 65536 < n) → Empty code directory (replicate n 0)
+makes-empty code directory n r room =
+    record { room = r .0; noPlaces = r .1; noMarks = zeros n; ringRoom = λ d h. rw (length-replicate {A = ℕ} n 0) (room d h) }
 
-none-filled : (n : ℕ) → filled (replicate n 0) ≡ 0
+none-filled : (directory : List ℕ) → ((i : ℕ) → placeIn directory i ≡ 0) → (n : ℕ) → filled directory n ≡ 0
 unfolding filled
-none-filled zero = refl
-none-filled (suc n) = let h = none-filled n in omega arith
+none-filled directory none zero = refl
+none-filled directory none (suc n) = let h = none-filled directory none n in rw (none n, h)
 
-pub start-reading : (code spans heads places sizes ring : List ℕ) → Empty code spans heads places sizes ring
-    → Reading code 0 nothingRead spans heads places sizes ring
-unfolding earlier allWellFormed hasBlock any weightIn variablesOf ahead mark weightAt widthAt
-start-reading code spans heads places sizes ring e =
-    let p : (i : ℕ) → getD places i 0 ≡ 0 = λ i. rw (e .noPlaces) (zeros 32 i) in
-    let w : (i : ℕ) → weightAt sizes i ≡ 0 = λ i. rw (e .noSizes) (zeros 64 (i * 2)) in
-    let v : (i : ℕ) → widthAt sizes i ≡ 0 = λ i. rw (e .noSizes) (zeros 64 (i * 2 + 1)) in
+pub start-reading : (code directory ring : List ℕ) → Empty code directory ring
+    → Reading code 0 nothingRead directory ring
+unfolding earlier allWellFormed hasBlock any ahead mark
+start-reading code directory ring e =
     record {
-      sized =
-          record {
-            room = record { spanRoom = e .spanRoom; headRoom = e .headRoom; placeRoom = rw (e .noPlaces) (length-replicate {A = ℕ} 32 0) };
-            sizeRoom = rw (e .noSizes) (length-replicate {A = ℕ} 64 0);
-            ringRoom = e .ringRoom;
-          };
+      sized = record { room = e .room; ringRoom = e .ringRoom };
       limited = record { stage = omega arith; variables = omega arith; subs = omega arith };
       inside = omega arith;
       sound = refl;
@@ -221,13 +204,13 @@ start-reading code spans heads places sizes ring e =
             wellFormed = refl;
             entered = λ q h. absurd (omega arith);
             found = λ q h. absurd (omega arith);
-            present = λ i h. let z = p i in absurd (omega arith);
-            used = rw (e .noPlaces) (none-filled 32);
+            present = λ i h. let z = e .noPlaces i in absurd (omega arith);
+            used = none-filled directory (e .noPlaces) 32;
             small = λ q h. absurd (omega arith);
-            known = λ i. sym (rw (p i));
-            weighed = λ i. sym (w i);
-            light = λ i. let z = w i in omega arith;
-            wide = λ i. sym (v i);
+            known = λ i. sym (rw (e .noPlaces i));
+            weighed = λ q h. absurd (omega arith);
+            light = λ q h. absurd (omega arith);
+            declared = λ q h. absurd (omega arith);
           };
       idle = λ _. record { later = refl; quiet = λ d q. let z = e .noMarks (d % 65536) in let y = q .set in omega arith };
       busy = λ h. absurd (omega arith);
@@ -235,13 +218,13 @@ start-reading code spans heads places sizes ring e =
 
 -- The end
 
-pub end-leaves : (code : List ℕ) (at : ℕ) (u : Progress) (spans heads places sizes ring : List ℕ)
-    → Reading code at u spans heads places sizes ring → length code ≤ at → Leaving code at u spans heads places sizes ring
-end-leaves code at u spans heads places sizes ring r h =
+pub end-leaves : (code : List ℕ) (at : ℕ) (u : Progress) (directory ring : List ℕ)
+    → Reading code at u directory ring → length code ≤ at → Leaving code at u directory ring
+end-leaves code at u directory ring r h =
     record { reading = r; ended = ap (λ (p : Parsed). p .opened) (ahead-end code at h) }
 
-module _ (code : List ℕ) (at m : ℕ) (u : Progress) (spans heads places sizes ring : List ℕ) (h : length code ≤ at)
-    (s : sound (drop at code) 0 (countOf u) ≡ sound code 0 start) (c : AllClosed code at m spans heads places sizes ring) where
+module _ (code : List ℕ) (at m : ℕ) (u : Progress) (directory ring : List ℕ) (h : length code ≤ at)
+    (s : sound (drop at code) 0 (countOf u) ≡ sound code 0 start) (c : AllClosed code at m directory ring) where
   all-blocks : length (parse code 0 .blocks) ≤ m
   all-blocks = drop-end (parse code 0 .blocks) m (c .idle .later ∙ ap (λ (p : Parsed). p .blocks) (ahead-end code at h))
 
@@ -252,50 +235,42 @@ module _ (code : List ℕ) (at m : ℕ) (u : Progress) (spans heads places sizes
   pub end-accepted : accepted code ≡ true
   end-accepted = all-accepted code m all-blocks sound-all (c .closed .wellFormed)
 
-  pub end-tabled : Tabled code spans heads places m
+  pub end-tabled : Tabled code directory m
   unfolding blockCount
   end-tabled =
       let w = c .closed .within in
       let a = all-blocks in
-      let f = filled-bound places in
-      let n = c .sized .room .placeRoom in
+      let f = filled-bound directory 32 in
       let z = c .closed .used in
       record {
         number = omega arith;
         few = omega arith;
         blocks = c .closed .entered;
         found = c .closed .found;
-        present = λ i _ q. c .closed .present i q;
+        present = c .closed .present;
       }
 
 -- The loop
 
-pub stepped-refused : (code : List ℕ) (at : ℕ) (spans heads places sizes ring : List ℕ) (x : Step) → x ≡ Refused
-    → Stepped code at spans heads places sizes ring x → accepted code ≡ false
-stepped-refused code at spans heads places sizes ring x e s = rw e at s
+pub stepped-refused : (code : List ℕ) (at : ℕ) (directory ring : List ℕ) (x : Step) → x ≡ Refused
+    → Stepped code at directory ring x → accepted code ≡ false
+stepped-refused code at directory ring x e s = rw e at s
 
-pub stepped-next : (code : List ℕ) (at : ℕ) (spans heads places sizes ring : List ℕ) (x : Step) (next : ℕ) (u : Progress) → x ≡ Next next u
-    → Stepped code at spans heads places sizes ring x → (at < next) × Reading code next u spans heads places sizes ring
-stepped-next code at spans heads places sizes ring x next u e s = rw e at s
+pub stepped-next : (code : List ℕ) (at : ℕ) (directory ring : List ℕ) (x : Step) (next : ℕ) (u : Progress) → x ≡ Next next u
+    → Stepped code at directory ring x → (at < next) × Reading code next u directory ring
+stepped-next code at directory ring x next u e s = rw e at s
 
-pub empty-start : (code spans heads places sizes ring : List ℕ) (u : Progress) → Empty code spans heads places sizes ring
+pub empty-start : (code directory ring : List ℕ) (u : Progress) → Empty code directory ring
     → u ≡ nothingRead
-    → Reading code 0 u spans heads places sizes ring
-empty-start code spans heads places sizes ring u e eu = rw eu (start-reading code spans heads places sizes ring e)
+    → Reading code 0 u directory ring
+empty-start code directory ring u e eu = rw eu (start-reading code directory ring e)
 
-pub end-judged : (code : List ℕ) (at : ℕ) (u : Progress) (spans₀ heads₀ places₀ sizes₀ ring₀ : List ℕ)
-    → Reading code at u spans₀ heads₀ places₀ sizes₀ ring₀ → length code ≤ at
-    → (m : ℕ) (spans heads places sizes ring : List ℕ) → AllClosed code at m spans heads places sizes ring
-    → (accepted code ≡ true) × Tabled code spans heads places m
-end-judged code at u spans₀ heads₀ places₀ sizes₀ ring₀ r h m spans heads places sizes ring c = (
-  end-accepted code at m u spans heads places sizes ring h (r .sound) c,
-  end-tabled code at m u spans heads places sizes ring
+pub end-judged : (code : List ℕ) (at : ℕ) (u : Progress) (directory₀ ring₀ : List ℕ)
+    → Reading code at u directory₀ ring₀ → length code ≤ at
+    → (m : ℕ) (directory ring : List ℕ) → AllClosed code at m directory ring
+    → (accepted code ≡ true) × Tabled code directory m
+end-judged code at u directory₀ ring₀ r h m directory ring c = (
+  end-accepted code at m u directory ring h (r .sound) c,
+  end-tabled code at m u directory ring
       h (r .sound) c,
 )
-
-pub judged-refused : (code spans heads places : List ℕ) (v : Verdict) → v ≡ verdict.Refused → Judged code spans heads places v → false ≡ accepted code
-judged-refused code spans heads places v e j = sym (rw e at j)
-
-pub judged-accepted : (code spans heads places : List ℕ) (v : Verdict) (m : ℕ) → v ≡ verdict.Accepted m → Judged code spans heads places v
-    → true ≡ accepted code
-judged-accepted code spans heads places v m e j = let q : (accepted code ≡ true) × Tabled code spans heads places m = rw e at j in sym (q .0)

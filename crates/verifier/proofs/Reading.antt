@@ -75,6 +75,7 @@ pub record Clean (t : Count) (k : ℕ) (rest : List ℕ) : Type 0 where
   pub ordered : follows (t .stage) (stageOf k) ≡ true
   pub variables : counted (stageOf k) t .variables ≤ 32
   pub subScopes : counted (stageOf k) t .subScopes ≤ 8
+  pub valid : invalid k rest ≡ false
 
 pub clean : (t : Count) (k : ℕ) (rest : List ℕ) → faulty t k rest ≡ false → Clean t k rest
 unfolding faulty
@@ -95,6 +96,7 @@ clean t k rest e =
       ordered = not-false (follows (t .stage) (stageOf k)) (d .0);
       variables = ltb-false 32 (counted (stageOf k) t .variables) (f .0);
       subScopes = ltb-false 8 (counted (stageOf k) t .subScopes) (g .0);
+      valid = g .1;
     }
 
 -- every kind's stage is at most 4, and its body at most 4 bytes

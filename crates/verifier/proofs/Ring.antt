@@ -1,9 +1,9 @@
 -- The marks of the landings that lie ahead.
 --     passed-none, passed-hit, passed-more,
 --     passed-first                            the search for a mark
---     lands-short, landing-room               no landing lies past the bytes; its mark lies in the ring
+--     lands-short                             no landing lies past the bytes
 --     back-fits, back-inside                  what a block that fits says of its next instruction
---     marks-next                              the landings after an instruction
+--     moved-on, marks-next                    the landings after an instruction
 --     quiet-next, marks-quiet                 a ring without marks
 --     end-refused, end-fits, end-quiet        the end of a block
 -- Assumes nothing.
@@ -22,9 +22,9 @@ use Rattle.laws.proofs.Booleans.{decide, both}
 use Rattle.machine.specs.Blocks.{Block, bodyLength}
 use Rattle.machine.specs.Instructions.{instructionOf}
 use Rattle.machine.specs.Acceptance.{lands, fits, allFit}
-use Rattle.verifier.specs.Instructions.{farthest}
+use Rattle.verifier.specs.Instructions.{farthest, reachAfter, ringAfter}
 use Rattle.machine.proofs.Landing.{lands-here}
-use Rattle.verifier.specs.Pass.{mark, Marked, Quiet, Passed, AllLand, Marks, RingRoom}
+use Rattle.verifier.specs.Pass.{mark, Marked, Quiet, Passed, AllLand, Marks}
 
 -- the search for a mark
 module _ (ring : List ℕ) (from : ℕ) where
@@ -113,140 +113,145 @@ module _ (k : ℕ) (bs left : List ℕ) (whole : length bs ≡ bodyLength k) whe
           (sym (lands-in (d - at) (omega arith) (omega arith))
           ∙ m .back e .0 d (record { from = omega arith; window = omega arith; set = s }))
 
--- the mark of a landing
-pub landing-room : (ring : List ℕ) (n next d : ℕ) → RingRoom ring n → next + d ≤ n → (next % 65536 + d) % 65536 < length ring
-landing-room ring n next d room h =
-    let e : (next + d) % 65536 ≡ (next % 65536 + d) % 65536 = omega arith in
-    rw e at (room (next + d) h)
+-- The ring after an instruction: its own mark is cleared, and its landing is marked if it has a distance
 
--- The ring after an instruction: its own mark is cleared, and its landing is marked
+-- the marks from the next record on are those of the old ring, and that of a landing d ahead
+pub record Moved (ring after : List ℕ) (at next d : ℕ) : Type 0 where
+  pub kept : (p : ℕ) → next ≤ p → Marked ring at p → Marked after next p
+  pub came : (p : ℕ) → Marked after next p → (p ≡ next + d) ⊎ Marked ring at p
+  pub landed : 0 < d → Marked after next (next + d)
 
-module _ (ring : List ℕ) (at next d : ℕ) (size : (at % 65536 < length ring) × ((next % 65536 + d) % 65536 < length ring)) (low : at < next) (high : next ≤ at + 65536) (small : d < 65536) where
-  abbrev landing : ℕ
-  landing = (next % 65536 + d) % 65536
+module _ (ring : List ℕ) (at next : ℕ) (size : at % 65536 < length ring) (low : at < next) (high : next ≤ at + 65536)
+    (clear : (p : ℕ) → at + 1 ≤ p → p < next → mark ring p ≡ 0) where
+  abbrev cleared : List ℕ
+  cleared = set ring (at % 65536) 0
 
-  abbrev after : List ℕ
-  after = set (set ring (at % 65536) 0) landing 1
+  other : (p : ℕ) → (p % 65536 ≡ at % 65536 → ⊥) → mark cleared p ≡ mark ring p
+  unfolding mark
+  other p ne = getD-set-other ring (at % 65536) (p % 65536) 0 0 ne
 
-  same-landing : (p : ℕ) → next ≤ p → p < next + 65536 → p % 65536 ≡ landing → p ≡ next + d
+  own : (p : ℕ) → p % 65536 ≡ at % 65536 → mark cleared p ≡ 0
+  unfolding mark
+  own p e = rw e (getD-set-same ring (at % 65536) 0 0 size)
+
+  -- a position past the old window has the place of one that was passed
+  shifted : (p : ℕ) → at + 65536 ≤ p → mark ring (p - 65536) ≡ mark ring p
+  unfolding mark
+  shifted p h = let e : (p - 65536) % 65536 ≡ p % 65536 = omega arith in rw e
+
+  next-of : (a b : ℕ) → a ≤ b → (b ≡ a → ⊥) → a + 1 ≤ b
+  next-of a b h ne = omega arith
+
+  past : (p : ℕ) → next ≤ p → p < next + 65536 → (p % 65536 ≡ at % 65536 → ⊥) → 0 < mark ring p → at + 65536 ≤ p → ⊥
+  past p a b ne s h =
+      ⊎-elim
+      (λ (q : eqb (p - 65536) at ≡ true). ne (let r = eqb-true (p - 65536) at q in omega arith))
+      (λ (q : eqb (p - 65536) at ≡ false).
+      let l : at + 1 ≤ p - 65536 = next-of at (p - 65536) (omega arith) (eqb-false (p - 65536) at q) in
+      let z = clear (p - 65536) l (omega arith) in
+      let y = shifted p h in
+      omega arith)
+      (decide (eqb (p - 65536) at))
+
+  within : (p : ℕ) → next ≤ p → p < next + 65536 → (p % 65536 ≡ at % 65536 → ⊥) → 0 < mark ring p → p < at + 65536
+  within p a b ne s =
+      ⊎-elim
+      (λ (q : ltb p (at + 65536) ≡ true). ltb-true p (at + 65536) q)
+      (λ (q : ltb p (at + 65536) ≡ false). absurd (past p a b ne s (ltb-false p (at + 65536) q)))
+      (decide (ltb p (at + 65536)))
+
+  apart : (p : ℕ) → p < at + 65536 → next ≤ p → p % 65536 ≡ at % 65536 → ⊥
+  apart p a b e = omega arith
+
+  kept-on : (p : ℕ) → next ≤ p → Marked ring at p → Marked cleared next p
+  kept-on p a m =
+      let w = m .window in
+      let h = other p (apart p w a) in
+      let s = m .set in
+      record { from = a; window = omega arith; set = omega arith }
+
+  came-on : (p : ℕ) → Marked cleared next p → Marked ring at p
+  came-on p m =
+      let s = m .set in
+      let f = m .from in
+      let ne : p % 65536 ≡ at % 65536 → ⊥ = λ e. (let z = own p e in omega arith) in
+      let h = other p ne in
+      let t : 0 < mark ring p = omega arith in
+      record { from = omega arith; window = within p f (m .window) ne t; set = t }
+
+-- and then marked
+module _ (ring mid : List ℕ) (at next d : ℕ) (size : (next + d) % 65536 < length mid) (small : d < 65536)
+    (old-kept : (p : ℕ) → next ≤ p → Marked ring at p → Marked mid next p) (old-came : (p : ℕ) → Marked mid next p → Marked ring at p) where
+  abbrev marked : List ℕ
+  marked = set mid ((next + d) % 65536) 1
+
+  same-landing : (p : ℕ) → next ≤ p → p < next + 65536 → p % 65536 ≡ (next + d) % 65536 → p ≡ next + d
   same-landing p a b e = omega arith
 
-  hit-landing : mark after (next + d) ≡ 1
+  hit-landing : mark marked (next + d) ≡ 1
   unfolding mark
-  hit-landing =
-      let e : (next + d) % 65536 ≡ landing = omega arith in
-      rw e (getD-set-same (set ring (at % 65536) 0) landing 1 0 (rw length-set (size .1)))
+  hit-landing = getD-set-same mid ((next + d) % 65536) 1 0 size
 
-  other : (p : ℕ) → (p % 65536 ≡ landing → ⊥) → (p % 65536 ≡ at % 65536 → ⊥) → mark after p ≡ mark ring p
+  else-same : (p : ℕ) → (p % 65536 ≡ (next + d) % 65536 → ⊥) → mark marked p ≡ mark mid p
   unfolding mark
-  other p a b =
-      getD-set-other (set ring (at % 65536) 0) landing (p % 65536) 1 0 a
-      ∙ getD-set-other ring (at % 65536) (p % 65536) 0 0 b
+  else-same p ne = getD-set-other mid ((next + d) % 65536) (p % 65536) 1 0 ne
 
-  cleared : (p : ℕ) → (p % 65536 ≡ landing → ⊥) → p % 65536 ≡ at % 65536 → mark after p ≡ 0
-  unfolding mark
-  cleared p a b =
-      getD-set-other (set ring (at % 65536) 0) landing (p % 65536) 1 0 a
-      ∙ rw b (getD-set-same ring (at % 65536) 0 0 (size .0))
+  here : Marked marked next (next + d)
+  here = let h = hit-landing in record { from = omega arith; window = omega arith; set = omega arith }
 
-  kept : (p : ℕ) → next ≤ p → Marked ring at p → Marked after next p
-  kept p a m =
+  keeps : (p : ℕ) → Marked mid next p → Marked marked next p
+  keeps p m =
       ⊎-elim
-      (λ (q : eqb (p % 65536) landing ≡ true).
-      let e = same-landing p a (omega arith) (eqb-true (p % 65536) landing q) in
-      let h : mark after p ≡ 1 = ap (mark after) e ∙ hit-landing in
-      record { from = a; window = omega arith; set = omega arith })
-      (λ (q : eqb (p % 65536) landing ≡ false).
-      let ne : p % 65536 ≡ at % 65536 → ⊥ = λ r. apart p (m .window) a r in
-      let h = other p (eqb-false (p % 65536) landing q) ne in
+      (λ (q : eqb (p % 65536) ((next + d) % 65536) ≡ true).
+      rw (same-landing p (m .from) (m .window) (eqb-true (p % 65536) ((next + d) % 65536) q)) here)
+      (λ (q : eqb (p % 65536) ((next + d) % 65536) ≡ false).
+      let h = else-same p (eqb-false (p % 65536) ((next + d) % 65536) q) in
       let s = m .set in
-      record { from = a; window = omega arith; set = omega arith })
-      (decide (eqb (p % 65536) landing))
-    where
-      apart : (p : ℕ) → p < at + 65536 → next ≤ p → p % 65536 ≡ at % 65536 → ⊥
-      apart p a b e = omega arith
+      record { from = m .from; window = m .window; set = omega arith })
+      (decide (eqb (p % 65536) ((next + d) % 65536)))
 
-  module _ (clear : (p : ℕ) → at + 1 ≤ p → p < next → mark ring p ≡ 0) where
-    -- a position past the old window has the place of one that was passed
-    shifted : (p : ℕ) → at + 65536 ≤ p → mark ring (p - 65536) ≡ mark ring p
-    unfolding mark
-    shifted p h = let e : (p - 65536) % 65536 ≡ p % 65536 = omega arith in rw e
+  comes : (p : ℕ) → Marked marked next p → (p ≡ next + d) ⊎ Marked ring at p
+  comes p m =
+      ⊎-elim
+      (λ (q : eqb (p % 65536) ((next + d) % 65536) ≡ true).
+      inl (same-landing p (m .from) (m .window) (eqb-true (p % 65536) ((next + d) % 65536) q)))
+      (λ (q : eqb (p % 65536) ((next + d) % 65536) ≡ false).
+      let h = else-same p (eqb-false (p % 65536) ((next + d) % 65536) q) in
+      let s = m .set in
+      let old : Marked mid next p = record { from = m .from; window = m .window; set = omega arith } in
+      inr (old-came p old))
+      (decide (eqb (p % 65536) ((next + d) % 65536)))
 
-    next-of : (a b : ℕ) → a ≤ b → (b ≡ a → ⊥) → a + 1 ≤ b
-    next-of a b h ne = omega arith
+  mark-moved : Moved ring marked at next d
+  mark-moved = record { kept = λ p a m. keeps p (old-kept p a m); came = comes; landed = λ _. here }
 
-    past : (p : ℕ) → next ≤ p → p < next + 65536 → (p % 65536 ≡ at % 65536 → ⊥) → 0 < mark ring p → at + 65536 ≤ p → ⊥
-    past p a b ne s h =
-        ⊎-elim
-        (λ (q : eqb (p - 65536) at ≡ true). ne (let r = eqb-true (p - 65536) at q in omega arith))
-        (λ (q : eqb (p - 65536) at ≡ false).
-        let l : at + 1 ≤ p - 65536 = next-of at (p - 65536) (omega arith) (eqb-false (p - 65536) at q) in
-        let z = clear (p - 65536) l (omega arith) in
-        let y = shifted p h in
-        omega arith)
-        (decide (eqb (p - 65536) at))
-
-    within : (p : ℕ) → next ≤ p → p < next + 65536 → (p % 65536 ≡ at % 65536 → ⊥) → 0 < mark ring p → p < at + 65536
-    within p a b ne s =
-        ⊎-elim
-        (λ (q : ltb p (at + 65536) ≡ true). ltb-true p (at + 65536) q)
-        (λ (q : ltb p (at + 65536) ≡ false). absurd (past p a b ne s (ltb-false p (at + 65536) q)))
-        (decide (ltb p (at + 65536)))
-
-    came : (p : ℕ) → Marked after next p → (p ≡ next + d) ⊎ Marked ring at p
-    came p m =
-        ⊎-elim
-        (λ (q : eqb (p % 65536) landing ≡ true). inl (same-landing p (m .from) (m .window) (eqb-true (p % 65536) landing q)))
-        (λ (q : eqb (p % 65536) landing ≡ false).
-        let nl = eqb-false (p % 65536) landing q in
-        let ne : p % 65536 ≡ at % 65536 → ⊥ = λ r. (let z = cleared p nl r in let s = m .set in omega arith) in
-        let h = other p nl ne in
-        let s : 0 < mark ring p = let s' = m .set in omega arith in
-        inr (record { from = omega arith; window = within p (m .from) (m .window) ne s; set = s }))
-        (decide (eqb (p % 65536) landing))
-
-    landed : Marked after next (next + d)
-    landed = let h = hit-landing in record { from = omega arith; window = omega arith; set = omega arith }
-
-    -- the farthest landing
-    pub reach-bound : (reach : ℕ) → ((p : ℕ) → Marked ring at p → p ≤ at + reach) → (p : ℕ) → Marked after next p
-        → p ≤ next + farthest reach (next - at) d
-    unfolding farthest
-    reach-bound reach bound p m =
-        ⊎-elim
-        (λ (q : ltb d (reach - (next - at)) ≡ true).
-        let l = ltb-true d (reach - (next - at)) q in
-        rw q (⊎-elim (λ (e : p ≡ next + d). omega arith) (λ (o : Marked ring at p). let z = bound p o in omega arith) (came p m)))
-        (λ (q : ltb d (reach - (next - at)) ≡ false).
-        let l = ltb-false d (reach - (next - at)) q in
-        rw q (⊎-elim (λ (e : p ≡ next + d). omega arith) (λ (o : Marked ring at p). let z = bound p o in let f = m .from in omega arith) (came p m)))
-        (decide (ltb d (reach - (next - at))))
-
-    pub reach-marked : (reach : ℕ) → (0 < reach → Marked ring at (at + reach)) → Marked after next (next + farthest reach (next - at) d)
-    unfolding farthest
-    reach-marked reach reached =
-        ⊎-elim
-        (λ (q : ltb d (reach - (next - at)) ≡ true).
-        let l = ltb-true d (reach - (next - at)) q in
-        let e : next + (reach - (next - at)) ≡ at + reach = omega arith in
-        rw (q, e) (kept (at + reach) (omega arith) (reached (omega arith))))
-        (λ (q : ltb d (reach - (next - at)) ≡ false). rw q landed)
-        (decide (ltb d (reach - (next - at))))
+module _ (ring : List ℕ) (at next d : ℕ) (size : (at % 65536 < length ring) × ((next + d) % 65536 < length ring)) (low : at < next)
+    (high : next ≤ at + 65536) (small : d < 65536) (clear : (p : ℕ) → at + 1 ≤ p → p < next → mark ring p ≡ 0) where
+  pub moved-on : Moved ring (ringAfter ring at next d) at next d
+  unfolding ringAfter
+  moved-on =
+      ⊎-elim
+      (λ (q : eqb d 0 ≡ true).
+      rw q
+      (record {
+        kept = kept-on ring at next (size .0) low high clear;
+        came = λ p m. inr (came-on ring at next (size .0) low high clear p m);
+        landed = λ h. absurd (let z = eqb-true d 0 q in omega arith);
+      }))
+      (λ (q : eqb d 0 ≡ false).
+      rw q
+      (mark-moved ring (set ring (at % 65536) 0) at next d (rw length-set (size .1)) small (kept-on ring at next (size .0) low high clear)
+      (came-on ring at next (size .0) low high clear)))
+      (decide (eqb d 0))
 
 -- the landings after an instruction whose numbers name something
-module _ (k : ℕ) (bs left : List ℕ) (whole : length bs ≡ bodyLength k) (earlier : List Block) (b : Block) (at next reach d : ℕ) (ring : List ℕ)
-    (size : (at % 65536 < length ring) × ((next % 65536 + d) % 65536 < length ring)) (passed : next ≡ at + 1 + length bs) (high : next ≤ at + 65536) (small : d < 65536)
+module _ (k : ℕ) (bs left : List ℕ) (whole : length bs ≡ bodyLength k) (earlier : List Block) (b : Block) (at next reach d : ℕ) (ring after : List ℕ)
+    (moved : Moved ring after at next d) (passed : next ≡ at + 1 + length bs)
     (m : Marks earlier b (k ∷ bs ++ left) at reach ring)
     (clear : (p : ℕ) → at + 1 ≤ p → p < next → mark ring p ≡ 0)
     (fit : fits earlier b (instructionOf k (bs ++ left)) left ≡ lands left 0 d) where
-  low : at < next
-  low = omega arith
-
-  abbrev new : List ℕ
-  new = set (set ring (at % 65536) 0) ((next % 65536 + d) % 65536) 1
-
   -- an old landing lies at the instruction, or ahead of it
-  old-lands : AllLand new next left → AllLand ring at (k ∷ bs ++ left)
+  old-lands : AllLand after next left → AllLand ring at (k ∷ bs ++ left)
   old-lands all p o =
       ⊎-elim
       (λ (q : ltb p next ≡ true).
@@ -263,40 +268,85 @@ module _ (k : ℕ) (bs left : List ℕ) (whole : length bs ≡ bodyLength k) (ea
       (λ (q : ltb p next ≡ false).
       let l = ltb-false p next q in
       lands-over k bs left whole (p - at) (p - next) (omega arith)
-      ∙ all p (kept ring at next d size low high small p l o))
+      ∙ all p (moved .kept p l o))
       (decide (ltb p next))
     where
       after-at : (p at : ℕ) → at ≤ p → (p ≡ at → ⊥) → at + 1 ≤ p
       after-at p at h ne = omega arith
 
-  new-lands : AllLand ring at (k ∷ bs ++ left) → lands left 0 d ≡ true → AllLand new next left
+  new-lands : AllLand ring at (k ∷ bs ++ left) → lands left 0 d ≡ true → AllLand after next left
   new-lands all here p n =
       ⊎-elim
       (λ (e : p ≡ next + d). let z : p - next ≡ d = omega arith in rw z here)
       (λ (o : Marked ring at p).
       let f = n .from in
       sym (lands-over k bs left whole (p - at) (p - next) (omega arith)) ∙ all p o)
-      (came ring at next d size low high small clear p n)
+      (moved .came p n)
 
-  pub marks-next : Marks earlier b left next (farthest reach (next - at) d) new
+  -- its own landing is met
+  own-lands : AllLand after next left → lands left 0 d ≡ true
+  own-lands all =
+      ⊎-elim
+      (λ (q : eqb d 0 ≡ true). rw (eqb-true d 0 q) (lands-here left))
+      (λ (q : eqb d 0 ≡ false).
+      let z : next + d - next ≡ d = omega arith in
+      sym (ap (lands left 0) z) ∙ all (next + d) (moved .landed (let n = eqb-false d 0 q in omega arith)))
+      (decide (eqb d 0))
+
+  -- the farthest landing
+  bound-on : (p : ℕ) → Marked after next p → p ≤ next + (reachAfter reach next d - next)
+  unfolding reachAfter farthest
+  bound-on p n =
+      let f = n .from in
+      ⊎-elim
+      (λ (e : p ≡ next + d).
+      ⊎-elim
+      (λ (q : eqb d 0 ≡ true). let z = eqb-true d 0 q in omega arith)
+      (λ (q : eqb d 0 ≡ false).
+      ⊎-elim
+      (λ (r : ltb reach (next + d) ≡ true). rw (q, r) (omega arith))
+      (λ (r : ltb reach (next + d) ≡ false). let z = ltb-false reach (next + d) r in rw (q, r) (omega arith))
+      (decide (ltb reach (next + d))))
+      (decide (eqb d 0)))
+      (λ (o : Marked ring at p).
+      let y = m .bound p o in
+      ⊎-elim
+      (λ (q : eqb d 0 ≡ true). rw q (omega arith))
+      (λ (q : eqb d 0 ≡ false).
+      ⊎-elim
+      (λ (r : ltb reach (next + d) ≡ true). let z = ltb-true reach (next + d) r in rw (q, r) (omega arith))
+      (λ (r : ltb reach (next + d) ≡ false). rw (q, r) (omega arith))
+      (decide (ltb reach (next + d))))
+      (decide (eqb d 0)))
+      (moved .came p n)
+
+  old-reached : next < reach → Marked after next reach
+  old-reached h = moved .kept reach (omega arith) (m .reached (omega arith))
+
+  reached-on : next < reachAfter reach next d → Marked after next (reachAfter reach next d)
+  unfolding reachAfter farthest
+  reached-on =
+      ⊎-elim
+      (λ (q : eqb d 0 ≡ true). rw q (λ h. old-reached h))
+      (λ (q : eqb d 0 ≡ false).
+      ⊎-elim
+      (λ (r : ltb reach (next + d) ≡ true). rw (q, r) (λ h. moved .landed (omega arith)))
+      (λ (r : ltb reach (next + d) ≡ false). rw (q, r) (λ h. old-reached h))
+      (decide (ltb reach (next + d))))
+      (decide (eqb d 0))
+
+  pub marks-next : Marks earlier b left next (reachAfter reach next d) after
   marks-next =
       record {
-        onward =
-            λ all e.
-            let here : lands left 0 d ≡ true = ap (lands left 0) (back-to (next + d) next d refl)
-            ∙ all (next + d) (landed ring at next d size low high small clear) in
-            m .onward (old-lands all) (fit-over k bs left whole earlier b ∙ rw (fit, here) e);
+        onward = λ all e. m .onward (old-lands all) (fit-over k bs left whole earlier b ∙ rw (fit, own-lands all) e);
         back =
             λ e.
             let q = both (fits earlier b (instructionOf k (bs ++ left)) left) (allFit earlier b left 0)
             (sym (fit-over k bs left whole earlier b) ∙ m .back e .1) in
             (new-lands (m .back e .0) (sym fit ∙ q .0), q .1);
-        bound = reach-bound ring at next d size low high small clear reach (m .bound);
-        reached = λ h. reach-marked ring at next d size low high small clear reach (m .reached);
+        bound = bound-on;
+        reached = reached-on;
       }
-    where
-      back-to : (p n d : ℕ) → p ≡ n + d → d ≡ p - n
-      back-to p n d e = omega arith
 
 -- A ring without marks
 
@@ -325,19 +375,17 @@ marks-quiet earlier b left at reach ring quiet r e =
 
 -- the end of a block
 module _ (earlier : List Block) (b : Block) (at reach : ℕ) (ring : List ℕ) (m : Marks earlier b [] at reach ring) where
-  pub end-refused : 0 < reach → allFit earlier b (b .body) 0 ≡ true → ⊥
-  end-refused h e =
-      let z : at + reach - at ≡ reach = omega arith in
-      false≢true (sym (lands-past reach h) ∙ ap (lands [] 0) (sym z) ∙ m .back e .0 (at + reach) (m .reached h))
+  pub end-refused : at < reach → allFit earlier b (b .body) 0 ≡ true → ⊥
+  end-refused h e = false≢true (sym (lands-past (reach - at) (omega arith)) ∙ m .back e .0 reach (m .reached h))
 
-  only : reach ≡ 0 → (p : ℕ) → Marked ring at p → p ≡ at
+  only : reach ≤ at → (p : ℕ) → Marked ring at p → p ≡ at
   only e p o = let z = m .bound p o in let f = o .from in omega arith
 
-  pub end-fits : reach ≡ 0 → allFit earlier b (b .body) 0 ≡ true
+  pub end-fits : reach ≤ at → allFit earlier b (b .body) 0 ≡ true
   unfolding allFit
   end-fits e = m .onward (λ p o. let z : p - at ≡ 0 = let y = only e p o in omega arith in rw z (lands-here [])) refl
 
-  pub end-quiet : reach ≡ 0 → at % 65536 < length ring → Quiet (set ring (at % 65536) 0) at
+  pub end-quiet : reach ≤ at → at % 65536 < length ring → Quiet (set ring (at % 65536) 0) at
   unfolding mark
   end-quiet e size p o =
       ⊎-elim

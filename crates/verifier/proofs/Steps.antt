@@ -1,62 +1,76 @@
 -- An instruction: what is refused, and what holds after it.
---     names-refused, inside-refused, far-refused          a number that names nothing; a landing inside its body; one past the code
 --     instruction-turn                                    what holds after it
---     refuse-names, refuse-marks, refuse-far,
---     take-instruction                                    the same, as the code takes it
+--     flaw-refused                                        an instruction with a flaw
+--     next-room, makes-instructing, instruction-stepped,
+--     landed-refused, landed-heading                      the ways of a record, as the code takes them
 -- Assumes nothing.
-use Prim.Native.Nat.{ℕ, suc, _+_, _-_, _*_, _%_, _<_, _≤_}
-use mathlib.Core.Path.{_≡_, sym, ap, _∙_}
-use mathlib.Core.Bool.{Bool, true, false, _&&_, false≢true}
+use Prim.Native.Nat.{ℕ, suc, _+_, _-_, _%_, _<_, _≤_}
+use mathlib.Core.Path.{_≡_, refl, sym, ap, _∙_}
+use mathlib.Core.Bool.{Bool, true, false, _&&_, _||_, false≢true}
 use mathlib.Core.List.{List, _∷_, _++_, append-assoc}
 use mathlib.Core.Logic.{⊎-elim}
 use native.Mathlib.Omega.{arith}
 use lib.ListN.{length, getD, take, drop, set, length-set, List·getD-append}
-use lib.Seq.{drop-drop, take-add, length-take-le}
+use lib.Seq.{drop-drop, take-add, length-take-le, getD-take}
 use lib.Dec.{eqb, ltb}
 use borrow.Author.Tests.{lt-ltb, ltb-true}
 use Rattle.laws.proofs.Booleans.{decide, both}
-use Rattle.record.specs.Record.{bodyAt}
 use Rattle.machine.specs.Blocks.{Block, Parsed, bodyLength, stageOf, variablesOf}
 use Rattle.machine.specs.Instructions.{instructionOf}
 use Rattle.machine.specs.Acceptance.{counted, sound, lands, fits, accepted}
-use Rattle.verifier.specs.Instructions.{namingOf, distancePlace, named, distanceOf, farthest}
-use Rattle.verifier.specs.Tables.{blockAt}
-use Rattle.verifier.specs.Pass.{widthAt, countOf, faultyAt, namesAt, instructionRead, mark, Landed, Passed, Marks, earlier, ahead, Busy, Reading, AtInstruction, Instructing, Instructed}
+use Rattle.verifier.specs.Instructions.{formOf, named, distanceOf, reachAfter, ringAfter}
+use Rattle.directory.specs.Layout.{blockIn, sizeIn}
+use Rattle.directory.specs.Tabled.{blockAt}
+use Rattle.verifier.specs.Pass.{countOf, faultyAt, namesAt, instructionRead, mark, Marks, earlier, ahead, Busy, Reading, Stepped, Hit, Flaw, Fit, AtInstruction, AtHeading, Landed, Instructing, Instructed}
 use Rattle.verifier.specs.declared.Progress.{Progress}
 use Rattle.verifier.proofs.Reading.{drop-here, ahead-at, ahead-short, length-below, front-four, NoHeads, no-heads}
 use Rattle.verifier.proofs.Blocks.{refused, sound-code, block-fits, Formed, formed}
 use Rattle.verifier.proofs.Fitting.{fits-parts, local}
-use Rattle.verifier.proofs.Ring.{lands-short, landing-room, back-fits, back-inside, marks-next}
-use Rattle.verifier.proofs.Turns.{drop-end, nextAt, is-clean, next-inside, sound-next, was-open}
-use Rattle.verifier.specs.declared.Step.the-variants.{Refused, Next}
+use Rattle.verifier.proofs.Ring.{lands-short, back-fits, back-inside, moved-on, marks-next}
+use Rattle.verifier.proofs.Entries.{sized-same}
+use Rattle.verifier.proofs.Turns.{drop-end, nextAt, is-clean, next-inside, sound-next, was-open, fine-of}
+use Rattle.verifier.specs.declared.Step.the-variants.{Next}
+use Rattle.verifier.specs.declared.Landing.{Landing}
 use Rattle.verifier.specs.declared.Landing.the-variants.{Ahead}
 use Rattle.verifier.specs.declared.Landing.the-variants as landing
 
 -- Names
 
-named-more : (n a b v s c v' s' c' : ℕ) → v ≤ v' → s ≤ s' → (a < s → c ≡ c') → named n a b v s c ≡ true → named n a b v' s' c' ≡ true
+named-more : (f a b v s c v' s' c' : ℕ) → v ≤ v' → s ≤ s' → (a < s → c ≡ c') → named f a b v s c ≡ true → named f a b v' s' c' ≡ true
 unfolding named
-named-more n a b v s c v' s' c' hv hs hc e =
+named-more f a b v s c v' s' c' hv hs hc e =
     ⊎-elim
-    (λ (q : eqb n 1 ≡ true). let t = ltb-true a v (rw q at e) in rw (q, lt-ltb a v' (omega arith)))
-    (λ (q : eqb n 1 ≡ false).
+    (λ (q : eqb f 2 ≡ true). rw q (rw q at e))
+    (λ (q : eqb f 2 ≡ false).
     ⊎-elim
-    (λ (q2 : eqb n 2 ≡ true).
-    let t = both (ltb a s) (ltb b c) (rw (q, q2) at e) in
+    (λ (q1 : (eqb f 4 || eqb f 8) ≡ true). let t = ltb-true a v (rw (q, q1) at e) in rw (q, q1, lt-ltb a v' (omega arith)))
+    (λ (q1 : (eqb f 4 || eqb f 8) ≡ false).
+    ⊎-elim
+    (λ (q2 : eqb f 5 ≡ true).
+    let t = both (ltb a s) (ltb b c) (rw (q, q1, q2) at e) in
     let ta = ltb-true a s (t .0) in
-    rw (q, q2, lt-ltb a s' (omega arith), ← hc ta) (t .1))
-    (λ (q2 : eqb n 2 ≡ false).
+    rw (q, q1, q2, lt-ltb a s' (omega arith), ← hc ta) (t .1))
+    (λ (q2 : eqb f 5 ≡ false).
     ⊎-elim
-    (λ (q3 : eqb n 3 ≡ true). let t = ltb-true a s (rw (q, q2, q3) at e) in rw (q, q2, q3, lt-ltb a s' (omega arith)))
-    (λ (q3 : eqb n 3 ≡ false). rw (q, q2, q3))
-    (decide (eqb n 3)))
-    (decide (eqb n 2)))
-    (decide (eqb n 1))
+    (λ (q3 : eqb f 6 ≡ true). let t = ltb-true a s (rw (q, q1, q2, q3) at e) in rw (q, q1, q2, q3, lt-ltb a s' (omega arith)))
+    (λ (q3 : eqb f 6 ≡ false). rw (q, q1, q2, q3))
+    (decide (eqb f 6)))
+    (decide (eqb f 5)))
+    (decide (eqb f 4 || eqb f 8)))
+    (decide (eqb f 2))
+
+after-length : (ring : List ℕ) (at next d : ℕ) → length (ringAfter ring at next d) ≡ length ring
+unfolding ringAfter
+after-length ring at next d =
+    ⊎-elim
+    (λ (q : eqb d 0 ≡ true). rw q (length-set ring (at % 65536) 0))
+    (λ (q : eqb d 0 ≡ false). rw q (length-set (set ring (at % 65536) 0) ((next + d) % 65536) 1 ∙ length-set ring (at % 65536) 0))
+    (decide (eqb d 0))
 
 -- An instruction at a position
 
-module _ (code : List ℕ) (at : ℕ) (u : Progress) (spans heads places sizes ring : List ℕ)
-    (r : Reading code at u spans heads places sizes ring) (here : at < length code) (fine : faultyAt code at u ≡ false)
+module _ (code : List ℕ) (at : ℕ) (u : Progress) (directory ring : List ℕ)
+    (r : Reading code at u directory ring) (here : at < length code) (fine : faultyAt code at u ≡ false)
     (four : stageOf (getD code at 0) ≡ 4) where
   k : ℕ
   k = getD code at 0
@@ -75,9 +89,9 @@ module _ (code : List ℕ) (at : ℕ) (u : Progress) (spans heads places sizes r
   b = blockAt code (u .blocks)
 
   opened : 1 ≤ u .stage
-  opened = was-open code at u spans heads places sizes ring r here fine (rw four (omega arith)) .0
+  opened = was-open code at u directory ring r here fine (rw four (omega arith)) .0
 
-  busy : Busy code at u heads ring
+  busy : Busy code at u directory ring
   busy = r .busy opened
 
   front : ahead code at
@@ -103,32 +117,39 @@ module _ (code : List ℕ) (at : ℕ) (u : Progress) (spans heads places sizes r
   whole : length bs ≡ bodyLength k
   unfolding bs k rest
   whole = length-take-le (bodyLength (getD code at 0)) (drop (at + 1) code)
-      (is-clean code at u spans heads places sizes ring r here fine .whole)
+      (is-clean code at u directory ring r here fine .whole)
 
   marks : Marks e b (k ∷ bs ++ left) at (u .reach) ring
   unfolding e b
   marks = rw body-is at (busy .marks)
 
-  same-instruction : instructionOf k (bs ++ left) ≡ instructionOf k bs
-  unfolding k
-  same-instruction = local (getD code at 0) four (bs ++ left) bs (λ i h. List·getD-append bs left 0 i (let w = whole in omega arith))
+  same-instruction : instructionOf k (bs ++ left) ≡ instructionOf k rest
+  unfolding k bs rest
+  same-instruction =
+      local (getD code at 0) four (bs ++ left) rest
+      (λ i h. List·getD-append bs left 0 i (let w = whole in omega arith) ∙ getD-take (bodyLength (getD code at 0)) (drop (at + 1) code) i 0 h)
 
-  -- what the tables say of the sub-scope's variables
+  -- what the directory says of the sub-scope's variables
   called : ℕ → ℕ
-  called a = widthAt sizes (getD heads (u .blocks * 48 + 35 + a) 0)
+  called a = sizeIn directory (u .blocks) a
 
   called-is : (a : ℕ) → a < u .subs → called a ≡ length (variablesOf e (getD (b .subScopes) a 0))
-  unfolding called e b
-  called-is a h = rw (busy .noted .subs a h) (sym (r .closed .wide (getD (blockAt code (u .blocks) .subScopes) a 0)))
+  unfolding called sizeIn e b
+  called-is a h =
+      let p = blockIn directory (u .blocks) a in
+      let l = busy .noted .earlier a h in
+      r .closed .entered p l .declares .number
+      ∙ ap length (sym (r .closed .declared p l))
+      ∙ ap (λ (i : ℕ). length (variablesOf (earlier code (u .blocks)) i)) (busy .noted .subs a h)
 
   names : ℕ → ℕ → ℕ → Bool
-  names v s c = named (namingOf k) (getD bs 0 0) (getD bs 1 0) v s c
+  names v s c = named (formOf k) (getD code (at + 1) 0) (getD code (at + 2) 0) v s c
 
   fit-is : fits e b (instructionOf k (bs ++ left)) left
-      ≡ (names (length (b .variables)) (length (b .subScopes)) (length (variablesOf e (getD (b .subScopes) (getD bs 0 0) 0)))
-      && lands left 0 (distanceOf (distancePlace k) bs))
-  unfolding names k
-  fit-is = rw same-instruction (fits-parts e b (getD code at 0) four bs left)
+      ≡ (names (length (b .variables)) (length (b .subScopes)) (length (variablesOf e (getD (b .subScopes) (getD code (at + 1) 0) 0)))
+      && lands left 0 (distanceOf (formOf k) code at))
+  unfolding names k rest
+  fit-is = rw same-instruction (fits-parts e b (getD code at 0) four code at left (is-clean code at u directory ring r here fine .valid))
 
   accepted-fit : accepted code ≡ true → Formed e b
   unfolding e b
@@ -138,7 +159,7 @@ module _ (code : List ℕ) (at : ℕ) (u : Progress) (spans heads places sizes r
   unfolding ahead counted
   no-more a =
       no-heads (drop (nextAt code at) code) 0 (counted (stageOf (getD code at 0)) (countOf u))
-      (sound-next code at u spans heads places sizes ring r here fine ∙ sound-code code a)
+      (sound-next code at u directory ring r here fine ∙ sound-code code a)
       (rw four (omega arith))
 
   all-variables : accepted code ≡ true → length (b .variables) ≤ u .variables
@@ -154,62 +175,72 @@ module _ (code : List ℕ) (at : ℕ) (u : Progress) (spans heads places sizes r
       (busy .head .subsLeft ∙ ap (λ (p : Parsed). p .opened .subScopes) front ∙ no-more a .subScopes)
 
   parts-hold : accepted code ≡ true
-      → (names (length (b .variables)) (length (b .subScopes)) (length (variablesOf e (getD (b .subScopes) (getD bs 0 0) 0))) ≡ true)
-      × (lands left 0 (distanceOf (distancePlace k) bs) ≡ true)
+      → (names (length (b .variables)) (length (b .subScopes)) (length (variablesOf e (getD (b .subScopes) (getD code (at + 1) 0) 0))) ≡ true)
+      × (lands left 0 (distanceOf (formOf k) code at) ≡ true)
   parts-hold a =
-      both (names (length (b .variables)) (length (b .subScopes)) (length (variablesOf e (getD (b .subScopes) (getD bs 0 0) 0))))
-      (lands left 0 (distanceOf (distancePlace k) bs))
+      both (names (length (b .variables)) (length (b .subScopes)) (length (variablesOf e (getD (b .subScopes) (getD code (at + 1) 0) 0))))
+      (lands left 0 (distanceOf (formOf k) code at))
       (sym fit-is ∙ back-fits k bs left whole e b at (u .reach) ring marks (accepted-fit a .fit))
 
   -- what is refused
-  pub names-refused : namesAt (namingOf (getD code at 0)) (bodyAt code at (bodyLength (getD code at 0))) heads sizes u ≡ false → accepted code ≡ false
-  unfolding namesAt names called k rest bs bodyAt
-  names-refused q =
-      refused code
-      (λ a.
-      let f = parts-hold a in
-      let t = named-more (namingOf k) (getD bs 0 0) (getD bs 1 0) (length (b .variables)) (length (b .subScopes))
-      (length (variablesOf e (getD (b .subScopes) (getD bs 0 0) 0))) (u .variables) (u .subs) (called (getD bs 0 0)) (all-variables a)
-      (all-subs a) (λ h. sym (called-is (getD bs 0 0) (let s = all-subs a in omega arith))) (f .0) in
-      false≢true (sym q ∙ t))
+  names-fit : accepted code ≡ true → namesAt (formOf (getD code at 0)) code at directory u ≡ true
+  unfolding namesAt names called k
+  names-fit a =
+      named-more (formOf k) (getD code (at + 1) 0) (getD code (at + 2) 0) (length (b .variables)) (length (b .subScopes))
+      (length (variablesOf e (getD (b .subScopes) (getD code (at + 1) 0) 0))) (u .variables) (u .subs) (called (getD code (at + 1) 0)) (all-variables a)
+      (all-subs a) (λ h. sym (called-is (getD code (at + 1) 0) (let s = all-subs a in omega arith))) (parts-hold a .0)
 
-  pub inside-refused : (d : ℕ) → at + 1 ≤ d → d < nextAt code at → 0 < mark ring d → accepted code ≡ false
+  not-inside : (d : ℕ) → at + 1 ≤ d → d < nextAt code at → 0 < mark ring d → accepted code ≡ true → ⊥
   unfolding k
-  inside-refused d h l s =
+  not-inside d h l s a =
       let w = whole in
       let n = length-below (getD code at 0) in
-      refused code (λ a. back-inside k bs left whole e b at (u .reach) ring marks d h (omega arith) (omega arith) s (accepted-fit a .fit))
+      back-inside k bs left whole e b at (u .reach) ring marks d h (omega arith) (omega arith) s (accepted-fit a .fit)
 
-  pub far-refused : length code - nextAt code at < distanceOf (distancePlace (getD code at 0)) (bodyAt code at (bodyLength (getD code at 0))) → accepted code ≡ false
-  unfolding k rest left bs bodyAt
-  far-refused h =
-      refused code
-      (λ a.
-      let s = lands-short left 0 (distanceOf (distancePlace k) bs) (parts-hold a .1) in
+  not-far : accepted code ≡ true → nextAt code at + distanceOf (formOf (getD code at 0)) code at ≤ length code
+  unfolding k left
+  not-far a =
+      let s = lands-short left 0 (distanceOf (formOf k) code at) (parts-hold a .1) in
       let o = ahead-short code (nextAt code at) in
-      omega arith)
+      let w = next-inside code at u directory ring r here fine in
+      omega arith
+
+  not-flawed : (n d : ℕ) (there : Bool) → n ≡ bodyLength (getD code at 0) → d ≡ distanceOf (formOf (getD code at 0)) code at
+      → there ≡ namesAt (formOf (getD code at 0)) code at directory u → Flaw code at n ring there d → accepted code ≡ true → ⊥
+  not-flawed n d there en ed et flaw a =
+      ⊎-elim
+      (λ (q : length code ≤ at + n). let w = next-inside code at u directory ring r here fine in omega arith)
+      (⊎-elim
+      (λ (q : Hit at n ring). not-inside (q .0) (q .1) (let z = q .2 in omega arith) (q .3) a)
+      (⊎-elim
+      (λ (q : there ≡ false). false≢true (sym q ∙ et ∙ names-fit a))
+      (λ (q : length code < at + 1 + n + d). let f = not-far a in omega arith)))
+      flaw
 
   -- what holds after it
-  module _ (named-ok : namesAt (namingOf (getD code at 0)) (bodyAt code at (bodyLength (getD code at 0))) heads sizes u ≡ true)
-      (d : ℕ) (ed : d ≡ distanceOf (distancePlace (getD code at 0)) (bodyAt code at (bodyLength (getD code at 0)))) (small : d < 65536)
-      (near : nextAt code at + d ≤ length code) (clear : (p : ℕ) → at + 1 ≤ p → p < nextAt code at → mark ring p ≡ 0) where
+  module _ (d : ℕ) (ed : d ≡ distanceOf (formOf (getD code at 0)) code at)
+      (fit : Fit code at (bodyLength (getD code at 0)) ring (namesAt (formOf (getD code at 0)) code at directory u) d) where
     fit-lands : fits e b (instructionOf k (bs ++ left)) left ≡ lands left 0 d
-    unfolding namesAt names called k rest bs b bodyAt
+    unfolding namesAt names called k b
     fit-lands =
-        let t = named-more (namingOf k) (getD bs 0 0) (getD bs 1 0) (u .variables) (u .subs) (called (getD bs 0 0)) (length (b .variables))
-        (length (b .subScopes)) (length (variablesOf e (getD (b .subScopes) (getD bs 0 0) 0))) (busy .head .variablesRead)
-        (busy .head .subsRead) (λ h. called-is (getD bs 0 0) h) named-ok in
+        let t = named-more (formOf k) (getD code (at + 1) 0) (getD code (at + 2) 0) (u .variables) (u .subs) (called (getD code (at + 1) 0))
+        (length (b .variables))
+        (length (b .subScopes)) (length (variablesOf e (getD (b .subScopes) (getD code (at + 1) 0) 0))) (busy .head .variablesRead)
+        (busy .head .subsRead) (λ h. called-is (getD code (at + 1) 0) h) (fit .names) in
         fit-is ∙ rw (t, ed)
 
-    marks-on : Marks e b left (nextAt code at) (farthest (u .reach) (nextAt code at - at) d)
-        (set (set ring (at % 65536) 0) ((nextAt code at % 65536 + d) % 65536) 1)
+    abbrev ring' : List ℕ
+    ring' = ringAfter ring at (nextAt code at) d
+
+    marks-on : Marks e b left (nextAt code at) (reachAfter (u .reach) (nextAt code at) d) ring'
     unfolding k
     marks-on =
         let w = whole in
         let n = length-below (getD code at 0) in
-        marks-next k bs left whole e b at (nextAt code at) (u .reach) d ring
-        (r .sized .ringRoom at (omega arith), landing-room ring (length code) (nextAt code at) d (r .sized .ringRoom) near) (omega arith) (omega arith) small marks clear
-        fit-lands
+        marks-next k bs left whole e b at (nextAt code at) (u .reach) d ring ring'
+        (moved-on ring at (nextAt code at) d
+        (r .sized .ringRoom at (omega arith), r .sized .ringRoom (nextAt code at + d) (fit .near)) (omega arith) (omega arith) (fit .small) (fit .clear))
+        (omega arith) marks (fit .clear) fit-lands
 
     body-on : take (nextAt code at - u .begin) (drop (u .begin) code) ++ left ≡ b .body
     unfolding k rest bs b
@@ -228,24 +259,16 @@ module _ (code : List ℕ) (at : ℕ) (u : Progress) (spans heads places sizes r
         )
         (ap (λ (l : List ℕ). take (at - u .begin) (drop (u .begin) code) ++ l) (sym body-is) ∙ busy .head .body)
 
-    pub instruction-turn : Reading code (nextAt code at) (instructionRead u (farthest (u .reach) (nextAt code at - at) d)) spans heads places
-        sizes (set (set ring (at % 65536) 0) ((nextAt code at % 65536 + d) % 65536) 1)
+    pub instruction-turn : Reading code (nextAt code at) (instructionRead u (reachAfter (u .reach) (nextAt code at) d)) directory
+        (ringAfter ring at (nextAt code at) d)
     unfolding counted e b left
     instruction-turn =
         let h = busy .head in
         record {
-          sized =
-              record {
-                room = r .sized .room;
-                sizeRoom = r .sized .sizeRoom;
-                ringRoom =
-                    λ p h.
-                    rw (length-set (set ring (at % 65536) 0) ((nextAt code at % 65536 + d) % 65536) 1, length-set ring (at % 65536) 0)
-                    (r .sized .ringRoom p h);
-              };
+          sized = sized-same code directory directory ring ring' refl (after-length ring at (nextAt code at) d) (r .sized);
           limited = record { stage = omega arith; variables = r .limited .variables; subs = r .limited .subs };
-          inside = next-inside code at u spans heads places sizes ring r here fine;
-          sound = rw four at (sound-next code at u spans heads places sizes ring r here fine);
+          inside = next-inside code at u directory ring r here fine;
+          sound = rw four at (sound-next code at u directory ring r here fine);
           closed = r .closed;
           idle = λ z. absurd (omega arith);
           busy =
@@ -268,68 +291,46 @@ module _ (code : List ℕ) (at : ℕ) (u : Progress) (spans heads places sizes r
                       weight = h .weight;
                       weightFew = h .weightFew;
                     };
-                noted = record { types = busy .noted .types; subs = busy .noted .subs };
+                noted = record { types = busy .noted .types; earlier = busy .noted .earlier; subs = busy .noted .subs };
                 marks = marks-on;
                 quiet = λ z. absurd (omega arith);
                 still = λ z. absurd (omega arith);
               };
         }
 
--- What the code reads
+-- What the code takes
 
--- the marks of an instruction and of its landing lie in the ring
-module _ (body : List ℕ) (left at next : ℕ) (u : Progress) (ring : List ℕ) (i : Instructing body left at next u ring) where
-  pub here-room : at % 65536 < length ring
-  here-room = let n = i .nextIs in i .ringRoom at (omega arith)
+module _ (code : List ℕ) (at : ℕ) (u : Progress) (directory ring : List ℕ) (r : Reading code at u directory ring) (here : at < length code) where
+  pub flaw-refused : stageOf (getD code at 0) ≡ 4 → (n d : ℕ) (there : Bool) → n ≡ bodyLength (getD code at 0)
+      → d ≡ distanceOf (formOf (getD code at 0)) code at → there ≡ namesAt (formOf (getD code at 0)) code at directory u
+      → Flaw code at n ring there d → accepted code ≡ false
+  flaw-refused four n d there en ed et flaw =
+      refused code (λ a. not-flawed code at u directory ring r here (fine-of code at u here (r .sound) a) four n d there en ed et flaw a)
 
-  pub ahead-room : (d : ℕ) → d ≤ left → (next % 65536 + d) % 65536 < length ring
-  ahead-room d near = landing-room ring (next + left) next d (i .ringRoom) (omega arith)
+  module _ (n : ℕ) (en : n ≡ bodyLength (getD code at 0)) (d : ℕ) (x : Landing) (ex : x ≡ Ahead d) (l : Landed code at u directory ring x) where
+    at-instruction : AtInstruction code at u directory ring n d
+    unfolding Landed
+    at-instruction = rw en (rw ex at l)
 
-module _ (kind : ℕ) (body : List ℕ) (left at next : ℕ) (u : Progress) (heads sizes ring : List ℕ) where
-  names-at : (code : List ℕ) → kind ≡ getD code at 0 → body ≡ bodyAt code at (bodyLength (getD code at 0))
-      → namesAt (namingOf kind) body heads sizes u ≡ namesAt (namingOf (getD code at 0)) (bodyAt code at (bodyLength (getD code at 0))) heads sizes u
-  names-at code ek eb = rw (ek, eb)
+    pub next-room : at + 1 + n ≤ length code
+    next-room = let f = at-instruction .fit .near in omega arith
 
-  pub refuse-names : Landed kind body heads sizes u landing.Refused → (ring' : List ℕ)
-      → Instructed kind body left at next u heads sizes ring ring' Refused
+    pub makes-instructing : length code < 18446744073709551616 → Instructing at (at + 1 + n) d ring
+    makes-instructing room =
+        let f = at-instruction .fit .near in
+        record { here = r .sized .ringRoom at (omega arith); landing = r .sized .ringRoom (at + 1 + n + d) f; small = omega arith }
+
+    pub instruction-stepped : (ring' : List ℕ) (v : Progress) → Instructed at (at + 1 + n) d u ring ring' v
+        → Stepped code at directory ring' (Next (at + 1 + n) v)
+    instruction-stepped ring' v i =
+        let o = at-instruction in
+        let t = instruction-turn code at u directory ring r here (o .fine) (o .stage) d (o .distanceIs) (rw (o .lengthIs) at (o .fit)) in
+        rw (i .0, i .1) (omega arith, rw (o .lengthIs) t)
+
+  pub landed-refused : (x : Landing) → x ≡ landing.Refused → Landed code at u directory ring x → accepted code ≡ false
   unfolding Landed
-  refuse-names h ring' code spans places i rd =
-      names-refused code at u spans heads places sizes ring rd (i .here) (i .fine) (i .stage)
-      (sym (names-at code (i .kindIs) (i .bodyIs)) ∙ h)
+  landed-refused x e l = rw e at l
 
-  pub refuse-marks : (p : Bool) → Passed ring (at + 1) next p → p ≡ false → (ring' : List ℕ)
-      → Instructed kind body left at next u heads sizes ring ring' Refused
-  refuse-marks p passed h ring' code spans places i rd =
-      let t = passed .hit h in
-      let l : t .0 < nextAt code at = let z = t .2 in let y = i .nextIs in omega arith in
-      inside-refused code at u spans heads places sizes ring rd (i .here) (i .fine) (i .stage) (t .0) (t .1) l (t .3)
-
-  distance-is : (code : List ℕ) → AtInstruction code kind body left at next u → (d : ℕ) → d ≡ distanceOf (distancePlace kind) body
-      → d ≡ distanceOf (distancePlace (getD code at 0)) (bodyAt code at (bodyLength (getD code at 0)))
-  distance-is code i d ed = ed ∙ rw (i .kindIs, i .bodyIs)
-
-  pub refuse-far : (d : ℕ) → Landed kind body heads sizes u (Ahead d) → left < d → (ring' : List ℕ)
-      → Instructed kind body left at next u heads sizes ring ring' Refused
+  pub landed-heading : (x : Landing) → x ≡ landing.Heading → Landed code at u directory ring x → AtHeading code at u directory ring
   unfolding Landed
-  refuse-far d ed h ring' code spans places i rd =
-      let n = i .nextIs in
-      let l = i .leftIs in
-      let f : length code - nextAt code at < d = omega arith in
-      far-refused code at u spans heads places sizes ring rd (i .here) (i .fine) (i .stage) (rw (distance-is code i d (ed .1)) at f)
-
-  pub take-instruction : (p : Bool) → Passed ring (at + 1) next p → p ≡ true → (d f : ℕ)
-      → Landed kind body heads sizes u (Ahead d) → d ≤ left
-      → f ≡ farthest (u .reach) (next - at) d
-      → Instructed kind body left at next u heads sizes ring (set (set ring (at % 65536) 0) ((next % 65536 + d) % 65536) 1)
-      (Next next (instructionRead u f))
-  unfolding Landed
-  take-instruction p passed clear d f ed near ef code spans places i rd =
-      let n = i .nextIs in
-      let l = i .leftIs in
-      let w = next-inside code at u spans heads places sizes ring rd (i .here) (i .fine) in
-      let t =
-      instruction-turn code at u spans heads places sizes ring rd (i .here) (i .fine) (i .stage)
-      (sym (names-at code (i .kindIs) (i .bodyIs)) ∙ ed .0) d (distance-is code i d (ed .1)) (ed .2)
-      (omega arith)
-      (λ q a b. passed .clear clear q a (omega arith)) in
-      (omega arith, rw (ef, n) t)
+  landed-heading x e l = record { reading = r; here = here; noInstruction = rw e at l }

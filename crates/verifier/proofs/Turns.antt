@@ -1,13 +1,15 @@
 -- A record of the pass: what is known of it before its kind is looked at.
 --     drop-more, drop-end                                lists that are read from the left
 --     is-clean, next-inside, sound-next, was-open        a record without fault
---     faulty-refused                                     a record with one
+--     faulty-refused, fine-of                            a record with one
 -- Assumes nothing.
 use Prim.Native.Nat.{ℕ, suc, _+_, _-_, _<_, _≤_}
 use mathlib.Core.Path.{_≡_, refl, sym, ap, _∙_}
 use mathlib.Core.Bool.{true, false, false≢true}
 use mathlib.Core.List.{List, [], _∷_}
+use mathlib.Core.Logic.{⊎-elim}
 use native.Mathlib.Omega.{arith}
+use Rattle.laws.proofs.Booleans.{decide}
 use lib.ListN.{length, getD, drop, length-drop}
 use lib.Seq.{drop-drop, getD-drop}
 use Rattle.machine.specs.Blocks.{bodyLength, stageOf}
@@ -43,8 +45,8 @@ drop-end xs n e = let l : length xs - n ≡ 0 = sym (length-drop n xs) ∙ ap le
 abbrev pub nextAt : List ℕ → ℕ → ℕ
 nextAt code at = at + 1 + bodyLength (getD code at 0)
 
-module _ (code : List ℕ) (at : ℕ) (u : Progress) (spans heads places sizes ring : List ℕ)
-    (r : Reading code at u spans heads places sizes ring) (here : at < length code) (fine : faultyAt code at u ≡ false) where
+module _ (code : List ℕ) (at : ℕ) (u : Progress) (directory ring : List ℕ)
+    (r : Reading code at u directory ring) (here : at < length code) (fine : faultyAt code at u ≡ false) where
   pub is-clean : Clean (countOf u) (getD code at 0) (drop (at + 1) code)
   unfolding faultyAt
   is-clean = clean (countOf u) (getD code at 0) (drop (at + 1) code) fine
@@ -66,3 +68,12 @@ pub faulty-refused : (code : List ℕ) (at : ℕ) (u : Progress) → at < length
 faulty-refused code at u here s e =
     refused code
     (λ a. false≢true (sym (sound-at code at here u _ refl ∙ rw e) ∙ s ∙ sound-code code a))
+
+-- of accepted code no record has one
+pub fine-of : (code : List ℕ) (at : ℕ) (u : Progress) → at < length code → sound (drop at code) 0 (countOf u) ≡ sound code 0 start
+    → accepted code ≡ true → faultyAt code at u ≡ false
+fine-of code at u here s a =
+    ⊎-elim
+    (λ (q : faultyAt code at u ≡ true). absurd (false≢true (sym (faulty-refused code at u here s q) ∙ a)))
+    (λ (q : faultyAt code at u ≡ false). q)
+    (decide (faultyAt code at u))

@@ -1,3 +1,2 @@
-pub mod Tables
 pub mod Instructions
 pub mod Pass

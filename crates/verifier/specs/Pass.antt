@@ -1,18 +1,21 @@
 -- The pass over the records of code: what was read before a record, and what is known of it.
-use Prim.Native.Nat.{ℕ, suc, _+_, _-_, _*_, _%_, _<_, _≤_}
+use Prim.Native.Nat.{ℕ, zero, suc, _+_, _-_, _*_, _%_, _<_, _≤_}
 use mathlib.Core.Path.{_≡_}
 use mathlib.Core.Bool.{Bool, true, false, cond, _&&_, _||_}
-use mathlib.Core.List.{List, [], _∷_, _++_, reverse}
-use lib.ListN.{length, getD, take, drop, set, replicate}
+use mathlib.Core.List.{List, _++_, reverse}
+use mathlib.Core.Logic.{_⊎_}
+use lib.ListN.{length, getD, take, drop, set}
 use lib.Dec.{eqb, ltb}
 use Rattle.book.specs.Scopes.{sum}
-use Rattle.book.specs.Syntax.{typeOf}
 use Rattle.book.specs.declared.ValueType.the-variants.{YesNo}
-use Rattle.record.specs.Record.{bodyAt}
+use Rattle.record.specs.Kinds.{shapeIn}
+use Rattle.record.specs.declared.Shape.{Shape}
+use Rattle.record.specs.declared.Medium.the-variants.{Code}
 use Rattle.machine.specs.Blocks.{Block, Parsed, emptyBlock, bodyLength, stageOf, parse, hasBlock, variablesOf}
 use Rattle.machine.specs.Acceptance.{Count, start, counted, faulty, sound, lands, allFit, weightIn, allWellFormed, accepted}
-use Rattle.verifier.specs.Instructions.{namingOf, distancePlace, named, distanceOf}
-use Rattle.verifier.specs.Tables.{blockAt, Entered, Tabled, Room}
+use Rattle.verifier.specs.Instructions.{formOf, named, distanceOf, reachAfter, ringAfter}
+use Rattle.directory.specs.Layout.{placeIn, blockWeight, blockIn, sizeIn, typeIn}
+use Rattle.directory.specs.Tabled.{blockAt, Entered, Tabled, Room}
 use Rattle.verifier.specs.declared.Progress.{Progress}
 use Rattle.verifier.specs.declared.Step.{Step}
 use Rattle.verifier.specs.declared.Step.the-variants.{Refused, Next}
@@ -25,6 +28,7 @@ use Rattle.verifier.specs.declared.Closing.the-variants as closing
 use Rattle.verifier.specs.declared.Verdict.{Verdict}
 use Rattle.verifier.specs.declared.Verdict.the-variants as verdict
 
+-- what acceptance counts of it
 abbrev pub countOf : Progress → Count
 countOf u = record { stage = u .stage; variables = u .variables; subScopes = u .subs }
 
@@ -36,43 +40,41 @@ faultyAt code at u = faulty (countOf u) (getD code at 0) (drop (at + 1) code)
 unfoldable pub exceedsWith : ℕ → Progress → Bool
 exceedsWith s u = ltb 32 (counted s (countOf u) .variables) || ltb 8 (counted s (countOf u) .subScopes)
 
+-- within the stages and limits
 pub record Limited (u : Progress) : Type 0 where
   pub stage : u .stage ≤ 4
   pub variables : u .variables ≤ 32
   pub subs : u .subs ≤ 8
 
--- of scope i the weight of its block, and the number of its variables
-unfoldable pub weightAt : List ℕ → ℕ → ℕ
-weightAt sizes i = getD sizes (i * 2) 0
+-- the record at a position is of a kind and its shape; no instruction, or one before any block
+pub record AtKind (code : List ℕ) (at kind : ℕ) (shape : Shape) (u : Progress) : Type 0 where
+  pub here : at < length code
+  pub limited : Limited u
+  pub kindIs : kind ≡ getD code at 0
+  pub shapeIs : shape ≡ shapeIn Code (getD code at 0)
+  pub noInstruction : stageOf (getD code at 0) ≡ 4 → u .stage ≡ 0
 
-unfoldable pub widthAt : List ℕ → ℕ → ℕ
-widthAt sizes i = getD sizes (i * 2 + 1) 0
+-- the numbers of an instruction at a position name something in the present block, as the directory has it
+unfoldable pub namesAt : ℕ → List ℕ → ℕ → List ℕ → Progress → Bool
+namesAt form code at directory u =
+    let a = getD code (at + 1) 0 in
+    named form a (getD code (at + 2) 0) (u .variables) (u .subs) (sizeIn directory (u .blocks) a)
 
--- the numbers of an instruction, by what they name and its body, name something in the present block, as the tables have it
-unfoldable pub namesAt : ℕ → List ℕ → List ℕ → List ℕ → Progress → Bool
-namesAt naming body heads sizes u =
-    let a = getD body 0 0 in
-    named naming a (getD body 1 0) (u .variables) (u .subs) (widthAt sizes (getD heads (u .blocks * 48 + 35 + a) 0))
+-- the present block has a row, and the sub-scopes read so far have blocks
+pub record Called (u : Progress) (directory : List ℕ) : Type 0 where
+  pub blocks : u .blocks < 32
+  pub few : u .subs ≤ 8
+  pub subs : (k : ℕ) → k < u .subs → blockIn directory (u .blocks) k < 32
 
--- the first two numbers of a body name a sub-scope of the present block and one of its variables
-unfoldable pub calledAt : List ℕ → List ℕ → List ℕ → Progress → Bool
-calledAt body heads sizes u =
-    let a = getD body 0 0 in
-    ltb a (u .subs) && ltb (getD body 1 0) (widthAt sizes (getD heads (u .blocks * 48 + 35 + a) 0))
-
--- a landing d bytes ahead, if what the instruction names is there
-abbrev pub aheadIf : Bool → ℕ → Landing
-aheadIf true d = Ahead d
-aheadIf false d = landing.Refused
-
--- an instruction, by its kind and body, is refused where its numbers name nothing; else it lands where its distance says
-unfoldable pub Landed : ℕ → List ℕ → List ℕ → List ℕ → Progress → Landing → Type 0
-Landed kind body heads sizes u landing.Refused = namesAt (namingOf kind) body heads sizes u ≡ false
-Landed kind body heads sizes u (Ahead d) =
-    (namesAt (namingOf kind) body heads sizes u ≡ true) × (d ≡ distanceOf (distancePlace kind) body) × (d < 65536)
+-- the first two numbers behind a position name a sub-scope of the present block and one of its variables
+unfoldable pub calledAt : List ℕ → ℕ → List ℕ → Progress → Bool
+calledAt code at directory u =
+    let a = getD code (at + 1) 0 in
+    ltb a (u .subs) && ltb (getD code (at + 2) 0) (sizeIn directory (u .blocks) a)
 
 -- What was read
 
+-- before the first record
 abbrev pub nothingRead : Progress
 nothingRead = record { stage = 0; variables = 0; subs = 0; blocks = 0; scope = 0; begin = 0; weight = 0; reach = 0 }
 
@@ -80,6 +82,7 @@ nothingRead = record { stage = 0; variables = 0; subs = 0; blocks = 0; scope = 0
 abbrev pub blockRead : ℕ → ℕ → ℕ → Progress
 blockRead m scope next = record { stage = 1; variables = 0; subs = 0; blocks = m; scope = scope; begin = next; weight = 1; reach = 0 }
 
+-- kind 2, up to the next record
 abbrev pub variableRead : Progress → ℕ → Progress
 variableRead u next =
     record {
@@ -93,6 +96,7 @@ variableRead u next =
       reach = u .reach;
     }
 
+-- kind 3, whose block has a weight
 abbrev pub subScopeRead : Progress → ℕ → ℕ → Progress
 subScopeRead u weight next =
     record {
@@ -107,6 +111,7 @@ subScopeRead u weight next =
       reach = u .reach;
     }
 
+-- an instruction, with the farthest landing after it
 abbrev pub instructionRead : Progress → ℕ → Progress
 instructionRead u reach =
     record {
@@ -122,6 +127,7 @@ instructionRead u reach =
 
 -- The landings that lie ahead
 
+-- the mark of a position, by its remainder
 unfoldable pub mark : List ℕ → ℕ → ℕ
 mark ring d = getD ring (d % 65536) 0
 
@@ -131,6 +137,7 @@ pub record Marked (ring : List ℕ) (at d : ℕ) : Type 0 where
   pub window : d < at + 65536
   pub set : 0 < mark ring d
 
+-- nothing is marked from a position on
 abbrev pub Quiet : List ℕ → ℕ → Type 0
 Quiet ring at = (d : ℕ) → Marked ring at d → ⊥
 
@@ -143,12 +150,12 @@ pub record Passed (ring : List ℕ) (from end : ℕ) (r : Bool) : Type 0 where
 abbrev pub AllLand : List ℕ → ℕ → List ℕ → Type 0
 AllLand ring at bytes = (d : ℕ) → Marked ring at d → lands bytes 0 (d - at) ≡ true
 
--- the instructions of a block fit where those that are left fit and the landings ahead are met
+-- the instructions of a block fit where those that are left fit and the landings ahead, the farthest at `reach`, are met
 pub record Marks (earlier : List Block) (b : Block) (left : List ℕ) (at reach : ℕ) (ring : List ℕ) : Type 0 where
   pub onward : AllLand ring at left → allFit earlier b left 0 ≡ true → allFit earlier b (b .body) 0 ≡ true
   pub back : allFit earlier b (b .body) 0 ≡ true → AllLand ring at left × (allFit earlier b left 0 ≡ true)
-  pub bound : (d : ℕ) → Marked ring at d → d ≤ at + reach
-  pub reached : 0 < reach → Marked ring at (at + reach)
+  pub bound : (d : ℕ) → Marked ring at d → d ≤ at + (reach - at)
+  pub reached : at < reach → Marked ring at reach
 
 -- The blocks
 
@@ -160,24 +167,24 @@ earlier code m = reverse (take m (parse code 0 .blocks))
 unfoldable pub ahead : List ℕ → ℕ → Parsed
 ahead code at = parse (drop at code) 0
 
--- how many numbers of a list are not 0
-unfoldable pub filled : List ℕ → ℕ
-filled [] = 0
-filled (x ∷ xs) = cond (eqb x 0) 0 1 + filled xs
+-- how many of the first n scopes have a block
+unfoldable pub filled : List ℕ → ℕ → ℕ
+filled directory zero = 0
+filled directory (suc n) = cond (eqb (placeIn directory n) 0) 0 1 + filled directory n
 
 -- m blocks are closed
-pub record AreClosed (code : List ℕ) (m : ℕ) (spans heads places sizes : List ℕ) : Type 0 where
+pub record AreClosed (code : List ℕ) (m : ℕ) (directory : List ℕ) : Type 0 where
   pub within : m ≤ length (parse code 0 .blocks)
   pub wellFormed : allWellFormed (earlier code m) ≡ true
-  pub entered : (p : ℕ) → p < m → Entered code spans heads p
-  pub found : (p : ℕ) → p < m → getD places (blockAt code p .scope) 0 ≡ suc p
-  pub present : (i : ℕ) → 0 < getD places i 0 → (getD places i 0 ≤ m) × (blockAt code (getD places i 0 - 1) .scope ≡ i)
-  pub used : filled places ≡ m
+  pub entered : (p : ℕ) → p < m → Entered code directory p
+  pub found : (p : ℕ) → p < m → placeIn directory (blockAt code p .scope) ≡ suc p
+  pub present : (i : ℕ) → 0 < placeIn directory i → (placeIn directory i ≤ m) × (blockAt code (placeIn directory i - 1) .scope ≡ i)
+  pub used : filled directory 32 ≡ m
   pub small : (p : ℕ) → p < m → (length (blockAt code p .variables) ≤ 32) × (length (blockAt code p .subScopes) ≤ 8)
-  pub known : (i : ℕ) → hasBlock (earlier code m) i ≡ ltb 0 (getD places i 0)
-  pub weighed : (i : ℕ) → weightIn (earlier code m) i ≡ weightAt sizes i
-  pub light : (i : ℕ) → weightAt sizes i ≤ 4096
-  pub wide : (i : ℕ) → length (variablesOf (earlier code m) i) ≡ widthAt sizes i
+  pub known : (i : ℕ) → hasBlock (earlier code m) i ≡ ltb 0 (placeIn directory i)
+  pub weighed : (p : ℕ) → p < m → weightIn (earlier code m) (blockAt code p .scope) ≡ blockWeight directory p
+  pub light : (p : ℕ) → p < m → blockWeight directory p ≤ 4096
+  pub declared : (p : ℕ) → p < m → variablesOf (earlier code m) (blockAt code p .scope) ≡ blockAt code p .variables
 
 -- what was read of the present block
 pub record Head (code : List ℕ) (at : ℕ) (u : Progress) : Type 0 where
@@ -197,16 +204,18 @@ pub record Head (code : List ℕ) (at : ℕ) (u : Progress) : Type 0 where
   pub weight : u .weight ≡ suc (sum (weightIn (earlier code (u .blocks))) (take (u .subs) (blockAt code (u .blocks) .subScopes)))
   pub weightFew : u .weight ≤ 1 + 4096 * u .subs
 
--- what the table of heads holds of it
-pub record Noted (code : List ℕ) (u : Progress) (heads : List ℕ) : Type 0 where
+-- what the directory holds of it
+pub record Noted (code : List ℕ) (u : Progress) (directory : List ℕ) : Type 0 where
   pub types : (v : ℕ) → v < u .variables
-      → typeOf (getD heads (u .blocks * 48 + 3 + v) 0) ≡ getD (blockAt code (u .blocks) .variables) v (record { holds = YesNo }) .holds
-  pub subs : (k : ℕ) → k < u .subs → getD heads (u .blocks * 48 + 35 + k) 0 ≡ getD (blockAt code (u .blocks) .subScopes) k 0
+      → typeIn directory (u .blocks) v ≡ getD (blockAt code (u .blocks) .variables) v (record { holds = YesNo }) .holds
+  pub earlier : (k : ℕ) → k < u .subs → blockIn directory (u .blocks) k < u .blocks
+  pub subs : (k : ℕ) → k < u .subs
+      → blockAt code (blockIn directory (u .blocks) k) .scope ≡ getD (blockAt code (u .blocks) .subScopes) k 0
 
 -- a block is open
-pub record Busy (code : List ℕ) (at : ℕ) (u : Progress) (heads ring : List ℕ) : Type 0 where
+pub record Busy (code : List ℕ) (at : ℕ) (u : Progress) (directory ring : List ℕ) : Type 0 where
   pub head : Head code at u
-  pub noted : Noted code u heads
+  pub noted : Noted code u directory
   pub marks : Marks (earlier code (u .blocks)) (blockAt code (u .blocks)) (ahead code at .opened .body) at (u .reach) ring
   pub quiet : u .stage < 4 → Quiet ring at
   pub still : u .stage < 4 → (u .reach ≡ 0) × (u .begin ≡ at)
@@ -220,71 +229,110 @@ pub record Idle (code : List ℕ) (at m : ℕ) (ring : List ℕ) : Type 0 where
 abbrev pub RingRoom : List ℕ → ℕ → Type 0
 RingRoom ring n = (d : ℕ) → d ≤ n → d % 65536 < length ring
 
-pub record Sized (code spans heads places sizes ring : List ℕ) : Type 0 where
-  pub room : Room spans heads places
-  pub sizeRoom : length sizes ≡ 64
+-- there is room in directory and ring
+pub record Sized (code directory ring : List ℕ) : Type 0 where
+  pub room : Room code directory
   pub ringRoom : RingRoom ring (length code)
 
 -- what holds before the record at a position
-pub record Reading (code : List ℕ) (at : ℕ) (u : Progress) (spans heads places sizes ring : List ℕ) : Type 0 where
-  pub sized : Sized code spans heads places sizes ring
+pub record Reading (code : List ℕ) (at : ℕ) (u : Progress) (directory ring : List ℕ) : Type 0 where
+  pub sized : Sized code directory ring
   pub limited : Limited u
   pub inside : at ≤ length code
   pub sound : sound (drop at code) 0 (countOf u) ≡ sound code 0 start
-  pub closed : AreClosed code (u .blocks) spans heads places sizes
+  pub closed : AreClosed code (u .blocks) directory
   pub idle : u .stage ≡ 0 → Idle code at (u .blocks) ring
-  pub busy : 1 ≤ u .stage → Busy code at u heads ring
+  pub busy : 1 ≤ u .stage → Busy code at u directory ring
 
 -- The contracts of a record's ways
 
-abbrev pub Stepped : List ℕ → ℕ → List ℕ → List ℕ → List ℕ → List ℕ → List ℕ → Step → Type 0
-Stepped code at spans heads places sizes ring Refused = accepted code ≡ false
-Stepped code at spans heads places sizes ring (Next next u) = (at < next) × Reading code next u spans heads places sizes ring
+-- after the record at a position: code that is not accepted is refused, else the next record is read
+abbrev pub Stepped : List ℕ → ℕ → List ℕ → List ℕ → Step → Type 0
+Stepped code at directory ring Refused = accepted code ≡ false
+Stepped code at directory ring (Next next u) = (at < next) × Reading code next u directory ring
 
--- the record at a position is no instruction
-pub record AtHeading (code : List ℕ) (at : ℕ) (u : Progress) (spans heads places sizes ring : List ℕ) : Type 0 where
-  pub reading : Reading code at u spans heads places sizes ring
+-- the record at a position is no instruction, or one before any block
+pub record AtHeading (code : List ℕ) (at : ℕ) (u : Progress) (directory ring : List ℕ) : Type 0 where
+  pub reading : Reading code at u directory ring
   pub here : at < length code
-  pub noInstruction : stageOf (getD code at 0) ≡ 4 → ⊥
+  pub noInstruction : stageOf (getD code at 0) ≡ 4 → u .stage ≡ 0
 
--- the record at a position is an instruction without fault, of a kind and a body, with so many bytes of code left after it
-pub record AtInstruction (code : List ℕ) (kind : ℕ) (body : List ℕ) (left at next : ℕ) (u : Progress) : Type 0 where
+-- a body of n bytes behind a position can be looked at
+pub record BodyRoom (code : List ℕ) (at n : ℕ) (ring : List ℕ) : Type 0 where
   pub here : at < length code
+  pub short : n ≤ 4
+  pub ringRoom : RingRoom ring (length code)
+
+-- something lands in it
+abbrev pub Hit : ℕ → ℕ → List ℕ → Type 0
+Hit at n ring = (p : ℕ) × (at + 1 ≤ p) × (p < at + 1 + n) × (0 < mark ring p)
+
+-- the answer says whether it is whole and nothing lands in it
+pub record BodyPassed (code : List ℕ) (at n : ℕ) (ring : List ℕ) (r : Bool) : Type 0 where
+  pub whole : r ≡ true → at + n < length code
+  pub clear : r ≡ true → (p : ℕ) → at + 1 ≤ p → p < at + 1 + n → mark ring p ≡ 0
+  pub stopped : r ≡ false → (length code ≤ at + n) ⊎ Hit at n ring
+
+-- an instruction with a body of n bytes, whose numbers name something, as `there` says, and a distance d fits
+pub record Fit (code : List ℕ) (at n : ℕ) (ring : List ℕ) (there : Bool) (d : ℕ) : Type 0 where
+  pub clear : (p : ℕ) → at + 1 ≤ p → p < at + 1 + n → mark ring p ≡ 0
+  pub names : there ≡ true
+  pub near : at + 1 + n + d ≤ length code
+  pub small : d < 65536
+
+-- it is cut off, something lands in it, its numbers name nothing, or its distance lands past the code
+abbrev pub Flaw : List ℕ → ℕ → ℕ → List ℕ → Bool → ℕ → Type 0
+Flaw code at n ring there d = (length code ≤ at + n) ⊎ (Hit at n ring ⊎ ((there ≡ false) ⊎ (length code < at + 1 + n + d)))
+
+-- the answer says whether it fits
+unfoldable pub Bodied : List ℕ → ℕ → ℕ → List ℕ → Bool → ℕ → Landing → Type 0
+Bodied code at n ring there d landing.Heading = ⊥
+Bodied code at n ring there d landing.Refused = Flaw code at n ring there d
+Bodied code at n ring there d (Ahead e) = (e ≡ d) × Fit code at n ring there d
+
+-- an instruction at a position, without fault
+pub record AtInstruction (code : List ℕ) (at : ℕ) (u : Progress) (directory ring : List ℕ) (n d : ℕ) : Type 0 where
   pub fine : faultyAt code at u ≡ false
-  pub kindIs : kind ≡ getD code at 0
-  pub bodyIs : body ≡ bodyAt code at (bodyLength (getD code at 0))
   pub stage : stageOf (getD code at 0) ≡ 4
-  pub nextIs : next ≡ at + 1 + bodyLength (getD code at 0)
-  pub leftIs : left ≡ length code - next
+  pub lengthIs : n ≡ bodyLength (getD code at 0)
+  pub distanceIs : d ≡ distanceOf (formOf (getD code at 0)) code at
+  pub fit : Fit code at n ring (namesAt (formOf (getD code at 0)) code at directory u) d
 
-pub record Instructing (body : List ℕ) (left at next : ℕ) (u : Progress) (ring : List ℕ) : Type 0 where
-  pub ringRoom : RingRoom ring (next + left)
-  pub nextIs : next ≡ at + 1 + length body
-  pub short : length body ≤ 4
-  pub blocks : u .blocks < 32
+-- the answer says what the record at a position is
+unfoldable pub Landed : List ℕ → ℕ → Progress → List ℕ → List ℕ → Landing → Type 0
+Landed code at u directory ring landing.Heading = stageOf (getD code at 0) ≡ 4 → u .stage ≡ 0
+Landed code at u directory ring landing.Refused = accepted code ≡ false
+Landed code at u directory ring (Ahead d) = AtInstruction code at u directory ring (bodyLength (getD code at 0)) d
 
-abbrev pub Instructed : ℕ → List ℕ → ℕ → ℕ → ℕ → Progress → List ℕ → List ℕ → List ℕ → List ℕ → Step → Type 0
-Instructed kind body left at next u heads sizes ring ring' r =
-    (code spans places : List ℕ) → AtInstruction code kind body left at next u → Reading code at u spans heads places sizes ring
-    → Stepped code at spans heads places sizes ring' r
+-- the marks of an instruction and of its landing lie in the ring
+pub record Instructing (at next d : ℕ) (ring : List ℕ) : Type 0 where
+  pub here : at % 65536 < length ring
+  pub landing : (next + d) % 65536 < length ring
+  pub small : next + d < 18446744073709551616
+
+-- what was read after an instruction, and the marks
+abbrev pub Instructed : ℕ → ℕ → ℕ → Progress → List ℕ → List ℕ → Progress → Type 0
+Instructed at next d u ring ring' r = (r ≡ instructionRead u (reachAfter (u .reach) next d)) × (ring' ≡ ringAfter ring at next d)
 
 -- the present block ends at a position
-pub record Leaving (code : List ℕ) (at : ℕ) (u : Progress) (spans heads places sizes ring : List ℕ) : Type 0 where
-  pub reading : Reading code at u spans heads places sizes ring
+pub record Leaving (code : List ℕ) (at : ℕ) (u : Progress) (directory ring : List ℕ) : Type 0 where
+  pub reading : Reading code at u directory ring
   pub ended : ahead code at .opened ≡ emptyBlock
 
-pub record AllClosed (code : List ℕ) (at m : ℕ) (spans heads places sizes ring : List ℕ) : Type 0 where
-  pub sized : Sized code spans heads places sizes ring
-  pub closed : AreClosed code m spans heads places sizes
+-- m blocks are closed, and none is open
+pub record AllClosed (code : List ℕ) (at m : ℕ) (directory ring : List ℕ) : Type 0 where
+  pub sized : Sized code directory ring
+  pub closed : AreClosed code m directory
   pub idle : Idle code at m ring
 
-abbrev pub Left : List ℕ → ℕ → List ℕ → List ℕ → List ℕ → List ℕ → List ℕ → Closing → Type 0
-Left code at spans heads places sizes ring closing.Refused = accepted code ≡ false
-Left code at spans heads places sizes ring (Closed m) = AllClosed code at m spans heads places sizes ring
+-- after a block's end: code that is not accepted is refused, else the block is closed
+abbrev pub Left : List ℕ → ℕ → List ℕ → List ℕ → Closing → Type 0
+Left code at directory ring closing.Refused = accepted code ≡ false
+Left code at directory ring (Closed m) = AllClosed code at m directory ring
 
 -- the record at a position begins a block of a scope
-pub record Beginning (code : List ℕ) (at next scope : ℕ) (u : Progress) (spans heads places sizes ring : List ℕ) : Type 0 where
-  pub reading : Reading code at u spans heads places sizes ring
+pub record Beginning (code : List ℕ) (at next scope : ℕ) (u : Progress) (directory ring : List ℕ) : Type 0 where
+  pub reading : Reading code at u directory ring
   pub here : at < length code
   pub fine : faultyAt code at u ≡ false
   pub stage : stageOf (getD code at 0) ≡ 1
@@ -293,41 +341,46 @@ pub record Beginning (code : List ℕ) (at next scope : ℕ) (u : Progress) (spa
 
 -- a block of a scope after m closed ones: "a repeated scope or one above 31" is refused
 unfoldable pub opening : ℕ → ℕ → ℕ → List ℕ → Step
-opening scope next m places = cond (ltb 31 scope) Refused (cond (eqb (getD places scope 0) 0) (Next next (blockRead m scope next)) Refused)
+opening scope next m directory =
+    cond (ltb 31 scope) Refused (cond (eqb (placeIn directory scope) 0) (Next next (blockRead m scope next)) Refused)
 
 -- there is room for one more variable
-pub record VariableRoom (u : Progress) (heads : List ℕ) : Type 0 where
-  pub headRoom : length heads ≡ 1536
+pub record VariableRoom (u : Progress) (directory : List ℕ) : Type 0 where
   pub blocks : u .blocks < 32
   pub variables : u .variables < 32
+  pub row : u .blocks * 45 + 77 ≤ length directory
 
 -- one more variable, of a type byte
 abbrev pub VariableNoted : ℕ → ℕ → Progress → List ℕ → List ℕ → Step → Type 0
-VariableNoted byte next u heads heads' r = (r ≡ Next next (variableRead u next)) × (heads' ≡ set heads (u .blocks * 48 + 3 + u .variables) byte)
+VariableNoted byte next u directory directory' r =
+    (r ≡ Next next (variableRead u next)) × (directory' ≡ set directory (u .blocks * 45 + 45 + u .variables) byte) × (byte < 256)
+
+-- the block of a scope that has one
+abbrev pub blockOf : List ℕ → ℕ → ℕ
+blockOf directory scope = placeIn directory scope - 1
 
 -- there is room for one more sub-scope
-pub record SubRoom (scope : ℕ) (u : Progress) (heads sizes : List ℕ) : Type 0 where
-  pub headRoom : length heads ≡ 1536
+pub record SubRoom (scope : ℕ) (u : Progress) (directory : List ℕ) : Type 0 where
   pub blocks : u .blocks < 32
   pub subs : u .subs < 8
-  pub weight : u .weight + weightAt sizes scope ≤ 40000
+  pub row : u .blocks * 45 + 77 ≤ length directory
+  pub place : placeIn directory scope ≤ 32
+  pub weight : 0 < placeIn directory scope → u .weight + blockWeight directory (blockOf directory scope) ≤ 40000
 
 -- one more sub-scope, unless its scope has no block yet
-pub record SubRead (scope next : ℕ) (u : Progress) (heads places sizes heads' : List ℕ) (r : Step) : Type 0 where
-  pub missing : getD places scope 0 ≡ 0 → r ≡ Refused
-  pub read : (getD places scope 0 ≡ 0 → ⊥) → (r ≡ Next next (subScopeRead u (weightAt sizes scope) next)) ×
-      (heads' ≡ set heads (u .blocks * 48 + 35 + u .subs) scope)
+pub record SubRead (scope next : ℕ) (u : Progress) (directory directory' : List ℕ) (r : Step) : Type 0 where
+  pub missing : placeIn directory scope ≡ 0 → r ≡ Refused
+  pub read : (placeIn directory scope ≡ 0 → ⊥) → (r ≡ Next next (subScopeRead u (blockWeight directory (blockOf directory scope)) next)) ×
+      (directory' ≡ set directory (u .blocks * 45 + 37 + u .subs) (blockOf directory scope))
 
--- tables that are still empty
-pub record Empty (code spans heads places sizes ring : List ℕ) : Type 0 where
-  pub spanRoom : length spans ≡ 64
-  pub headRoom : length heads ≡ 1536
-  pub noPlaces : places ≡ replicate 32 0
-  pub noSizes : sizes ≡ replicate 64 0
+-- a directory and a ring that are still empty
+pub record Empty (code directory ring : List ℕ) : Type 0 where
+  pub room : Room code directory
+  pub noPlaces : (i : ℕ) → placeIn directory i ≡ 0
   pub noMarks : (i : ℕ) → getD ring i 0 ≡ 0
   pub ringRoom : RingRoom ring (length code)
 
--- the answer says whether code is accepted, and of accepted code the tables hold the blocks
-abbrev pub Judged : List ℕ → List ℕ → List ℕ → List ℕ → Verdict → Type 0
-Judged code spans heads places verdict.Refused = accepted code ≡ false
-Judged code spans heads places (verdict.Accepted n) = (accepted code ≡ true) × Tabled code spans heads places n
+-- the answer says whether code is accepted, and of accepted code the directory holds the blocks
+abbrev pub Judged : List ℕ → List ℕ → Verdict → Type 0
+Judged code directory verdict.Refused = accepted code ≡ false
+Judged code directory (verdict.Accepted n) = (accepted code ≡ true) × Tabled code directory n

@@ -1,18 +1,27 @@
-// Judging code in one pass over its bytes: whether it is accepted, and the tables by which the blocks of accepted code are found.
-//   sizes   of each of 32 scopes the weight of its block, then the number of its variables; 0 where it has no block
+// Judging code in one pass over its bytes: whether it is accepted, and the directory of the blocks of accepted code.
 //   ring    the landings of distances that lie ahead: a mark for each position, by its remainder modulo 65,536; short code has no more
 //           positions than a ring of 8,192 marks, or of 1,024
+use directory::BEGIN;
+use directory::BLOCKS;
+use directory::END;
+use directory::ROW;
+use directory::SUB_SCOPES;
+use directory::TYPES;
+use directory::VARIABLES;
+use directory::WEIGHT;
+use directory::block_of;
+use directory::place_of;
+use directory::variables_in;
+use directory::weight_of;
 use record::KIND_CALLED;
 use record::KIND_CONSTANT;
 use record::KIND_ENTER;
-use record::KIND_JUMP;
-use record::KIND_JUMP_IF_GIVEN;
-use record::KIND_JUMP_IF_NO;
 use record::KIND_OVERRIDE;
-use record::KIND_OWN;
-use record::KIND_SETTLE;
-use record::KIND_STORE;
-use record::KIND_TRY;
+use record::LENGTH_CALLED;
+use record::LENGTH_DISTANCE;
+use record::LENGTH_NUMBER;
+use record::LENGTH_OWN;
+use record::LENGTH_OWN_DISTANCE;
 use record::Medium;
 use record::Shape;
 use record::body_at;
@@ -21,16 +30,18 @@ use slices::byte_at;
 use validity::is_invalid;
 use validity::may_follow;
 ghost use mathlib.Core.Path.{_≡_};
-ghost use Prim.Native.Nat.{_+_, _<_, _≤_, _*_};
-ghost use lib.ListN.{length, getD, replicate};
-ghost use lib.Dec.{ltb};
-ghost use Rattle.slices.specs.Bytes.{bigEndian};
+ghost use mathlib.Core.Bool.{true, _||_};
+ghost use Prim.Native.Nat.{ℕ, _+_, _<_, _≤_, _*_};
+ghost use lib.ListN.{length, getD};
+ghost use lib.Dec.{eqb, ltb};
 ghost use Rattle.record.specs.Kinds.{shapeIn};
 ghost use Rattle.record.specs.declared.Medium.the-variants.{Code};
-ghost use Rattle.verifier.specs.Tables.{Room};
-ghost use Rattle.verifier.specs.Instructions.{farthest};
-ghost use Rattle.verifier.specs.Pass.{faultyAt, exceedsWith, Limited, calledAt, aheadIf, Landed, RingRoom, Passed, nothingRead, Reading};
-ghost use Rattle.verifier.specs.Pass.{Stepped, Instructing, Instructed, Leaving, Left, Beginning, opening, VariableRoom, VariableNoted, AtHeading, SubRoom, SubRead, Empty, Judged};
+ghost use Rattle.directory.specs.Layout.{placeIn};
+ghost use Rattle.directory.specs.Tabled.{Room};
+ghost use Rattle.verifier.specs.Instructions.{limitBy, farthest, distanceAt};
+ghost use Rattle.verifier.specs.Pass.{faultyAt, exceedsWith, Limited, Called, calledAt, RingRoom, Passed, nothingRead, Reading, Stepped};
+ghost use Rattle.verifier.specs.Pass.{AtKind, BodyRoom, BodyPassed, Bodied, Landed, Instructing, Instructed, AtHeading};
+ghost use Rattle.verifier.specs.Pass.{Leaving, Left, Beginning, opening, VariableRoom, VariableNoted, SubRoom, SubRead, Empty, Judged};
 
 // No memory has this many bytes.
 const UNREACHED: usize = 9223372036854775808;
@@ -42,7 +53,7 @@ pub enum Verdict {
 }
 
 // What was read: the stage of the last record, how many blocks are closed, and of the present block its variables and sub-scopes so far,
-// its scope, where its instructions begin, its weight so far, and how far ahead the farthest landing lies.
+// its scope, where its instructions begin, its weight so far, and the position of its farthest landing.
 struct Progress {
     pub stage: usize,
     pub variables: usize,
@@ -60,8 +71,10 @@ enum Step {
     Next(usize, Progress),
 }
 
-// What an instruction's body says: the code is refused, or how far behind the instruction it lands.
+// What stands at a position: no instruction, or one before any block; an instruction that is refused; or one that lands so far behind its end, 0 where
+// it has no distance.
 enum Landing {
+    Heading,
     Refused,
     Ahead(usize),
 }
@@ -76,13 +89,6 @@ fn wide(b: u8) -> usize
     ensures { λ r. ⌜ r ≡ b ⌝ }
 {
     b as usize
-}
-
-// A number, or 0 past the end.
-fn entry_at(xs: &[usize], i: usize) -> usize
-    ensures { λ r. ⌜ r ≡ getD (now (xs .entry)) i 0 ⌝ }
-{
-    if i < xs.len() { xs[i] } else { 0 }
 }
 
 // What was read before the first record.
@@ -115,10 +121,10 @@ fn too_many(stage: usize, u: Progress) -> bool
     false
 }
 
-// Whether the record at a position has one of the faults 1 to 5, by its kind and the kind's shape. In code only the kinds 2, of stage 2, and 4
-// have a byte that can stand outside its values.
+// Whether a record at a position that is no instruction, or one before any block, has one of the faults 1 to 5, by its kind and the kind's shape.
+// Of these kinds only 2, of stage 2, has a byte that can stand outside its values.
 fn is_faulty(code: &[u8], at: usize, kind: u8, shape: Shape, u: Progress) -> bool
-    requires { ⌜ (at < length (now code)) × Limited u × (kind ≡ getD (now code) at 0) × (shape ≡ shapeIn Code (getD (now code) at 0)) ⌝ }
+    requires { ⌜ AtKind (now code) at kind shape u ⌝ }
     ensures { λ r. ⌜ r ≡ faultyAt (now (code .entry)) at u ⌝ }
 {
     let stage = shape.stage;
@@ -139,9 +145,6 @@ fn is_faulty(code: &[u8], at: usize, kind: u8, shape: Shape, u: Progress) -> boo
     if stage == 2 {
         return is_invalid(kind, body_at(code, at, length));
     }
-    if kind == KIND_CONSTANT {
-        return is_invalid(kind, body_at(code, at, length));
-    }
     false
 }
 
@@ -150,14 +153,6 @@ fn joined(high: u8, low: u8) -> usize
     ensures { λ r. ⌜ (r ≡ high * 256 + low) × (r < 65536) ⌝ }
 {
     (high as usize) * 256 + (low as usize)
-}
-
-// A distance that stands behind so many bytes.
-fn distance(body: &[u8], at: usize) -> usize
-    requires { ⌜ at < 65536 ⌝ }
-    ensures { λ r. ⌜ (r ≡ bigEndian 2 (now (body .entry)) at) × (r < 65536) ⌝ }
-{
-    joined(byte_at(body, at), byte_at(body, at + 1))
 }
 
 // Whether no landing is marked from a position on up to an end at most four bytes on: no body is longer. One test after the other is quicker
@@ -193,150 +188,204 @@ fn unmarked(ring: &[u8], from: usize, end: usize) -> bool
     true
 }
 
-// How far ahead the farthest landing lies after `passed` bytes, with one more that lies d ahead.
-fn farther(reach: usize, passed: usize, d: usize) -> usize
-    ensures { λ r. ⌜ r ≡ farthest reach passed d ⌝ }
+// The farther of two positions.
+fn farther(reach: usize, landing: usize) -> usize
+    ensures { λ r. ⌜ r ≡ farthest reach landing ⌝ }
 {
-    if passed < reach {
-        let left = reach - passed;
-        if d < left {
-            return left;
-        }
+    if reach < landing {
+        return landing;
     }
-    d
+    reach
 }
 
-// Whether a number below `count` is the first of a body.
-fn names_below(body: &[u8], count: usize) -> bool
-    ensures { λ r. ⌜ r ≡ ltb (getD (now (body .entry)) 0 0) count ⌝ }
+// Whether the body of so many bytes behind a position is whole, and nothing lands in it.
+fn body_passes(code: &[u8], at: usize, length: usize, ring: &[u8]) -> bool
+    requires { ⌜ BodyRoom (now code) at length (now ring) ⌝ }
+    ensures { λ r. ⌜ BodyPassed (now (code .entry)) at length (now (ring .entry)) r ⌝ }
 {
-    wide(byte_at(body, 0)) < count
-}
-
-// Whether a body's first two numbers are a sub-scope of the present block and one of its variables; `sizes` has the variables of its scope.
-fn names_called(body: &[u8], u: Progress, heads: &[u8], sizes: &[usize]) -> bool
-    requires { ⌜ u .blocks < 32 ⌝ }
-    ensures { λ r. ⌜ r ≡ calledAt (now (body .entry)) (now (heads .entry)) (now (sizes .entry)) u ⌝ }
-{
-    if !names_below(body, u.subs) {
+    if code.len() - at <= length {
         return false;
     }
-    let scope = wide(byte_at(heads, u.blocks * 48 + 35 + wide(byte_at(body, 0))));
-    wide(byte_at(body, 1)) < entry_at(sizes, scope * 2 + 1)
+    unmarked(ring, at + 1, at + 1 + length)
 }
 
-// A landing, if what its instruction names is there.
-fn ahead_if(there: bool, d: usize) -> Landing
-    ensures { λ r. ⌜ r ≡ aheadIf there d ⌝ }
+// A body whose bytes are of any value.
+fn no_name(code: &[u8], at: usize, length: usize, ring: &[u8]) -> Landing
+    requires { ⌜ BodyRoom (now code) at length (now ring) ⌝ }
+    ensures { λ r. ⌜ Bodied (now (code .entry)) at length (now (ring .entry)) true 0 r ⌝ }
 {
-    if there {
-        return Landing::Ahead(d);
+    if body_passes(code, at, length, ring) {
+        return Landing::Ahead(0);
     }
     Landing::Refused
 }
 
-// Where an instruction lands, by its kind and body, if its numbers name something: an own variable, a sub-scope and its variable, or a
-// sub-scope. One without a distance lands at its own end.
-fn landing_of(kind: u8, body: &[u8], u: Progress, heads: &[u8], sizes: &[usize]) -> Landing
-    requires { ⌜ u .blocks < 32 ⌝ }
-    ensures { λ r. ⌜ Landed kind (now (body .entry)) (now (heads .entry)) (now (sizes .entry)) u r ⌝ }
+// A body of one number below `count`.
+fn one_name(code: &[u8], at: usize, count: usize, ring: &[u8]) -> Landing
+    requires { ⌜ BodyRoom (now code) at 1 (now ring) ⌝ }
+    ensures { λ r. ⌜ Bodied (now (code .entry)) at 1 (now (ring .entry)) (ltb (getD (now (code .entry)) (at + 1) 0) count) 0 r ⌝ }
 {
-    match kind {
-        KIND_OWN | KIND_STORE => ahead_if(names_below(body, u.variables), 0),
-        KIND_CALLED | KIND_OVERRIDE => ahead_if(names_called(body, u, heads, sizes), 0),
-        KIND_JUMP | KIND_TRY | KIND_SETTLE => Landing::Ahead(distance(body, 0)),
-        KIND_JUMP_IF_NO => Landing::Ahead(distance(body, 0)),
-        KIND_ENTER => ahead_if(names_below(body, u.subs), 0),
-        KIND_JUMP_IF_GIVEN => ahead_if(names_below(body, u.variables), distance(body, 1)),
-        // The others name nothing and have no distance.
-        _ => Landing::Ahead(0),
+    if !body_passes(code, at, LENGTH_OWN, ring) {
+        return Landing::Refused;
+    }
+    if wide(code[at + 1]) < count {
+        return Landing::Ahead(0);
+    }
+    Landing::Refused
+}
+
+// A body of a sub-scope of the present block and one of its variables.
+fn two_names(code: &[u8], at: usize, u: Progress, directory: &[usize], ring: &[u8]) -> Landing
+    requires { ⌜ BodyRoom (now code) at 2 (now ring) × Called u (now directory) ⌝ }
+    ensures { λ r. ⌜ Bodied (now (code .entry)) at 2 (now (ring .entry)) (calledAt (now (code .entry)) at (now (directory .entry)) u) 0 r ⌝ }
+{
+    if !body_passes(code, at, LENGTH_CALLED, ring) {
+        return Landing::Refused;
+    }
+    let k = wide(code[at + 1]);
+    if u.subs <= k {
+        return Landing::Refused;
+    }
+    if wide(code[at + 2]) < variables_in(directory, block_of(directory, u.blocks, k)) {
+        return Landing::Ahead(0);
+    }
+    Landing::Refused
+}
+
+// A body whose last two bytes are a distance, if what stands before these names something. One that lands past the code's end, where the ring
+// need not have a mark, is refused.
+fn jump(there: bool, code: &[u8], at: usize, length: usize, ring: &[u8]) -> Landing
+    requires { ⌜ BodyRoom (now code) at length (now ring) × (2 ≤ length) ⌝ }
+    ensures { λ r. ⌜ Bodied (now (code .entry)) at length (now (ring .entry)) there (distanceAt (now (code .entry)) (at + length)) r ⌝ }
+{
+    if !there {
+        return Landing::Refused;
+    }
+    if !body_passes(code, at, length, ring) {
+        return Landing::Refused;
+    }
+    let end = at + length;
+    let d = joined(code[end - 1], code[end]);
+    if code.len() - end - 1 < d {
+        return Landing::Refused;
+    }
+    Landing::Ahead(d)
+}
+
+// Below what the number of an instruction with one byte is good, by its kind: no or yes, a sub-scope, or an own variable.
+fn limit_of(kind: u8, u: Progress) -> usize
+    ensures { λ r. ⌜ r ≡ limitBy kind (u .variables) (u .subs) ⌝ }
+{
+    if kind == KIND_CONSTANT {
+        return 2;
+    }
+    if kind == KIND_ENTER {
+        return u.subs;
+    }
+    u.variables
+}
+
+// Whether an instruction with two bytes names a sub-scope and its variable; else they are a distance.
+fn has_names(kind: u8) -> bool
+    ensures { λ r. ⌜ r ≡ eqb kind 7 || eqb kind 42 ⌝ }
+{
+    if kind == KIND_CALLED {
+        return true;
+    }
+    kind == KIND_OVERRIDE
+}
+
+// Whether the instruction at a position fits, by the shape of its kind, and where it lands.
+fn landing_of(
+    code: &[u8],
+    at: usize,
+    shape: Shape,
+    u: Progress,
+    directory: &[usize],
+    ring: &[u8],
+) -> Landing
+    requires { ⌜ (at < length (now code)) × Reading (now code) at u (now directory) (now ring) × (shape ≡ shapeIn Code (getD (now code) at 0)) ⌝ }
+    ensures { λ r. ⌜ Landed (now (code .entry)) at u (now (directory .entry)) (now (ring .entry)) r ⌝ }
+{
+    if shape.stage != 4 {
+        return Landing::Heading;
+    }
+    if u.stage == 0 {
+        return Landing::Heading;
+    }
+    let kind = code[at];
+    let length = shape.length;
+    match length {
+        0 => Landing::Ahead(0),
+        1 => one_name(code, at, limit_of(kind, u), ring),
+        2 => {
+            if has_names(kind) {
+                return two_names(code, at, u, directory, ring);
+            }
+            jump(true, code, at, LENGTH_DISTANCE, ring)
+        }
+        3 => {
+            let x = wide(byte_at(code, at + 1));
+            jump(x < u.variables, code, at, LENGTH_OWN_DISTANCE, ring)
+        }
+        // Four: no body is longer.
+        _ => no_name(code, at, LENGTH_NUMBER, ring),
     }
 }
 
-// An instruction at a position, by its kind and body, up to the next record, with so many bytes of code left from there on. One that lands
-// past the code's end, where the ring need not have a mark, is refused.
-fn instruction(
-    kind: u8,
-    body: &[u8],
-    left: usize,
-    at: usize,
-    next: usize,
-    u: Progress,
-    heads: &[u8],
-    sizes: &[usize],
-    ring: &mut [u8],
-) -> Step
-    requires { ⌜ Instructing (now body) left at next u (now ring) ⌝ }
-    ensures { λ r.
-        ⌜ Instructed kind (now (body .entry)) left at next u (now (heads .entry)) (now (sizes .entry)) (now (ring .entry)) (now (ring .exit)) r ⌝ }
+// What was read after an instruction at a position, up to the next record: its own mark is cleared, and its landing is marked if it has a distance.
+fn instruction(at: usize, next: usize, d: usize, u: Progress, ring: &mut [u8]) -> Progress
+    requires { ⌜ Instructing at next d (now ring) ⌝ }
+    ensures { λ r. ⌜ Instructed at next d u (now (ring .entry)) (now (ring .exit)) r ⌝ }
 {
-    match landing_of(kind, body, u, heads, sizes) {
-        Landing::Refused => Step::Refused,
-        Landing::Ahead(d) => {
-            if !unmarked(ring, at + 1, next) {
-                return Step::Refused;
-            }
-            if left < d {
-                return Step::Refused;
-            }
-            ring[at % 65536] = 0;
-            ring[(next % 65536 + d) % 65536] = 1;
-            let mut v = u;
-            v.stage = 4;
-            v.reach = farther(u.reach, next - at, d);
-            Step::Next(next, v)
-        }
+    ring[at % 65536] = 0;
+    let mut v = u;
+    v.stage = 4;
+    if d == 0 {
+        return v;
     }
+    let landing = next + d;
+    ring[landing % 65536] = 1;
+    v.reach = farther(u.reach, landing);
+    v
 }
 
 // Closes the present block, if there is one: nothing lands past its end, and its weight is within the limit.
-fn leave(
-    code: &[u8],
-    at: usize,
-    u: Progress,
-    spans: &mut [usize],
-    heads: &mut [u8],
-    places: &mut [u8],
-    sizes: &mut [usize],
-    ring: &mut [u8],
-) -> Closing
-    requires { ⌜ Leaving (now code) at u (now spans) (now heads) (now places) (now sizes) (now ring) ⌝ }
-    ensures { λ r.
-        ⌜ Left (now (code .entry)) at (now (spans .exit)) (now (heads .exit)) (now (places .exit))
-        (now (sizes .exit)) (now (ring .exit)) r ⌝ }
+fn leave(code: &[u8], at: usize, u: Progress, directory: &mut [usize], ring: &mut [u8]) -> Closing
+    requires { ⌜ Leaving (now code) at u (now directory) (now ring) ⌝ }
+    ensures { λ r. ⌜ Left (now (code .entry)) at (now (directory .exit)) (now (ring .exit)) r ⌝ }
 {
     let m = u.blocks;
     if u.stage == 0 {
         return Closing::Closed(m);
     }
-    if 0 < u.reach {
+    if at < u.reach {
         return Closing::Refused;
     }
     if 4096 < u.weight {
         return Closing::Refused;
     }
-    spans[m * 2] = u.begin;
-    spans[m * 2 + 1] = at;
-    heads[m * 48] = u.scope as u8;
-    heads[m * 48 + 1] = u.variables as u8;
-    heads[m * 48 + 2] = u.subs as u8;
+    let row = m * ROW;
+    directory[row + BEGIN] = u.begin;
+    directory[row + END] = at;
+    directory[row + WEIGHT] = u.weight;
+    directory[row + VARIABLES] = u.variables;
+    directory[row + SUB_SCOPES] = u.subs;
     let scope = u.scope;
-    places[scope] = (m + 1) as u8;
-    sizes[scope * 2] = u.weight;
-    sizes[scope * 2 + 1] = u.variables;
+    directory[scope] = m + 1;
     ring[at % 65536] = 0;
     Closing::Closed(m + 1)
 }
 
 // Opens a block of a scope after m closed ones, unless the scope is above 31 or has a block already.
-fn open_block(scope: u8, next: usize, m: usize, places: &[u8]) -> Step
-    ensures { λ r. ⌜ r ≡ opening scope next m (now (places .entry)) ⌝ }
+fn open_block(scope: u8, next: usize, m: usize, directory: &[usize]) -> Step
+    ensures { λ r. ⌜ r ≡ opening scope next m (now (directory .entry)) ⌝ }
 {
     let i = wide(scope);
     if 31 < i {
         return Step::Refused;
     }
-    if byte_at(places, i) != 0 {
+    if place_of(directory, i) != 0 {
         return Step::Refused;
     }
     Step::Next(
@@ -361,30 +410,25 @@ fn begin_block(
     next: usize,
     scope: u8,
     u: Progress,
-    spans: &mut [usize],
-    heads: &mut [u8],
-    places: &mut [u8],
-    sizes: &mut [usize],
+    directory: &mut [usize],
     ring: &mut [u8],
 ) -> Step
-    requires { ⌜ Beginning (now code) at next scope u (now spans) (now heads) (now places) (now sizes) (now ring) ⌝ }
-    ensures { λ r.
-        ⌜ Stepped (now (code .entry)) at (now (spans .exit)) (now (heads .exit)) (now (places .exit))
-        (now (sizes .exit)) (now (ring .exit)) r ⌝ }
+    requires { ⌜ Beginning (now code) at next scope u (now directory) (now ring) ⌝ }
+    ensures { λ r. ⌜ Stepped (now (code .entry)) at (now (directory .exit)) (now (ring .exit)) r ⌝ }
 {
-    match leave(code, at, u, spans, heads, places, sizes, ring) {
+    match leave(code, at, u, directory, ring) {
         Closing::Refused => Step::Refused,
-        Closing::Closed(m) => open_block(scope, next, m, places),
+        Closing::Closed(m) => open_block(scope, next, m, directory),
     }
 }
 
 // A record of kind 2.
-fn variable(byte: u8, next: usize, u: Progress, heads: &mut [u8]) -> Step
-    requires { ⌜ VariableRoom u (now heads) ⌝ }
-    ensures { λ r. ⌜ VariableNoted byte next u (now (heads .entry)) (now (heads .exit)) r ⌝ }
+fn variable(byte: u8, next: usize, u: Progress, directory: &mut [usize]) -> Step
+    requires { ⌜ VariableRoom u (now directory) ⌝ }
+    ensures { λ r. ⌜ VariableNoted byte next u (now (directory .entry)) (now (directory .exit)) r ⌝ }
 {
     let v = u.variables;
-    heads[u.blocks * 48 + 3 + v] = byte;
+    directory[u.blocks * ROW + TYPES + v] = wide(byte);
     let mut w = u;
     w.stage = 2;
     w.variables = v + 1;
@@ -393,47 +437,29 @@ fn variable(byte: u8, next: usize, u: Progress, heads: &mut [u8]) -> Step
 }
 
 // A record of kind 3, unless its scope has no block yet.
-fn sub_scope(
-    scope: u8,
-    next: usize,
-    u: Progress,
-    heads: &mut [u8],
-    places: &[u8],
-    sizes: &[usize],
-) -> Step
-    requires { ⌜ SubRoom scope u (now heads) (now sizes) ⌝ }
-    ensures { λ r. ⌜ SubRead scope next u (now (heads .entry)) (now (places .entry)) (now (sizes .entry)) (now (heads .exit)) r ⌝ }
+fn sub_scope(scope: u8, next: usize, u: Progress, directory: &mut [usize]) -> Step
+    requires { ⌜ SubRoom scope u (now directory) ⌝ }
+    ensures { λ r. ⌜ SubRead scope next u (now (directory .entry)) (now (directory .exit)) r ⌝ }
 {
-    let i = wide(scope);
-    if byte_at(places, i) == 0 {
+    let place = place_of(directory, wide(scope));
+    if place == 0 {
         return Step::Refused;
     }
-    let m = u.blocks;
+    let block = place - 1;
     let k = u.subs;
-    heads[m * 48 + 35 + k] = scope;
     let mut v = u;
     v.stage = 3;
     v.subs = k + 1;
     v.begin = next;
-    v.weight = u.weight + entry_at(sizes, i * 2);
+    v.weight = u.weight + weight_of(directory, block);
+    directory[u.blocks * ROW + BLOCKS + k] = block;
     Step::Next(next, v)
 }
 
-// A record at a position that is no instruction: of kind 1, 2 or 3, or unknown.
-fn heading_at(
-    code: &[u8],
-    at: usize,
-    u: Progress,
-    spans: &mut [usize],
-    heads: &mut [u8],
-    places: &mut [u8],
-    sizes: &mut [usize],
-    ring: &mut [u8],
-) -> Step
-    requires { ⌜ AtHeading (now code) at u (now spans) (now heads) (now places) (now sizes) (now ring) ⌝ }
-    ensures { λ r.
-        ⌜ Stepped (now (code .entry)) at (now (spans .exit)) (now (heads .exit)) (now (places .exit))
-        (now (sizes .exit)) (now (ring .exit)) r ⌝ }
+// A record at a position that is no instruction, or one before any block: of kind 1, 2 or 3, or refused.
+fn heading_at(code: &[u8], at: usize, u: Progress, directory: &mut [usize], ring: &mut [u8]) -> Step
+    requires { ⌜ AtHeading (now code) at u (now directory) (now ring) ⌝ }
+    ensures { λ r. ⌜ Stepped (now (code .entry)) at (now (directory .exit)) (now (ring .exit)) r ⌝ }
 {
     let kind = code[at];
     let shape = shape_in(Medium::Code, kind);
@@ -443,69 +469,39 @@ fn heading_at(
     let next = at + 1 + shape.length;
     let first = byte_at(code, at + 1);
     if shape.stage == 1 {
-        return begin_block(code, at, next, first, u, spans, heads, places, sizes, ring);
+        return begin_block(code, at, next, first, u, directory, ring);
     }
     if shape.stage == 2 {
-        return variable(first, next, u, heads);
+        return variable(first, next, u, directory);
     }
-    sub_scope(first, next, u, heads, places, sizes)
+    sub_scope(first, next, u, directory)
 }
 
 // The record at a position, after what was read.
-fn step_at(
-    code: &[u8],
-    at: usize,
-    u: Progress,
-    spans: &mut [usize],
-    heads: &mut [u8],
-    places: &mut [u8],
-    sizes: &mut [usize],
-    ring: &mut [u8],
-) -> Step
-    requires { ⌜ (at < length (now code)) × Reading (now code) at u (now spans) (now heads) (now places) (now sizes) (now ring) ⌝ }
-    ensures { λ r.
-        ⌜ Stepped (now (code .entry)) at (now (spans .exit)) (now (heads .exit)) (now (places .exit))
-        (now (sizes .exit)) (now (ring .exit)) r ⌝ }
+fn step_at(code: &[u8], at: usize, u: Progress, directory: &mut [usize], ring: &mut [u8]) -> Step
+    requires { ⌜ (at < length (now code)) × Reading (now code) at u (now directory) (now ring) ⌝ }
+    ensures { λ r. ⌜ Stepped (now (code .entry)) at (now (directory .exit)) (now (ring .exit)) r ⌝ }
 {
-    let kind = code[at];
-    let shape = shape_in(Medium::Code, kind);
-    if shape.stage != 4 {
-        return heading_at(code, at, u, spans, heads, places, sizes, ring);
+    let shape = shape_in(Medium::Code, code[at]);
+    match landing_of(code, at, shape, u, directory, ring) {
+        Landing::Heading => heading_at(code, at, u, directory, ring),
+        Landing::Refused => Step::Refused,
+        Landing::Ahead(d) => {
+            let next = at + 1 + shape.length;
+            Step::Next(next, instruction(at, next, d, u, ring))
+        }
     }
-    if is_faulty(code, at, kind, shape, u) {
-        return Step::Refused;
-    }
-    let length = shape.length;
-    let next = at + 1 + length;
-    instruction(
-        kind,
-        body_at(code, at, length),
-        code.len() - next,
-        at,
-        next,
-        u,
-        heads,
-        sizes,
-        ring,
-    )
 }
 
-// Reads the records of code one after the other; the tables are still empty.
-fn judge_code(
-    code: &[u8],
-    spans: &mut [usize],
-    heads: &mut [u8],
-    places: &mut [u8],
-    sizes: &mut [usize],
-    ring: &mut [u8],
-) -> Verdict
-    requires { ⌜ Empty (now code) (now spans) (now heads) (now places) (now sizes) (now ring) ⌝ }
-    ensures { λ r. ⌜ Judged (now (code .entry)) (now (spans .exit)) (now (heads .exit)) (now (places .exit)) r ⌝ }
+// Reads the records of code one after the other; the directory is still empty.
+fn judge_code(code: &[u8], directory: &mut [usize], ring: &mut [u8]) -> Verdict
+    requires { ⌜ Empty (now code) (now directory) (now ring) ⌝ }
+    ensures { λ r. ⌜ Judged (now (code .entry)) (now (directory .exit)) r ⌝ }
 {
     let mut u = nothing_read();
     let mut at: usize = 0;
     while at < code.len() {
-        match step_at(code, at, u, spans, heads, places, sizes, ring) {
+        match step_at(code, at, u, directory, ring) {
             Step::Refused => {
                 return Verdict::Refused;
             }
@@ -515,7 +511,7 @@ fn judge_code(
             }
         }
     }
-    match leave(code, at, u, spans, heads, places, sizes, ring) {
+    match leave(code, at, u, directory, ring) {
         Closing::Refused => Verdict::Refused,
         Closing::Closed(m) => Verdict::Accepted(m),
     }
@@ -523,37 +519,30 @@ fn judge_code(
 
 // Judges code of any length, with a ring of 65,536 marks. It calls itself first, `again` times, which is 0: a function that may call itself is not
 // made part of its caller, where the ring would take its room on the stack for short code, too.
-fn judge_long(
-    code: &[u8],
-    spans: &mut [usize],
-    heads: &mut [u8],
-    places: &mut [u8],
-    again: usize,
-) -> Verdict
-    requires { ⌜ Room (now spans) (now heads) (now places) × (now places ≡ replicate 32 0) ⌝ }
-    ensures { λ r. ⌜ Judged (now (code .entry)) (now (spans .exit)) (now (heads .exit)) (now (places .exit)) r ⌝ }
+fn judge_long(code: &[u8], directory: &mut [usize], again: usize) -> Verdict
+    requires { ⌜ Room (now code) (now directory) × ((i : ℕ) → placeIn (now directory) i ≡ 0) ⌝ }
+    ensures { λ r. ⌜ Judged (now (code .entry)) (now (directory .exit)) r ⌝ }
 {
     if 0 < again {
-        return judge_long(code, spans, heads, places, again - 1);
+        return judge_long(code, directory, again - 1);
     }
-    let mut sizes = [0usize; 64];
     let mut ring = [0u8; 65536];
-    judge_code(code, spans, heads, places, &mut sizes, &mut ring)
+    judge_code(code, directory, &mut ring)
 }
 
-// Judges code: whether it is accepted, and of accepted code the tables of its blocks. A smaller ring has a mark for each position of short code.
-pub fn verify(code: &[u8], spans: &mut [usize], heads: &mut [u8], places: &mut [u8]) -> Verdict
-    requires { ⌜ Room (now spans) (now heads) (now places) × (now places ≡ replicate 32 0) ⌝ }
-    ensures { λ r. ⌜ Judged (now (code .entry)) (now (spans .exit)) (now (heads .exit)) (now (places .exit)) r ⌝ }
+// Judges code: whether it is accepted, and of accepted code the directory of its blocks, in which no scope has a place yet. A smaller ring has a mark
+// for each position of short code.
+pub fn verify(code: &[u8], directory: &mut [usize]) -> Verdict
+    requires { ⌜ Room (now code) (now directory) × ((i : ℕ) → placeIn (now directory) i ≡ 0) ⌝ }
+    ensures { λ r. ⌜ Judged (now (code .entry)) (now (directory .exit)) r ⌝ }
 {
     if 8191 < code.len() {
-        return judge_long(code, spans, heads, places, code.len() / UNREACHED);
+        return judge_long(code, directory, code.len() / UNREACHED);
     }
-    let mut sizes = [0usize; 64];
     if 1023 < code.len() {
         let mut medium = [0u8; 8192];
-        return judge_code(code, spans, heads, places, &mut sizes, &mut medium);
+        return judge_code(code, directory, &mut medium);
     }
     let mut small = [0u8; 1024];
-    judge_code(code, spans, heads, places, &mut sizes, &mut small)
+    judge_code(code, directory, &mut small)
 }

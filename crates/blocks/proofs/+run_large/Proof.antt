@@ -16,14 +16,14 @@ use Rattle.blocks.proofs.run_given.Reads as run-given-reads
 use Rattle.blocks.proofs.+run_large.{statement}
 use Rattle.blocks.proofs.+run_large.Tie.{close}
 
-abbrev μ-run-large : Measures 6 run-large-kinds.ps ℕ
-μ-run-large κs a = a .1 .1 .1 .1 .1 .1 .1 .0
+abbrev μ-run-large : Measures 4 run-large-kinds.ps ℕ
+μ-run-large κs a = a .1 .1 .1 .1 .1 .0
 
-abbrev run-large-at : ℕ → In 6 run-large-kinds.ps
-run-large-at t = and 6 run-large-kinds.ps (is 6 run-large-kinds.ps μ-run-large t) run-large.Pre
+abbrev run-large-at : ℕ → In 4 run-large-kinds.ps
+run-large-at t = and 4 run-large-kinds.ps (is 4 run-large-kinds.ps μ-run-large t) run-large.Pre
 
-abbrev run-large-below : ℕ → In 6 run-large-kinds.ps
-run-large-below t = and 6 run-large-kinds.ps (falls 6 run-large-kinds.ps _<_ μ-run-large t) run-large.Pre
+abbrev run-large-below : ℕ → In 4 run-large-kinds.ps
+run-large-below t = and 4 run-large-kinds.ps (falls 4 run-large-kinds.ps _<_ μ-run-large t) run-large.Pre
 
 abbrev R : ℕ → run-large-lts.Claims
 R t = (run-large-below t, run-large.Post, run-given-reads.Asked, run-given-reads.Learnt)
@@ -32,7 +32,7 @@ run-large-sub-run-large : (t : ℕ) → run-large-lts.Need-sub-run-large (R t) (
 run-large-sub-run-large t c = omega arith
 
 run-large-run-large-requires : (t : ℕ) → run-large-lts.Need-run-large-requires (R t) (run-large-at t) run-large.Post
-run-large-run-large-requires t c κs = (omega (arith, c .before .before .before .before .before .before .before .before .pre .0), search needs)
+run-large-run-large-requires t c κs = (omega (arith, c .before .before .before .before .before .before .pre .0), search needs)
 
 run-large-same-length : (t : ℕ) → run-large-lts.Need-same-length (R t) (run-large-at t) run-large.Post
 run-large-same-length t c = search needs
@@ -54,7 +54,7 @@ run-large-same-length-2 t c = search needs
 
 run-large-returns-2 : (t : ℕ) → run-large-lts.Need-returns-2 (R t) (run-large-at t) run-large.Post
 run-large-returns-2 t c =
-    let entry = c .before .before .before .before .before .before .before .before .before .before .before .before .before .before .before .pre .1 .0 in
+    let entry = c .before .before .before .before .before .before .before .before .before .before .before .before .before .pre .1 .0 in
     let came = c .before .before .before .before .run-given in
     came-to _ refl (came .ensures) (enough (came .result) (large _ (small (world entry) _ (entry .block))))
 

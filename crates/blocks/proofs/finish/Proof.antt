@@ -1,6 +1,6 @@
 -- `blocks::finish` meets its contract.
 -- Assumes nothing.
-use Rattle.blocks.proofs.Ends.{own-room, mark-room, end-unset, end-waiting, end-values}
+use Rattle.blocks.proofs.Ends.{mark-room, end-unset, end-waiting, end-values}
 use borrow.Author.Needs.{needs}
 use Rattle.blocks.proofs.finish.Statement.{statement}
 use Rattle.blocks.proofs.finish.Tie as tie
@@ -9,7 +9,7 @@ variables-in-requires : tie.Need-variables-in-requires
 variables-in-requires c κs = search needs
 
 all-set-requires : tie.Need-all-set-requires
-all-set-requires c κs = own-room _ _ _ _ _ (c .variables-in .ensures) (c .before .before .before .before .pre)
+all-set-requires c κs = search needs
 
 returns : tie.Need-returns
 returns c = end-unset _ _ _ _ _ (c .before .before .variables-in .ensures) (c .before .all-set .ensures) (c .if1 .taken)

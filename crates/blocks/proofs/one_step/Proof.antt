@@ -5,23 +5,11 @@ use borrow.Author.Needs.{needs}
 use Rattle.blocks.proofs.one_step.Statement.{statement}
 use Rattle.blocks.proofs.one_step.Tie as tie
 
-add-next : tie.Need-add-next
-add-next c = search needs
-
-shared-slice-read-step : tie.Need-shared-slice-read-step
-shared-slice-read-step c = search needs
-
-sub-step : tie.Need-sub-step
-sub-step c = search needs
-
-part-step-start : tie.Need-part-step-start
-part-step-start c = search needs
-
-part-step-end : tie.Need-part-step-end
-part-step-end c = search needs
-
 step-requires : tie.Need-step-requires
 step-requires c κs = search needs
+
+add-follow : tie.Need-add-follow
+add-follow c = search needs
 
 follow-requires : tie.Need-follow-requires
 follow-requires c κs = search needs
@@ -38,26 +26,18 @@ same-length-3 c = search needs
 same-length-4 : tie.Need-same-length-4
 same-length-4 c = search needs
 
-same-length-5 : tie.Need-same-length-5
-same-length-5 c = search needs
-
 returns : tie.Need-returns
-returns c = stepped (c .before .before .before .before .before .before .before .before .before .before .before .step .ensures) (c .follow .ensures)
+returns c = stepped (c .before .before .before .before .before .before .before .before .before .before .step .ensures) (c .follow .ensures)
 
 pub one-step-spec : {M : Type 1} → statement M
 one-step-spec =
     tie.close
     (tie.spec
-    add-next
-    shared-slice-read-step
-    sub-step
-    part-step-start
-    part-step-end
     step-requires
+    add-follow
     follow-requires
     same-length
     same-length-2
     same-length-3
     same-length-4
-    same-length-5
     returns)

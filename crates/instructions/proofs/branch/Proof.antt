@@ -1,10 +1,13 @@
 -- `instructions::branch` meets its contract.
 -- Assumes nothing.
-use Rattle.instructions.proofs.Stack.{branch-none, branch-other, branch-yes, branch-no}
 use native.Mathlib.Omega.{arith}
+use Rattle.instructions.proofs.Stack.{branch-none, branch-other, branch-yes, branch-no}
 use borrow.Author.Needs.{needs}
 use Rattle.instructions.proofs.branch.Statement.{statement}
 use Rattle.instructions.proofs.branch.Tie as tie
+use Rattle.instructions.proofs.has_type.Reads as has-type-reads
+use Rattle.instructions.proofs.top_value.Reads as top-value-reads
+use Rattle.operators.proofs.truth_of.Reads as truth-of-reads
 
 top-value-requires : tie.Need-top-value-requires
 top-value-requires c κs = search needs
@@ -30,11 +33,11 @@ sub-t12 c = omega (arith, c .before .before .before .before .before .before .bef
 returns-2 : tie.Need-returns-2
 returns-2 c = λ env tr m left p. branch-yes env left m (c .before .before .before .before .before .before .before .top-value .ensures) _ _ (c .before .before .before .before .before .before .before .before .before .pre) tr p (c .before .before .before .before .before .v .given .1) (c .before .before .before .has-type .ensures) (c .before .before .if1 .left) (c .before .truth-of .ensures) (c .if2 .taken)
 
-add-t13 : tie.Need-add-t13
-add-t13 c = search needs
+add-t14 : tie.Need-add-t14
+add-t14 c = search needs
 
-sub-t14 : tie.Need-sub-t14
-sub-t14 c = omega (arith, c .before .before .before .before .before .before .before .top-value .ensures .some _ (c .before .before .before .before .before .v .given .1) .1)
+sub-t15 : tie.Need-sub-t15
+sub-t15 c = omega (arith, c .before .before .before .before .before .before .before .top-value .ensures .some _ (c .before .before .before .before .before .v .given .1) .1)
 
 returns-3 : tie.Need-returns-3
 returns-3 c = λ env tr m left p. branch-none env left m (c .before .before .top-value .ensures) _ _ (c .before .before .before .before .pre) tr p (c .enum-told .given .1)
@@ -54,7 +57,7 @@ branch-spec =
     truth-of-requires
     sub-t12
     returns-2
-    add-t13
-    sub-t14
+    add-t14
+    sub-t15
     returns-3
     returns-4)

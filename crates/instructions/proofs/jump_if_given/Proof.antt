@@ -1,9 +1,9 @@
 -- `instructions::jump_if_given` meets its contract.
 -- Assumes nothing.
-use Rattle.instructions.proofs.Memory.{given-unset, given-given, given-stored}
-use native.Mathlib.Omega.{arith}
 use Prim.Native.Nat.{_+_, _-_}
 use mathlib.Core.Path.{_≡_}
+use native.Mathlib.Omega.{arith}
+use Rattle.instructions.proofs.Memory.{given-unset, given-given, given-stored}
 use borrow.Author.Needs.{needs}
 use Rattle.instructions.proofs.jump_if_given.Statement.{statement}
 use Rattle.instructions.proofs.jump_if_given.Tie as tie
@@ -16,6 +16,9 @@ shared-slice-read-if1 c = search needs
 
 returns : tie.Need-returns
 returns c = λ st tr m o. (given-unset _ _ _ _ _ _ m (c .if1 .taken), omega arith, o)
+
+mul-if2 : tie.Need-mul-if2
+mul-if2 c = search needs
 
 shared-slice-read-if2 : tie.Need-shared-slice-read-if2
 shared-slice-read-if2 c = search needs
@@ -36,6 +39,7 @@ jump-if-given-spec =
     mul-if1
     shared-slice-read-if1
     returns
+    mul-if2
     shared-slice-read-if2
     add-t13
     returns-2

@@ -1,7 +1,7 @@
 -- `instructions::settle` meets its contract.
 -- Assumes nothing.
-use Rattle.instructions.proofs.Stack.{settle-empty, settle-many, settle-nothing, settle-value}
 use native.Mathlib.Omega.{arith}
+use Rattle.instructions.proofs.Stack.{settle-empty, settle-nothing, settle-value, settle-many}
 use borrow.Author.Needs.{needs}
 use Rattle.instructions.proofs.settle.Statement.{statement}
 use Rattle.instructions.proofs.settle.Tie as tie
@@ -24,8 +24,8 @@ sub-t11 c = search needs
 returns-2 : tie.Need-returns-2
 returns-2 c = λ env tr m left p. settle-nothing env left m _ _ _ _ (c .before .before .before .pre) tr p (omega arith) (c .if2 .taken)
 
-add-t12 : tie.Need-add-t12
-add-t12 c = search needs
+add-t13 : tie.Need-add-t13
+add-t13 c = search needs
 
 returns-3 : tie.Need-returns-3
 returns-3 c = λ env tr m left p. settle-value env left m _ _ _ _ (c .before .before .before .before .pre) tr p (omega arith) (c .before .if2 .left) (c .if3 .taken)
@@ -43,6 +43,6 @@ settle-spec =
     shared-slice-read-c
     sub-t11
     returns-2
-    add-t12
+    add-t13
     returns-3
     returns-4)

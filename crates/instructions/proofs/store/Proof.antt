@@ -1,10 +1,13 @@
 -- `instructions::store` meets its contract.
 -- Assumes nothing.
-use Rattle.instructions.proofs.Memory.{store-none, store-other, store-twice, store-go}
 use native.Mathlib.Omega.{arith}
+use Rattle.instructions.proofs.Memory.{store-none, store-other, store-twice, store-go}
 use borrow.Author.Needs.{needs}
 use Rattle.instructions.proofs.store.Statement.{statement}
 use Rattle.instructions.proofs.store.Tie as tie
+use Rattle.instructions.proofs.encode.Reads as encode-reads
+use Rattle.instructions.proofs.has_type.Reads as has-type-reads
+use Rattle.instructions.proofs.top_value.Reads as top-value-reads
 
 top-value-requires : tie.Need-top-value-requires
 top-value-requires c κs = search needs
@@ -39,8 +42,11 @@ mul-own c = search needs
 slice-write-own : tie.Need-slice-write-own
 slice-write-own c = search needs
 
-slice-write-flags : tie.Need-slice-write-flags
-slice-write-flags c = search needs
+mul-frame : tie.Need-mul-frame
+mul-frame c = search needs
+
+slice-write-frame : tie.Need-slice-write-frame
+slice-write-frame c = search needs
 
 sub-t13 : tie.Need-sub-t13
 sub-t13 c = omega (arith, c .before .before .before .before .before .before .before .before .top-value .ensures .some _ (c .before .before .before .before .before .before .v .given .1) .1)
@@ -55,7 +61,7 @@ same-length-2 : tie.Need-same-length-2
 same-length-2 c = search needs
 
 returns-4 : tie.Need-returns-4
-returns-4 c = store-go _ _ _ _ _ (c .before .before .before .before .before .before .before .before .top-value .ensures) (c .before .before .before .before .before .before .v .given .1) (c .before .before .before .before .has-type .ensures) (c .before .before .before .if1 .left) (c .before .if2 .left) (c .encode .ensures) (c .before .before .before .before .before .before .before .before .before .before .before .before .pre .0, c .before .before .before .before .before .before .before .before .before .before .before .before .pre .1) (c .before .before .before .before .before .before .before .before .before .before .before .before .pre .2) (c .before .before .before .before .before .before .before .before .before .before .before .before .pre .3)
+returns-4 c = store-go _ _ _ _ _ (c .before .before .before .before .before .before .before .before .top-value .ensures) (c .before .before .before .before .before .before .v .given .1) (c .before .before .before .before .has-type .ensures) (c .before .before .before .if1 .left) (c .before .if2 .left) (c .encode .ensures) (c .before .before .before .before .before .before .before .before .before .before .before .before .pre .0, c .before .before .before .before .before .before .before .before .before .before .before .before .pre .1) (c .before .before .before .before .before .before .before .before .before .before .before .before .pre .2) (c .before .before .before .before .before .before .before .before .before .before .before .before .pre .3) (c .before .before .before .before .before .before .before .before .before .before .before .before .pre .4)
 
 pub store-spec : {M : Type 1} → statement M
 store-spec =
@@ -72,7 +78,8 @@ store-spec =
     encode-requires
     mul-own
     slice-write-own
-    slice-write-flags
+    mul-frame
+    slice-write-frame
     sub-t13
     returns-3
     same-length

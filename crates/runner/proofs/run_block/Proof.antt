@@ -9,7 +9,7 @@ slice-aggregate-run-cells : tie.Need-slice-aggregate-run-cells
 slice-aggregate-run-cells c = search needs
 
 run-cells-requires : tie.Need-run-cells-requires
-run-cells-requires c κs = (entry (c .before .before .before .before .before .before .before .before .pre) (search needs), c .before .before .before .before .before .before .before .before .pre .size)
+run-cells-requires c κs = (entry (c .before .before .before .before .before .before .pre) (search needs), c .before .before .before .before .before .before .pre .size)
 
 enum-known-count : tie.Need-enum-known-count
 enum-known-count c = search needs
@@ -18,10 +18,10 @@ slice-aggregate-write-by : tie.Need-slice-aggregate-write-by
 slice-aggregate-write-by c = search needs
 
 write-by-requires : tie.Need-write-by-requires
-write-by-requires c κs = (types-short (c .before .before .before .before .before .before .before .before .before .before .before .before .before .before .before .pre), has-room (c .before .before .before .before .before .before .before .before .before .before .before .before .before .before .before .pre) (c .before .before .before .before .before .before .run-cells .ensures) (c .before .before .before .count .given .1))
+write-by-requires c κs = (types-short (c .before .before .before .before .before .before .before .before .before .before .before .before .before .pre), has-room (c .before .before .before .before .before .before .before .before .before .before .before .before .before .pre) (c .before .before .before .before .before .before .run-cells .ensures) (c .before .before .before .count .given .1))
 
 length-by-requires : tie.Need-length-by-requires
-length-by-requires c κs = types-short (c .before .before .before .before .before .before .before .before .before .before .before .before .before .before .before .before .before .before .pre)
+length-by-requires c κs = types-short (c .before .before .before .before .before .before .before .before .before .before .before .before .before .before .before .before .pre)
 
 enum-known-c : tie.Need-enum-known-c
 enum-known-c c = search needs
@@ -36,16 +36,16 @@ same-length : tie.Need-same-length
 same-length c = search needs
 
 returns : tie.Need-returns
-returns c = values-so (c .before .before .before .before .before .before .before .before .before .before .before .before .before .before .before .before .before .before .before .pre) (c .before .before .before .before .before .before .before .before .before .before .run-cells .ensures) (c .before .before .before .before .before .before .before .count .given .1) (c .length-by .ensures) (c .before .before .before .write-by .ensures)
+returns c = values-so (c .before .before .before .before .before .before .before .before .before .before .before .before .before .before .before .before .before .pre) (c .before .before .before .before .before .before .before .before .before .before .run-cells .ensures) (c .before .before .before .before .before .before .before .count .given .1) (c .length-by .ensures) (c .before .before .before .write-by .ensures)
 
 returns-2 : tie.Need-returns-2
-returns-2 c = ends-so (c .before .before .before .before .before .before .before .before .before .before .before .before .before .pre) (c .before .before .before .before .run-cells .ensures) (c .before .c .given .1)
+returns-2 c = ends-so (c .before .before .before .before .before .before .before .before .before .before .before .pre) (c .before .before .before .before .run-cells .ensures) (c .before .c .given .1)
 
 returns-3 : tie.Need-returns-3
-returns-3 c = stuck-so (c .before .before .before .before .before .before .before .before .before .before .before .before .pre) (c .before .before .before .run-cells .ensures) (c .enum-told .given .1)
+returns-3 c = stuck-so (c .before .before .before .before .before .before .before .before .before .before .pre) (c .before .before .before .run-cells .ensures) (c .enum-told .given .1)
 
 returns-4 : tie.Need-returns-4
-returns-4 c = absurd (never-short (c .before .before .before .before .before .before .before .before .before .before .before .before .pre) (c .before .before .before .run-cells .ensures) (c .enum-told2 .given .1))
+returns-4 c = absurd (never-short (c .before .before .before .before .before .before .before .before .before .before .pre) (c .before .before .before .run-cells .ensures) (c .enum-told2 .given .1))
 
 pub run-block-spec : {M : Type 1} → statement M
 run-block-spec =

@@ -13,14 +13,14 @@ use Rattle.verifier.proofs.judge_code.Reads as judge-code-reads
 use Rattle.verifier.proofs.+judge_long.{statement}
 use Rattle.verifier.proofs.+judge_long.Tie.{close}
 
-abbrev μ-judge-long : Measures 4 judge-long-kinds.ps ℕ
-μ-judge-long κs a = a .1 .1 .1 .1 .0
+abbrev μ-judge-long : Measures 2 judge-long-kinds.ps ℕ
+μ-judge-long κs a = a .1 .1 .0
 
-abbrev judge-long-at : ℕ → In 4 judge-long-kinds.ps
-judge-long-at t = and 4 judge-long-kinds.ps (is 4 judge-long-kinds.ps μ-judge-long t) judge-long.Pre
+abbrev judge-long-at : ℕ → In 2 judge-long-kinds.ps
+judge-long-at t = and 2 judge-long-kinds.ps (is 2 judge-long-kinds.ps μ-judge-long t) judge-long.Pre
 
-abbrev judge-long-below : ℕ → In 4 judge-long-kinds.ps
-judge-long-below t = and 4 judge-long-kinds.ps (falls 4 judge-long-kinds.ps _<_ μ-judge-long t) judge-long.Pre
+abbrev judge-long-below : ℕ → In 2 judge-long-kinds.ps
+judge-long-below t = and 2 judge-long-kinds.ps (falls 2 judge-long-kinds.ps _<_ μ-judge-long t) judge-long.Pre
 
 abbrev R : ℕ → judge-long-lts.Claims
 R t = (judge-long-below t, judge-long.Post, judge-code-reads.Asked, judge-code-reads.Learnt)
@@ -29,16 +29,10 @@ judge-long-sub-judge-long : (t : ℕ) → judge-long-lts.Need-sub-judge-long (R 
 judge-long-sub-judge-long t c = omega arith
 
 judge-long-judge-long-requires : (t : ℕ) → judge-long-lts.Need-judge-long-requires (R t) (judge-long-at t) judge-long.Post
-judge-long-judge-long-requires t c κs = (omega (arith, c .before .before .before .before .before .before .before .before .pre .0), search needs)
+judge-long-judge-long-requires t c κs = (omega (arith, c .before .before .before .before .pre .0), search needs)
 
 judge-long-same-length : (t : ℕ) → judge-long-lts.Need-same-length (R t) (judge-long-at t) judge-long.Post
 judge-long-same-length t c = search needs
-
-judge-long-same-length-2 : (t : ℕ) → judge-long-lts.Need-same-length-2 (R t) (judge-long-at t) judge-long.Post
-judge-long-same-length-2 t c = search needs
-
-judge-long-same-length-3 : (t : ℕ) → judge-long-lts.Need-same-length-3 (R t) (judge-long-at t) judge-long.Post
-judge-long-same-length-3 t c = search needs
 
 judge-long-returns : (t : ℕ) → judge-long-lts.Need-returns (R t) (judge-long-at t) judge-long.Post
 judge-long-returns t c = search needs
@@ -46,20 +40,11 @@ judge-long-returns t c = search needs
 judge-long-slice-aggregate-judge-code : (t : ℕ) → judge-long-lts.Need-slice-aggregate-judge-code (R t) (judge-long-at t) judge-long.Post
 judge-long-slice-aggregate-judge-code t c = search needs
 
-judge-long-slice-aggregate-judge-code-2 : (t : ℕ) → judge-long-lts.Need-slice-aggregate-judge-code-2 (R t) (judge-long-at t) judge-long.Post
-judge-long-slice-aggregate-judge-code-2 t c = search needs
-
 judge-long-judge-code-requires : (t : ℕ) → judge-long-lts.Need-judge-code-requires (R t) (judge-long-at t) judge-long.Post
-judge-long-judge-code-requires t c κs = makes-empty _ _ _ _ 65536 (c .before .before .before .before .before .before .before .before .before .before .pre .1) (λ d h. omega arith)
+judge-long-judge-code-requires t c κs = makes-empty _ _ 65536 (c .before .before .before .before .before .pre .1) (λ d h. omega arith)
 
-judge-long-same-length-4 : (t : ℕ) → judge-long-lts.Need-same-length-4 (R t) (judge-long-at t) judge-long.Post
-judge-long-same-length-4 t c = search needs
-
-judge-long-same-length-5 : (t : ℕ) → judge-long-lts.Need-same-length-5 (R t) (judge-long-at t) judge-long.Post
-judge-long-same-length-5 t c = search needs
-
-judge-long-same-length-6 : (t : ℕ) → judge-long-lts.Need-same-length-6 (R t) (judge-long-at t) judge-long.Post
-judge-long-same-length-6 t c = search needs
+judge-long-same-length-2 : (t : ℕ) → judge-long-lts.Need-same-length-2 (R t) (judge-long-at t) judge-long.Post
+judge-long-same-length-2 t c = search needs
 
 judge-long-returns-2 : (t : ℕ) → judge-long-lts.Need-returns-2 (R t) (judge-long-at t) judge-long.Post
 judge-long-returns-2 t c = search needs
@@ -69,13 +54,8 @@ pub +judge-long-spec : {M : Type 1} → statement M
     (judge-long-sub-judge-long t)
     (judge-long-judge-long-requires t)
     (judge-long-same-length t)
-    (judge-long-same-length-2 t)
-    (judge-long-same-length-3 t)
     (judge-long-returns t)
     (judge-long-slice-aggregate-judge-code t)
-    (judge-long-slice-aggregate-judge-code-2 t)
     (judge-long-judge-code-requires t)
-    (judge-long-same-length-4 t)
-    (judge-long-same-length-5 t)
-    (judge-long-same-length-6 t)
+    (judge-long-same-length-2 t)
     (judge-long-returns-2 t)

@@ -6,7 +6,7 @@ use Rattle.verifier.proofs.begin_block.Statement.{statement}
 use Rattle.verifier.proofs.begin_block.Tie as tie
 
 leave-requires : tie.Need-leave-requires
-leave-requires c κs = begin-leaves _ _ _ _ _ _ _ _ _ _ (c .before .before .before .before .before .before .before .before .before .before .before .pre)
+leave-requires c κs = begin-leaves _ _ _ _ _ _ _ (c .before .before .before .before .before .pre)
 
 enum-told : tie.Need-enum-told
 enum-told c = search needs
@@ -23,35 +23,17 @@ same-length c = search needs
 same-length-2 : tie.Need-same-length-2
 same-length-2 c = search needs
 
+returns : tie.Need-returns
+returns c = left-refused _ _ _ _ _ (c .enum-told .given .1) (c .before .before .before .before .before .before .leave .ensures)
+
 same-length-3 : tie.Need-same-length-3
 same-length-3 c = search needs
 
 same-length-4 : tie.Need-same-length-4
 same-length-4 c = search needs
 
-same-length-5 : tie.Need-same-length-5
-same-length-5 c = search needs
-
-returns : tie.Need-returns
-returns c = left-refused _ _ _ _ _ _ _ _ (c .enum-told .given .1) (c .before .before .before .before .before .before .before .before .before .before .before .before .leave .ensures)
-
-same-length-6 : tie.Need-same-length-6
-same-length-6 c = search needs
-
-same-length-7 : tie.Need-same-length-7
-same-length-7 c = search needs
-
-same-length-8 : tie.Need-same-length-8
-same-length-8 c = search needs
-
-same-length-9 : tie.Need-same-length-9
-same-length-9 c = search needs
-
-same-length-10 : tie.Need-same-length-10
-same-length-10 c = search needs
-
 returns-2 : tie.Need-returns-2
-returns-2 c = begin-stepped _ _ _ _ _ _ _ _ _ _ (c .before .before .before .before .before .before .before .before .before .before .before .before .before .before .before .before .before .before .before .before .before .before .before .before .before .before .before .pre) _ _ _ _ _ _ (left-closed _ _ _ _ _ _ _ _ _ (c .before .before .before .m .given .1) (c .before .before .before .before .before .before .before .before .before .before .before .before .before .before .before .leave .ensures)) _ (c .open-block .ensures)
+returns-2 c = begin-stepped _ _ _ _ _ _ _ (c .before .before .before .before .before .before .before .before .before .before .before .before .before .before .before .pre) _ _ _ (left-closed _ _ _ _ _ _ (c .before .before .before .m .given .1) (c .before .before .before .before .before .before .before .before .before .leave .ensures)) _ (c .open-block .ensures)
 
 pub begin-block-spec : {M : Type 1} → statement M
 begin-block-spec =
@@ -63,13 +45,7 @@ begin-block-spec =
     open-block-requires
     same-length
     same-length-2
+    returns
     same-length-3
     same-length-4
-    same-length-5
-    returns
-    same-length-6
-    same-length-7
-    same-length-8
-    same-length-9
-    same-length-10
     returns-2)

@@ -1,100 +1,92 @@
 -- `verifier::landing_of` meets its contract.
 -- Assumes nothing.
-use Prim.Native.Nat.{ℕ}
-use mathlib.Core.List.{List, [], _∷_}
-use lib.Dec.{eqb, eqb→eq}
+use mathlib.Core.Path.{sym, ap, _∙_}
 use native.Mathlib.Omega.{arith}
-use Rattle.record.proofs.Decision.{by-keys, by-range, over, each, isAny}
-use Rattle.verifier.specs.Instructions.{namingOf, distancePlace}
-use Rattle.verifier.proofs.Landings.{own-landed, given-landed, called-landed, sub-landed, jump-landed, plain-landed}
+use Rattle.record.specs.declared.Shape.{Shape}
+use Rattle.verifier.specs.Pass.{Landed}
+use Rattle.verifier.proofs.Landings.{body-room, called-room, bare, no-stage, landed-none, landed-one, landed-names, landed-jump, landed-given, landed-number}
 use borrow.Author.Needs.{needs}
 use Rattle.verifier.proofs.landing_of.Statement.{statement}
 use Rattle.verifier.proofs.landing_of.Tie as tie
 
--- the arms' kinds, the last arm's first
-abbrev keys : List (List ℕ)
-keys = (44 ∷ []) ∷ (43 ∷ []) ∷ (35 ∷ []) ∷ (34 ∷ 36 ∷ 40 ∷ []) ∷ (7 ∷ 42 ∷ []) ∷ (6 ∷ 41 ∷ []) ∷ []
-
-names-below-requires : tie.Need-names-below-requires
-names-below-requires c κs = search needs
-
-ahead-if-requires : tie.Need-ahead-if-requires
-ahead-if-requires c κs = search needs
-
-names-called-requires : tie.Need-names-called-requires
-names-called-requires c κs = search needs
-
-ahead-if-requires-2 : tie.Need-ahead-if-requires-2
-ahead-if-requires-2 c κs = search needs
-
-distance-requires : tie.Need-distance-requires
-distance-requires c κs = search needs
-
-distance-requires-2 : tie.Need-distance-requires-2
-distance-requires-2 c κs = search needs
-
-names-below-requires-2 : tie.Need-names-below-requires-2
-names-below-requires-2 c κs = search needs
-
-ahead-if-requires-3 : tie.Need-ahead-if-requires-3
-ahead-if-requires-3 c κs = search needs
-
-names-below-requires-3 : tie.Need-names-below-requires-3
-names-below-requires-3 c κs = search needs
-
-distance-requires-3 : tie.Need-distance-requires-3
-distance-requires-3 c κs = search needs
-
-ahead-if-requires-4 : tie.Need-ahead-if-requires-4
-ahead-if-requires-4 c κs = search needs
-
 returns : tie.Need-returns
-unfolding each namingOf distancePlace
-returns c = rw (c .ahead-if .ensures) (own-landed _ _ _ _ _ (by-keys namingOf eqb eqb→eq 1 (6 ∷ 41 ∷ []) tt _ (c .before .before .match .keys1)) (by-keys distancePlace eqb eqb→eq 0 (6 ∷ 41 ∷ []) tt _ (c .before .before .match .keys1)) _ (c .before .names-below .ensures))
+returns c = no-stage _ _ _ _ _ (c .before .before .before .before .before .pre .0) (c .before .before .before .before .before .pre .1) (λ e. c .if1 .taken ((ap (λ (x : Shape). x .stage) (c .before .before .before .before .before .pre .2)) ∙ e))
 
 returns-2 : tie.Need-returns-2
-unfolding each namingOf distancePlace
-returns-2 c = rw (c .ahead-if2 .ensures) (called-landed _ _ _ _ _ (by-keys namingOf eqb eqb→eq 2 (7 ∷ 42 ∷ []) tt _ (c .before .before .match .keys2)) (by-keys distancePlace eqb eqb→eq 0 (7 ∷ 42 ∷ []) tt _ (c .before .before .match .keys2)) _ (c .before .names-called .ensures))
+unfolding Landed
+returns-2 c = λ e. c .if2 .taken
+
+shared-slice-read-kind : tie.Need-shared-slice-read-kind
+shared-slice-read-kind c = search needs
+
+limit-of-requires : tie.Need-limit-of-requires
+limit-of-requires c κs = search needs
+
+one-name-requires : tie.Need-one-name-requires
+one-name-requires c κs = search needs
+
+has-names-requires : tie.Need-has-names-requires
+has-names-requires c κs = search needs
+
+two-names-requires : tie.Need-two-names-requires
+two-names-requires c κs = (body-room _ _ _ _ _ (c .before .before .before .before .before .before .before .before .before .before .before .pre .0) (c .before .before .before .before .before .before .before .before .before .before .before .pre .1) 2 (omega arith), called-room _ _ _ _ _ (c .before .before .before .before .before .before .before .before .before .before .before .pre .0) (c .before .before .before .before .before .before .before .before .before .before .before .pre .1) (c .before .before .before .before .if2 .left))
 
 returns-3 : tie.Need-returns-3
-unfolding each namingOf distancePlace
-returns-3 c = jump-landed _ _ _ _ _ (by-keys namingOf eqb eqb→eq 0 (34 ∷ 36 ∷ 40 ∷ []) tt _ (c .before .match .keys3)) (by-keys distancePlace eqb eqb→eq 1 (34 ∷ 36 ∷ 40 ∷ []) tt _ (c .before .match .keys3)) _ (c .distance .ensures .0) (c .distance .ensures .1)
+returns-3 c = landed-names _ _ _ _ _ (c .before .before .before .before .before .before .before .before .before .before .before .before .pre .0) (c .before .before .before .before .before .before .before .before .before .before .before .before .pre .1) (c .before .before .before .before .before .if2 .left) (sym (ap (λ (x : Shape). x .stage) (c .before .before .before .before .before .before .before .before .before .before .before .before .pre .2)) ∙ c .before .before .before .before .before .before .before .if1 .left) _ (sym (ap (λ (x : Shape). x .length) (c .before .before .before .before .before .before .before .before .before .before .before .before .pre .2)) ∙ c .before .before .before .match .keys3) (sym (c .before .before .has-names .ensures) ∙ c .before .if3 .taken) (c .two-names .ensures)
+
+jump-requires : tie.Need-jump-requires
+jump-requires c κs = search needs
+
+add-byte-at : tie.Need-add-byte-at
+add-byte-at c = search needs
+
+byte-at-requires : tie.Need-byte-at-requires
+byte-at-requires c κs = search needs
+
+wide-requires : tie.Need-wide-requires
+wide-requires c κs = search needs
+
+jump-requires-2 : tie.Need-jump-requires-2
+jump-requires-2 c κs = search needs
+
+no-name-requires : tie.Need-no-name-requires
+no-name-requires c κs = search needs
 
 returns-4 : tie.Need-returns-4
-unfolding each namingOf distancePlace
-returns-4 c = jump-landed _ _ _ _ _ (by-keys namingOf eqb eqb→eq 0 (35 ∷ []) tt _ (c .before .match .keys4)) (by-keys distancePlace eqb eqb→eq 1 (35 ∷ []) tt _ (c .before .match .keys4)) _ (c .distance2 .ensures .0) (c .distance2 .ensures .1)
+returns-4 c = landed-none _ _ _ _ _ (c .before .before .before .before .before .before .before .before .before .pre .0) (c .before .before .before .before .before .before .before .before .before .pre .1) (c .before .before .if2 .left) (sym (ap (λ (x : Shape). x .stage) (c .before .before .before .before .before .before .before .before .before .pre .2)) ∙ c .before .before .before .before .if1 .left) _ (sym (ap (λ (x : Shape). x .length) (c .before .before .before .before .before .before .before .before .before .pre .2)) ∙ c .match .keys1) (bare _ _ _ (c .before .before .before .before .before .before .before .before .before .pre .0))
 
 returns-5 : tie.Need-returns-5
-unfolding each namingOf distancePlace
-returns-5 c = rw (c .ahead-if3 .ensures) (sub-landed _ _ _ _ _ (by-keys namingOf eqb eqb→eq 3 (43 ∷ []) tt _ (c .before .before .match .keys5)) (by-keys distancePlace eqb eqb→eq 0 (43 ∷ []) tt _ (c .before .before .match .keys5)) _ (c .before .names-below2 .ensures))
+returns-5 c = landed-one _ _ _ _ _ (c .before .before .before .before .before .before .before .before .before .before .before .pre .0) (c .before .before .before .before .before .before .before .before .before .before .before .pre .1) (c .before .before .before .before .if2 .left) (sym (ap (λ (x : Shape). x .stage) (c .before .before .before .before .before .before .before .before .before .before .before .pre .2)) ∙ c .before .before .before .before .before .before .if1 .left) _ (sym (ap (λ (x : Shape). x .length) (c .before .before .before .before .before .before .before .before .before .before .before .pre .2)) ∙ c .before .before .match .keys2) (c .before .limit-of .ensures) (c .one-name .ensures)
 
 returns-6 : tie.Need-returns-6
-unfolding each namingOf distancePlace
-returns-6 c = rw (c .ahead-if4 .ensures) (given-landed _ _ _ _ _ (by-keys namingOf eqb eqb→eq 1 (44 ∷ []) tt _ (c .before .before .before .match .keys6)) (by-keys distancePlace eqb eqb→eq 2 (44 ∷ []) tt _ (c .before .before .before .match .keys6)) _ (c .before .before .names-below3 .ensures) _ (c .before .distance3 .ensures .0) (c .before .distance3 .ensures .1))
+returns-6 c = landed-jump _ _ _ _ _ (c .before .before .before .before .before .before .before .before .before .before .before .before .pre .0) (c .before .before .before .before .before .before .before .before .before .before .before .before .pre .1) (c .before .before .before .before .before .if2 .left) (sym (ap (λ (x : Shape). x .stage) (c .before .before .before .before .before .before .before .before .before .before .before .before .pre .2)) ∙ c .before .before .before .before .before .before .before .if1 .left) _ (sym (ap (λ (x : Shape). x .length) (c .before .before .before .before .before .before .before .before .before .before .before .before .pre .2)) ∙ c .before .before .before .match .keys3) (sym (c .before .before .has-names .ensures) ∙ c .before .if3 .left) (c .jump .ensures)
 
 returns-7 : tie.Need-returns-7
-unfolding over isAny namingOf distancePlace
-returns-7 c = plain-landed _ _ _ _ _ (by-range namingOf eqb eqb→eq keys 0 0 256 tt _ (c .match .rest) (omega arith) (omega arith)) (by-range distancePlace eqb eqb→eq keys 0 0 256 tt _ (c .match .rest) (omega arith) (omega arith))
+returns-7 c = landed-given _ _ _ _ _ (c .before .before .before .before .before .before .before .before .before .before .before .before .before .pre .0) (c .before .before .before .before .before .before .before .before .before .before .before .before .before .pre .1) (c .before .before .before .before .before .before .if2 .left) (sym (ap (λ (x : Shape). x .stage) (c .before .before .before .before .before .before .before .before .before .before .before .before .before .pre .2)) ∙ c .before .before .before .before .before .before .before .before .if1 .left) _ (sym (ap (λ (x : Shape). x .length) (c .before .before .before .before .before .before .before .before .before .before .before .before .before .pre .2)) ∙ c .before .before .before .before .match .keys4) (rw (← c .before .before .before .byte-at .ensures, ← c .before .before .wide .ensures) (c .jump2 .ensures))
+
+returns-8 : tie.Need-returns-8
+returns-8 c = landed-number _ _ _ _ _ (c .before .before .before .before .before .before .before .before .before .before .pre .0) (c .before .before .before .before .before .before .before .before .before .before .pre .1) (c .before .before .before .if2 .left) (sym (ap (λ (x : Shape). x .stage) (c .before .before .before .before .before .before .before .before .before .before .pre .2)) ∙ c .before .before .before .before .before .if1 .left) _ (λ e. c .before .match .rest .0 .0 .0 .1 (ap (λ (x : Shape). x .length) (c .before .before .before .before .before .before .before .before .before .before .pre .2) ∙ e)) (λ e. c .before .match .rest .0 .0 .1 (ap (λ (x : Shape). x .length) (c .before .before .before .before .before .before .before .before .before .before .pre .2) ∙ e)) (λ e. c .before .match .rest .0 .1 (ap (λ (x : Shape). x .length) (c .before .before .before .before .before .before .before .before .before .before .pre .2) ∙ e)) (λ e. c .before .match .rest .1 (ap (λ (x : Shape). x .length) (c .before .before .before .before .before .before .before .before .before .before .pre .2) ∙ e)) (c .no-name .ensures)
 
 pub landing-of-spec : {M : Type 1} → statement M
 landing-of-spec =
     tie.close
     (tie.spec
-    names-below-requires
-    ahead-if-requires
-    names-called-requires
-    ahead-if-requires-2
-    distance-requires
-    distance-requires-2
-    names-below-requires-2
-    ahead-if-requires-3
-    names-below-requires-3
-    distance-requires-3
-    ahead-if-requires-4
     returns
     returns-2
+    shared-slice-read-kind
+    limit-of-requires
+    one-name-requires
+    has-names-requires
+    two-names-requires
     returns-3
+    jump-requires
+    add-byte-at
+    byte-at-requires
+    wide-requires
+    jump-requires-2
+    no-name-requires
     returns-4
     returns-5
     returns-6
-    returns-7)
+    returns-7
+    returns-8)

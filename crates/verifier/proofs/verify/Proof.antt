@@ -1,7 +1,7 @@
 -- `verifier::verify` meets its contract.
 -- Assumes nothing.
-use Rattle.verifier.proofs.Opens.{makes-empty}
 use native.Mathlib.Omega.{arith}
+use Rattle.verifier.proofs.Opens.{makes-empty}
 use borrow.Author.Needs.{needs}
 use Rattle.verifier.proofs.verify.Statement.{statement}
 use Rattle.verifier.proofs.verify.Tie as tie
@@ -12,57 +12,29 @@ judge-long-requires c κs = search needs
 same-length : tie.Need-same-length
 same-length c = search needs
 
-same-length-2 : tie.Need-same-length-2
-same-length-2 c = search needs
-
-same-length-3 : tie.Need-same-length-3
-same-length-3 c = search needs
-
 returns : tie.Need-returns
 returns c = search needs
 
 slice-aggregate-judge-code : tie.Need-slice-aggregate-judge-code
 slice-aggregate-judge-code c = search needs
 
-slice-aggregate-judge-code-2 : tie.Need-slice-aggregate-judge-code-2
-slice-aggregate-judge-code-2 c = search needs
-
 judge-code-requires : tie.Need-judge-code-requires
-judge-code-requires c κs =
-    let l = c .before .before .before .before .before .before .if1 .left in
-    makes-empty _ _ _ _ 8192 (c .before .before .before .before .before .before .before .before .before .before .before .pre) (λ d h. omega arith)
+judge-code-requires c κs = let l = c .before .before .before .if1 .left in makes-empty _ _ 8192 (c .before .before .before .before .before .before .pre) (λ d h. omega arith)
 
-same-length-4 : tie.Need-same-length-4
-same-length-4 c = search needs
-
-same-length-5 : tie.Need-same-length-5
-same-length-5 c = search needs
-
-same-length-6 : tie.Need-same-length-6
-same-length-6 c = search needs
+same-length-2 : tie.Need-same-length-2
+same-length-2 c = search needs
 
 returns-2 : tie.Need-returns-2
 returns-2 c = search needs
 
-slice-aggregate-judge-code-3 : tie.Need-slice-aggregate-judge-code-3
-slice-aggregate-judge-code-3 c = search needs
-
-slice-aggregate-judge-code-4 : tie.Need-slice-aggregate-judge-code-4
-slice-aggregate-judge-code-4 c = search needs
+slice-aggregate-judge-code-2 : tie.Need-slice-aggregate-judge-code-2
+slice-aggregate-judge-code-2 c = search needs
 
 judge-code-requires-2 : tie.Need-judge-code-requires-2
-judge-code-requires-2 c κs =
-    let l = c .before .before .before .before .before .if2 .left in
-    makes-empty _ _ _ _ 1024 (c .before .before .before .before .before .before .before .before .before .before .before .pre) (λ d h. omega arith)
+judge-code-requires-2 c κs = let l = c .before .before .if2 .left in makes-empty _ _ 1024 (c .before .before .before .before .before .before .pre) (λ d h. omega arith)
 
-same-length-7 : tie.Need-same-length-7
-same-length-7 c = search needs
-
-same-length-8 : tie.Need-same-length-8
-same-length-8 c = search needs
-
-same-length-9 : tie.Need-same-length-9
-same-length-9 c = search needs
+same-length-3 : tie.Need-same-length-3
+same-length-3 c = search needs
 
 returns-3 : tie.Need-returns-3
 returns-3 c = search needs
@@ -73,20 +45,12 @@ verify-spec =
     (tie.spec
     judge-long-requires
     same-length
-    same-length-2
-    same-length-3
     returns
     slice-aggregate-judge-code
-    slice-aggregate-judge-code-2
     judge-code-requires
-    same-length-4
-    same-length-5
-    same-length-6
+    same-length-2
     returns-2
-    slice-aggregate-judge-code-3
-    slice-aggregate-judge-code-4
+    slice-aggregate-judge-code-2
     judge-code-requires-2
-    same-length-7
-    same-length-8
-    same-length-9
+    same-length-3
     returns-3)
