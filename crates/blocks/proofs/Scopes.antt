@@ -1,4 +1,4 @@
--- The scopes of accepted code, by the tables; what a block's cells and values are.
+-- The scopes of accepted code, by the directory; what a block's cells and values are.
 --     has-none, has-one              whether a scope has a block
 --     scope-variables, scope-runs    its variables, and its run
 --     few-variables                  a block has 32 variables at most

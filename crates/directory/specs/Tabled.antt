@@ -32,7 +32,7 @@ pub record Tabled (code directory : List ℕ) (count : ℕ) : Type 0 where
   pub found : (p : ℕ) → p < count → placeIn directory (blockAt code p .scope) ≡ suc p
   pub present : (i : ℕ) → 0 < placeIn directory i → (placeIn directory i ≤ count) × (blockAt code (placeIn directory i - 1) .scope ≡ i)
 
--- room for the places, and for a row for each block that stands behind none of a scope above 31 and is of none
+-- room for the places, and for a row for each block before the first of a scope above 31: with that one code is refused
 pub record Room (code directory : List ℕ) : Type 0 where
   pub places : 32 ≤ length directory
   pub rows : (p : ℕ) → p < 32 → p < blockCount code → ((q : ℕ) → q ≤ p → blockAt code q .scope < 32) → p * 45 + 77 ≤ length directory

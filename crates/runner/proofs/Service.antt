@@ -1,6 +1,6 @@
 -- What the service answers, by the tests that it makes.
 --     refused-code, refused-scope, refused-input, refused-room     16, 13, 14, 15
---     ready, block-there, block-small     accepted code has its tables; a scope with a place has a block
+--     ready, block-there, block-small     accepted code has its directory; a scope with a place has a block
 --     asks, answers                       a good list and enough room: what the block's run comes to
 --     entry, types-short, has-room        what the functions called ask for
 --     values-so, ends-so, stuck-so        the answer of a run

@@ -12,7 +12,7 @@ begins a b = eqb a 1 && ltb b 32
 unfoldable pub beginsAt : List ℕ → ℕ → Bool
 beginsAt code at = begins (getD code at 0) (getD code (at + 1) 0)
 
--- how many bytes are followed so
+-- how many bytes may begin a block
 unfoldable pub beginningsIn : List ℕ → ℕ
 beginningsIn [] = 0
 beginningsIn (b ∷ rest) = let n = beginningsIn rest in cond (begins b (getD rest 0 0)) (suc n) n

@@ -33,7 +33,7 @@ formBy k n =
 unfoldable pub limitBy : ℕ → ℕ → ℕ → ℕ
 limitBy k v s = cond (eqb k 4) 2 (cond (eqb k 43) s v)
 
--- how many bytes that are
+-- how many bytes a body of a form has
 unfoldable pub lengthOf : ℕ → ℕ
 lengthOf form = cond (eqb form 1) 0 (cond (eqb form 3) 4 (cond (eqb form 5 || eqb form 7) 2 (cond (eqb form 8) 3 1)))
 

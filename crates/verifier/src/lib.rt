@@ -333,7 +333,8 @@ fn landing_of(
     }
 }
 
-// What was read after an instruction at a position, up to the next record: its own mark is cleared, and its landing is marked if it has a distance.
+// What was read after an instruction at a position, up to the next record: its own mark is cleared, and its landing is marked if that lies behind its
+// end.
 fn instruction(at: usize, next: usize, d: usize, u: Progress, ring: &mut [u8]) -> Progress
     requires { ⌜ Instructing at next d (now ring) ⌝ }
     ensures { λ r. ⌜ Instructed at next d u (now (ring .entry)) (now (ring .exit)) r ⌝ }
@@ -530,8 +531,7 @@ fn judge_long(code: &[u8], directory: &mut [usize], again: usize) -> Verdict
     judge_code(code, directory, &mut ring)
 }
 
-// Judges code: whether it is accepted, and of accepted code the directory of its blocks, in which no scope has a place yet. A smaller ring has a mark
-// for each position of short code.
+// Judges code: whether it is accepted, and of accepted code the directory of its blocks. A smaller ring has a mark for each position of short code.
 pub fn verify(code: &[u8], directory: &mut [usize]) -> Verdict
     requires { ⌜ Room (now code) (now directory) × ((i : ℕ) → placeIn (now directory) i ≡ 0) ⌝ }
     ensures { λ r. ⌜ Judged (now (code .entry)) (now (directory .exit)) r ⌝ }
