@@ -1,15 +1,16 @@
 // What the services answer.
+#![tactic(auto)]
 
 // On which side of the range an exact result lies that leaves it, above 2,147,483,647 or below −2,147,483,648: "An operator who sees 'range' must know
 // if the speed ran high or low" (paper 02, No. 3).
-#[derive(Drop)]
+#[derive(Clone, Copy)]
 pub enum Side {
     Above,
     Below,
 }
 
 // Why a run ends without a value.
-#[derive(Drop)]
+#[derive(Clone, Copy)]
 pub enum Cause {
     Empty,
     Conflict,
@@ -17,7 +18,7 @@ pub enum Cause {
 }
 
 // Why a book is refused.
-#[derive(Drop)]
+#[derive(Clone, Copy)]
 pub enum Fault {
     Truncated,
     UnknownKind,
@@ -34,14 +35,14 @@ pub enum Fault {
 }
 
 // What judging a book answers: the number of its scopes, or the first fault.
-#[derive(Drop)]
+#[derive(Clone, Copy)]
 pub enum Judged {
     Accepted(usize),
     Refused(Fault),
 }
 
 // Why a service refuses: the numbers 1 to 18.
-#[derive(Drop)]
+#[derive(Clone, Copy)]
 pub enum Refusal {
     Book(Fault),
     NoSuchScope,
@@ -53,7 +54,7 @@ pub enum Refusal {
 }
 
 // What evaluating and running answer: the count of scopes entered and, where the run ends in values, the length of the results.
-#[derive(Drop)]
+#[derive(Clone, Copy)]
 pub enum Answer {
     Values(usize, usize),
     Ended(Cause, usize),
@@ -61,7 +62,7 @@ pub enum Answer {
 }
 
 // What compiling and tabulating answer: the length written, or why nothing is.
-#[derive(Drop)]
+#[derive(Clone, Copy)]
 pub enum Produced {
     Written(usize),
     Refused(Refusal),

@@ -1,4 +1,5 @@
 // The machine that runs accepted code: each entry of a block works on parts of a lent stack and of lent tries.
+#![tactic(auto)]
 ghost use Rattle.std.specs.Prelude.{◌≡◌, ◌+◌, ◌*◌, ◌<◌, ◌≤◌, length};
 ghost use Rattle.instructions.specs.Effects.{Stepping};
 ghost use Rattle.blocks.specs.Entries.{nonzero, Ending, Finished, Entry, Fresh, Known, Came, CameTo, Advances};
@@ -15,7 +16,7 @@ use slices::byte_at;
 const VARIABLES: usize = 32;
 
 // How the run of a block ended, with the count of scopes entered; or the lent slices were too short.
-#[derive(Drop)]
+#[derive(Clone, Copy)]
 pub enum Ran {
     Values(usize),
     Ended(Cause, usize),
@@ -24,7 +25,7 @@ pub enum Ran {
 }
 
 // After an instruction: the next place; or how the run ended.
-#[derive(Drop)]
+#[derive(Clone, Copy)]
 pub enum Went {
     On(Place),
     Ended(Cause, usize),

@@ -1,22 +1,23 @@
 // The syntax of a book, decoded from its records. Its definitions stand in specs/, laws about them in proofs/.
+#![tactic(auto)]
 use answers::Fault;
 use calculus::{Binary, Unary};
 
 // "type: 1 yes/no, 2 number"
-#[derive(Drop)]
+#[derive(Clone, Copy)]
 pub enum ValueType {
     YesNo,
     Numeric,
 }
 
 // A variable of a scope.
-#[derive(Drop)]
+#[derive(Clone, Copy)]
 pub struct Variable {
     pub holds: ValueType,
 }
 
 // A node of a scope. Its numbers are those of variables, sub-scopes and nodes of the scope, as the book has them.
-#[derive(Drop)]
+#[derive(Clone, Copy)]
 pub enum Node {
     Constant(bool),
     Number(i32),
@@ -31,21 +32,21 @@ pub enum Node {
 }
 
 // What a clause gives: a definition the value of a node, a rule no or yes.
-#[derive(Drop)]
+#[derive(Clone, Copy)]
 pub enum Consequence {
     Of(u8),
     Fixed(bool),
 }
 
 // What a clause is about: a variable of the scope itself (sub-scope 255) or of a sub-scope.
-#[derive(Drop)]
+#[derive(Clone, Copy)]
 pub struct Target {
     pub sub: u8,
     pub variable: u8,
 }
 
 // A definition or a rule. Parent 255: none. Condition 255: always.
-#[derive(Drop)]
+#[derive(Clone, Copy)]
 pub struct Clause {
     pub target: Target,
     pub parent: u8,
@@ -54,7 +55,7 @@ pub struct Clause {
 }
 
 // What has been read: the stage of the last record, and the records counted in the book and in its last scope.
-#[derive(Drop)]
+#[derive(Clone, Copy)]
 pub struct Tally {
     pub stage: usize,
     pub scopes: usize,
@@ -65,7 +66,7 @@ pub struct Tally {
 }
 
 // What the records of a book show one by one: none is faulty, or the first faulty one's first fault.
-#[derive(Drop)]
+#[derive(Clone, Copy)]
 pub enum Scanned {
     Sound,
     Faulty(Fault),

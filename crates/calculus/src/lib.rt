@@ -1,22 +1,23 @@
 // The values and outcomes of the calculus.
+#![tactic(auto)]
 use answers::Cause;
 
 // A yes/no, or a number of 32 bits.
-#[derive(Drop)]
+#[derive(Clone, Copy)]
 pub enum Value {
     Truth(bool),
     Number(i32),
 }
 
 // What a term gives: a value, or an end.
-#[derive(Drop)]
+#[derive(Clone, Copy)]
 pub enum Outcome {
     Gives(Value),
     Ends(Cause),
 }
 
 // What exceptions come to where none is conflict or out of range: no value, one, or more.
-#[derive(Drop)]
+#[derive(Clone, Copy)]
 pub enum Joined {
     Nothing,
     One(Value),
@@ -24,19 +25,19 @@ pub enum Joined {
 }
 
 // The exceptions evaluated so far, left to right: the first conflict or out of range stays.
-#[derive(Drop)]
+#[derive(Clone, Copy)]
 pub enum Gathered {
     SoFar(Joined),
     Ended(Cause),
 }
 
-#[derive(Drop)]
+#[derive(Clone, Copy)]
 pub enum Unary {
     Not,
     Negate,
 }
 
-#[derive(Drop)]
+#[derive(Clone, Copy)]
 pub enum Binary {
     And,
     Add,
@@ -46,7 +47,7 @@ pub enum Binary {
 }
 
 // Whether a variable is given.
-#[derive(Drop)]
+#[derive(Clone, Copy)]
 pub enum Given {
     Absent,
     Present(Value),

@@ -1,4 +1,5 @@
 // Faults 6, 7 and 8 of a book in one pass: for each scope one loop over its nodes and one over its clauses.
+#![tactic(auto)]
 ghost use Rattle.std.specs.Prelude.{◌≡◌, length, replicate};
 ghost use Rattle.book.specs.Decode.{scopes_of};
 ghost use Rattle.index.specs.Index.{Laid};
@@ -18,7 +19,7 @@ use types::{operand_type, same_type, unary_type};
 use typing::{called_type, named_fits, own_type, type_in};
 
 // What is found: whether something dangles; where nothing does, whether a node is named more than once, and whether a type does not fit.
-#[derive(Drop)]
+#[derive(Clone, Copy)]
 pub struct Findings {
     pub dangles: bool,
     pub shares: bool,
@@ -27,7 +28,7 @@ pub struct Findings {
 
 // What is found of one node: whether it names only what it may; whether a node was named twice, so far or by it; whether its operands
 // have the types that it takes; and its type as a byte.
-#[derive(Drop)]
+#[derive(Clone, Copy)]
 struct NodeFinding {
     names: bool,
     shares: bool,
@@ -36,7 +37,7 @@ struct NodeFinding {
 }
 
 // What is found of one clause, or of its condition or its consequence: as of a node, without a type.
-#[derive(Drop)]
+#[derive(Clone, Copy)]
 struct ClauseFinding {
     names: bool,
     shares: bool,

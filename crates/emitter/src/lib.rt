@@ -1,4 +1,5 @@
 // Emitting code: from its end to its beginning, so that every distance is known when it is written.
+#![tactic(auto)]
 ghost use Rattle.std.specs.Prelude.{◌≡◌, ◌<◌, length};
 ghost use Rattle.calculus.specs.Terms.{literal};
 ghost use Rattle.calculus.specs.declared.Value.TheVariants as value;
@@ -35,7 +36,7 @@ use slices::byte_at;
 use trees::has_clause;
 
 // A default: three exceptions (255: none), justification, consequence.
-#[derive(Drop)]
+#[derive(Clone, Copy)]
 struct DefaultNode {
     pub first: u8,
     pub second: u8,

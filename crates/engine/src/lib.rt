@@ -1,5 +1,6 @@
 // The engine: its four services and tabulating, what they answer, the answers' numbers, and the four services together with the claim about
 // them. It is the one crate that a user names.
+#![tactic(auto)]
 ghost use Rattle.std.specs.Prelude.{◌≡◌};
 ghost use Rattle.answers.specs.Numbers.{produced_numbers};
 ghost use Rattle.engine.specs.Claim.{Together};
@@ -14,7 +15,7 @@ use slices::part_of;
 pub use tabulator::tabulate;
 
 // What the four services answer.
-#[derive(Drop)]
+#[derive(Clone, Copy)]
 pub struct Answers {
     pub judged: Judged,
     pub compiled: Produced,

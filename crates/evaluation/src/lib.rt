@@ -1,1 +1,2 @@
 // Evaluating a scope of a book: definitions in specs/, theorems about them in proofs/, and no code.
+#![tactic(auto)]

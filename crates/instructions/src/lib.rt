@@ -1,5 +1,6 @@
 // The instructions of accepted code other than the entry of a sub-scope, over parts of a lent stack and of lent tries, and the frame of an entry,
 // as specs/Views.antt sets it out.
+#![tactic(auto)]
 ghost use Rattle.std.specs.Prelude.{◌≡◌, List, ℕ, ◌+◌, ◌-◌, ◌*◌, ◌<◌, ◌≤◌, length, get_or, eqb};
 ghost use Rattle.slices.specs.Bytes.{big_endian, number_at};
 ghost use Rattle.calculus.specs.declared.Joined.TheVariants.{One};
@@ -31,7 +32,7 @@ use slices::byte_at;
 use types::{operand_type, same_type, unary_type};
 
 // A place in the run of a block: the byte, the stack's height, the open tries, and the count of scopes entered.
-#[derive(Drop)]
+#[derive(Clone, Copy)]
 pub struct Place {
     pub at: usize,
     pub height: usize,
@@ -40,7 +41,7 @@ pub struct Place {
 }
 
 // How a run goes on: so many bytes behind an instruction's kind, with a height and so many open tries.
-#[derive(Drop)]
+#[derive(Clone, Copy)]
 pub struct Onward {
     pub passed: usize,
     pub height: usize,
@@ -48,7 +49,7 @@ pub struct Onward {
 }
 
 // After an instruction: the run goes on, or stops.
-#[derive(Drop)]
+#[derive(Clone, Copy)]
 pub enum Move {
     Go(Onward),
     Ended(Cause),

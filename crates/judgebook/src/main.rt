@@ -1,4 +1,5 @@
 // Judges the book on standard input: prints `accepted N`, the number of its scopes, or `refused R`, the number of the first fault.
+#![tactic(auto)]
 use answers::Judged;
 use judge::judge;
 use libc::{STDERR_FILENO, STDIN_FILENO, STDOUT_FILENO};

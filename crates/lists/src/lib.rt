@@ -1,1 +1,2 @@
 // Input lists and results: their definitions and laws about them.
+#![tactic(auto)]

@@ -1,6 +1,7 @@
 // The order in which the vertices of a graph are taken: the ready one of lowest number first.
 // A vertex is a number below n. In the matrix `deps` the byte at v * 40 + w is 0 where v depends on w; row v is read from the vertex at
 // 1600 + v on.
+#![tactic(auto)]
 ghost use Rattle.std.specs.Prelude.{◌≡◌, ◌+◌, ◌<◌, ◌≤◌, length, get_or, set};
 ghost use Rattle.order.specs.Order.{next};
 ghost use Rattle.order.specs.Matrix.{marked, edge_of};
@@ -13,7 +14,7 @@ pub const WIDTH: usize = 40;
 // Where the matrix says from which vertex on each row is read.
 pub const STARTS: usize = 1600;
 
-#[derive(Drop)]
+#[derive(Clone, Copy)]
 pub enum Ordered {
     // How many vertices the order has: fewer than n exactly where some vertex reaches itself.
     Taken(usize),

@@ -1,4 +1,5 @@
 // Records: the shape of each kind, and the record at a position.
+#![tactic(auto)]
 ghost use Rattle.std.specs.Prelude.{◌≡◌, ◌+◌, ◌<◌, length};
 ghost use Rattle.record.specs.Kinds.{shapes_of, shape_in};
 ghost use Rattle.record.specs.Record.{record_at, body_at};
@@ -88,25 +89,25 @@ pub const LENGTH_DISTANCE: usize = 2;
 pub const LENGTH_OWN_DISTANCE: usize = 3;
 
 // Where a record stands: the same kind can have another body in a book than in code.
-#[derive(Drop)]
+#[derive(Clone, Copy)]
 pub enum Medium {
     Book,
     Code,
 }
 
 // A kind's body length and stage in a book, then the same in code. Stage 0: the kind is unknown there.
-#[derive(Drop)]
+#[derive(Clone, Copy)]
 struct Shapes(pub usize, pub usize, pub usize, pub usize);
 
 // How many bytes follow a kind, and its stage.
-#[derive(Drop)]
+#[derive(Clone, Copy)]
 pub struct Shape {
     pub length: usize,
     pub stage: usize,
 }
 
 // What stands at a position: a whole record has its kind, its stage and its body's length.
-#[derive(Drop)]
+#[derive(Clone, Copy)]
 pub enum Record {
     End,
     Unknown,

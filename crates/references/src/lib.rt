@@ -1,4 +1,5 @@
 // Fault 6, a number that names nothing or what it may not: numbers by themselves, a clause's target and parent, and a scope's sub-scopes.
+#![tactic(auto)]
 ghost use Rattle.std.specs.Prelude.{◌≡◌, length, ltb};
 ghost use Rattle.book.specs.Syntax.{same_target};
 ghost use Rattle.book.specs.Decode.{scopes_of};

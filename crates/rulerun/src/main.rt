@@ -1,5 +1,6 @@
 // Evaluates standard input: book length (2 bytes, high first), book, scope byte, inputs. Prints the outcome and the count of scopes
 // entered, then number and value of each variable.
+#![tactic(auto)]
 use engine::{Answer, Cause, Side, evaluate, refusal_number};
 use integers::{distance_at, number_at};
 use libc::{STDERR_FILENO, STDIN_FILENO, STDOUT_FILENO};

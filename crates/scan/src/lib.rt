@@ -1,4 +1,5 @@
 // The pass over the records of a book: the faults 1 to 5, and the index by which the records are found.
+#![tactic(auto)]
 ghost use Rattle.std.specs.Prelude.{◌≡◌, ◌<◌, ◌≤◌, length};
 ghost use Rattle.scan.specs.Step.{book_record_at, end_at, step_at, step_over};
 ghost use Rattle.scan.specs.Counting.{slot_of, number_of, scopes_with, tally_of, Counts, Counting};
@@ -10,28 +11,28 @@ use record::{KIND_SCOPE, Medium, Record, body_at, record_at};
 use validity::{is_invalid, may_follow};
 
 // A record: its first fault, or its stage and the position after it.
-#[derive(Drop)]
+#[derive(Clone, Copy)]
 enum Step {
     Stop(Fault),
     Next(usize, usize),
 }
 
 // The column of a scope's row where the positions of a stage begin, and how many records of it there may be.
-#[derive(Drop)]
+#[derive(Clone, Copy)]
 struct Slot {
     pub base: usize,
     pub limit: usize,
 }
 
 // A lent book and the position that is read next.
-#[derive(Drop)]
+#[derive(Clone, Copy)]
 struct Reader<'a> {
     pub src: &'a [u8],
     pub at: usize,
 }
 
 // What reading all records leaves: the first faulty one's first fault, or the index of so many scopes.
-#[derive(Drop)]
+#[derive(Clone, Copy)]
 pub enum Reading {
     Faulty(Fault),
     Complete(usize),

@@ -1,4 +1,5 @@
 // Entering a scope of a book: its steps are run in their order, each call in cells of its own.
+#![tactic(auto)]
 ghost use Rattle.cells.specs.Codec.{Codes};
 ghost use Rattle.trees.specs.Rows.{Evaluable};
 ghost use Rattle.scopes.specs.Steps.{step_outcome, Stepping, Hands, HandsAll, HandedAll, Came};
@@ -21,7 +22,7 @@ const STEPS: usize = 40;
 const VARIABLES: usize = 32;
 
 // How a run ended, with the count of scopes entered: in values, or by a cause.
-#[derive(Drop)]
+#[derive(Clone, Copy)]
 pub enum Ran {
     Values(usize),
     Ended(Cause, usize),

@@ -1,4 +1,5 @@
 // The trial strips a to m, each a book of one scope that the engine evaluates: a line each, its letter and what it gives.
+#![tactic(auto)]
 use engine::{Answer, Cause, Side, evaluate, refusal_number};
 use integers::number_at;
 use libc::STDOUT_FILENO;

@@ -1,1 +1,2 @@
 // The fixed translation of a book into code: its definitions, and what holds of the code of an accepted book.
+#![tactic(auto)]

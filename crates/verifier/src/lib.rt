@@ -1,6 +1,7 @@
 // Judging code in one pass over its bytes: whether it is accepted, and the directory of the blocks of accepted code.
 //   ring    the landings of distances that lie ahead: a mark for each position, by its remainder modulo 65,536; short code has no more
 //           positions than a ring of 8,192 marks, or of 1,024
+#![tactic(auto)]
 ghost use Rattle.std.specs.Prelude.{◌≡◌, true, ◌||◌, ℕ, ◌+◌, ◌<◌, ◌≤◌, ◌*◌, length, get_or, eqb, ltb};
 ghost use Rattle.record.specs.Kinds.{shape_in};
 ghost use Rattle.record.specs.declared.Medium.TheVariants.{Code};
@@ -26,7 +27,7 @@ use validity::{is_invalid, may_follow};
 const UNREACHED: usize = 9223372036854775808;
 
 // Code is refused, or accepted with the number of its blocks.
-#[derive(Drop)]
+#[derive(Clone, Copy)]
 pub enum Verdict {
     Refused,
     Accepted(usize),
@@ -34,7 +35,7 @@ pub enum Verdict {
 
 // What was read: the stage of the last record, how many blocks are closed, and of the present block its variables and sub-scopes so far,
 // its scope, where its instructions begin, its weight so far, and the position of its farthest landing.
-#[derive(Drop)]
+#[derive(Clone, Copy)]
 struct Progress {
     pub stage: usize,
     pub variables: usize,
@@ -47,7 +48,7 @@ struct Progress {
 }
 
 // After a record: the code is refused, or the position of the next record and what was read.
-#[derive(Drop)]
+#[derive(Clone, Copy)]
 enum Step {
     Refused,
     Next(usize, Progress),
@@ -55,7 +56,7 @@ enum Step {
 
 // What stands at a position: no instruction, or one before any block; an instruction that is refused; or one that lands so far behind its end, 0 where
 // it has no distance.
-#[derive(Drop)]
+#[derive(Clone, Copy)]
 enum Landing {
     Heading,
     Refused,
@@ -63,7 +64,7 @@ enum Landing {
 }
 
 // At a block's end: the code is refused, or the number of closed blocks.
-#[derive(Drop)]
+#[derive(Clone, Copy)]
 enum Closing {
     Refused,
     Closed(usize),
