@@ -15,7 +15,7 @@ use mathlib.Core.List.{List}
 use mathlib.Core.Logic.{⊎_elim, ◌↔◌}
 use lib.ListN.{length}
 use lib.Dec.{eqb}
-use borrow.Author.Tests.{eqb-true, eqb-false, not-true, not_false}
+use borrow.Author.Tests.{eqb-true, eqb-false, not-true, not-false}
 use Rattle.order.specs.Order.{order}
 use Rattle.order.specs.Reaching.{Reaches}
 use Rattle.laws.proofs.Booleans.{decide}
@@ -44,7 +44,7 @@ module _ (edge : ℕ → ℕ → Bool) (n : ℕ) where
         ⊎_elim
         (λ t. t)
         (λ f.
-        absurd ((order_complete edge n).0 (eqb-true (length (order edge n)) n (not_false (eqb (length (order edge n)) n) f)) c.0 c.1 c.2))
+        absurd ((order_complete edge n).0 (eqb-true (length (order edge n)) n (not-false (eqb (length (order edge n)) n) f)) c.0 c.1 c.2))
         (decide (not (eqb (length (order edge n)) n))),
   )
 

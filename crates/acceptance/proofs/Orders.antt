@@ -15,7 +15,7 @@ use native.Mathlib.Nat.{eq-or-lt_of_le}
 use lib.ListN.{length, get_or, take}
 use lib.Seq.{get_or-take, length-take-le}
 use lib.Dec.{ltb}
-use borrow.Author.Tests.{eqb-true, ltb-true, ltb-false, not_false}
+use borrow.Author.Tests.{eqb-true, ltb-true, ltb-false, not-false}
 use Rattle.order.specs.Order.{order, among}
 use Rattle.laws.proofs.Booleans.{decide}
 use Rattle.order.proofs.Order.{order_all, order_no_repeats, order_after_dependencies}
@@ -66,13 +66,13 @@ pub blocks_complete : (book : List Scope) → scope_cycle book ≡ false → Com
 unfolding scope_cycle blocks
 blocks_complete book e =
     complete_order (calls book) (length book)
-    (eqb-true (length (order (calls book) (length book))) (length book) (not_false _ e))
+    (eqb-true (length (order (calls book) (length book))) (length book) (not-false _ e))
 
 pub steps_complete : (s : Scope) → dependency_cycle_in s ≡ false → CompleteOrder (depends_on s) (step_count s) (step_order s)
 unfolding dependency_cycle_in step_order
 steps_complete s e =
     complete_order (depends_on s) (step_count s)
-    (eqb-true (length (order (depends_on s) (step_count s))) (step_count s) (not_false _ e))
+    (eqb-true (length (order (depends_on s) (step_count s))) (step_count s) (not-false _ e))
 
 -- a scope that block j is of calls what each of its sub-scopes names
 pub blocks_after : (book : List Scope) → CompleteOrder (calls book) (length book) (blocks book)

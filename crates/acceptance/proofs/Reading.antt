@@ -7,7 +7,7 @@
 -- Assumes nothing.
 use Prim.Native.Nat.{ℕ, zero, suc, ◌<◌, ◌≤◌, ◌+◌}
 use mathlib.Core.Path.{◌≡◌, refl, sym, ap, subst, ◌∙◌}
-use mathlib.Core.Bool.{Bool, true, false, cond, ◌&&◌, ◌||◌, false≢true, or-true, or_false}
+use mathlib.Core.Bool.{Bool, true, false, cond, ◌&&◌, ◌||◌, false≢true, or-true, or-false}
 use mathlib.Core.List.{List, [], ◌∷◌}
 use mathlib.Core.Logic.{⊎_elim, ◌↔◌}
 use native.Mathlib.Omega.{arith}
@@ -41,13 +41,13 @@ module _ (v w : ℕ) where
   without_reads : (ts : Terms) → reads v w (without_rules ts) ≡ reads_any v w ts
   unfolding reads
   without_reads none = refl
-  without_reads (also t none) = sym (or_false (reads v w t))
-  without_reads (also t (also u us)) = or_false (reads_any v w (also t (also u us)))
+  without_reads (also t none) = sym (or-false (reads v w t))
+  without_reads (also t (also u us)) = or-false (reads_any v w (also t (also u us)))
 
   pub tree_reads : (s : Scope) (t : Target) → reads v w (tree s t) ≡ reads_any v w (bases s t)
   unfolding tree reads
   tree_reads s t =
-      ⊎_elim (λ h. rw h (or_false (reads_any v w (bases s t)))) (λ h. rw h (without_reads (bases s t))) (decide (has_rule s t))
+      ⊎_elim (λ h. rw h (or-false (reads_any v w (bases s t)))) (λ h. rw h (without_reads (bases s t))) (decide (has_rule s t))
 
 module _ (s : Scope) (w : ℕ) where
   abbrev v : ℕ

@@ -7,7 +7,7 @@
 -- Assumes nothing.
 use Prim.Native.Nat.{ℕ, zero, suc, ◌+◌, ◌<◌, ◌≤◌}
 use mathlib.Core.Path.{◌≡◌, refl, sym, ap, subst, ◌∙◌}
-use mathlib.Core.Bool.{true, false, not, ◌||◌, or-true, or_false, false≢true}
+use mathlib.Core.Bool.{true, false, not, ◌||◌, or-true, or-false, false≢true}
 use mathlib.Core.List.{List, [], ◌∷◌, reverse, reverse_aux, reverse-append}
 use mathlib.Core.Logic.{⊎_elim}
 use native.Mathlib.Omega.{arith}
@@ -55,7 +55,7 @@ reversed (x ∷ xs) ys v =
 
 pub among_reverse : (xs : List ℕ) (v : ℕ) → among (reverse xs) v ≡ among xs v
 unfolding among
-among_reverse xs v = reversed xs [] v ∙ or_false (among xs v)
+among_reverse xs v = reversed xs [] v ∙ or-false (among xs v)
 
 module _ (book : List Scope) where
   pub has_block_lem : (is : List ℕ) (i : ℕ) → has_block (compiled_in book is) i ≡ among is i

@@ -10,7 +10,7 @@ use mathlib.Core.Logic.{⊎_elim}
 use native.Mathlib.Omega.{arith}
 use lib.ListN.{length, get_or}
 use lib.Dec.{eqb}
-use borrow.Author.Tests.{ne_eqb, eqb-true, eqb-false, not-true, not_false}
+use borrow.Author.Tests.{ne_eqb, eqb-true, eqb-false, not-true, not-false}
 use Rattle.laws.proofs.Booleans.{decide}
 use Rattle.calculus.specs.declared.Value.{Value}
 use Rattle.calculus.specs.declared.Given.TheVariants.{Present}
@@ -116,10 +116,10 @@ module _ (directory : List ℕ) (p : ℕ) (own frame : List ℕ) (v : ℕ) (vari
           → at_end (memory (variables_in directory p) (sub_scopes_in directory p) sizes own frame count) ≡ whole (finals (values_in own 0 (variables_in directory p))) q count
       ends_so sizes =
           end_is (variables_in directory p) (sub_scopes_in directory p) sizes own frame count
-          ∙ rw (← variables_here, ← subs_here, ← e, not_false r n, ← f)
+          ∙ rw (← variables_here, ← subs_here, ← e, not-false r n, ← f)
 
       pub end_waiting : not q ≡ true → Finished directory p own frame count coded.Stuck
       end_waiting m = record { shows = λ sizes. ends_so sizes ∙ rw (not-true q m) }
 
       pub end_values : not q ≡ false → Finished directory p own frame count (coded.Values count)
-      end_values m = record { shows = λ sizes. ends_so sizes ∙ rw (not_false q m) }
+      end_values m = record { shows = λ sizes. ends_so sizes ∙ rw (not-false q m) }

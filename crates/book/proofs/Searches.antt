@@ -19,7 +19,7 @@ use native.Mathlib.Omega.{arith}
 use native.Mathlib.Numerals.{add-one}
 use lib.ListN.{length, get_or, drop}
 use lib.Seq.{drop-cons}
-use borrow.Author.Tests.{not_false}
+use borrow.Author.Tests.{not-false}
 use Rattle.laws.proofs.Booleans.{decide, or_cases, neither}
 use Rattle.book.specs.Lists.{any, any_from}
 
@@ -77,7 +77,7 @@ module _ {A : Type 0} (p : ℕ → A → Bool) where
   pub each_from : (xs : List A) → any_from (λ n x. not (p n x)) 0 xs ≡ false → (n : ℕ) → n < length xs → (d : A) → p n (get_or xs n d) ≡ true
   each_from xs e n h d =
       let z : 0 + n ≡ n = omega arith in
-      not_false (p n (get_or xs n d)) (rw z at (any_from_false (λ n x. not (p n x)) 0 xs e n h d))
+      not-false (p n (get_or xs n d)) (rw z at (any_from_false (λ n x. not (p n x)) 0 xs e n h d))
 
 -- Searches that do not
 
@@ -117,7 +117,7 @@ any_same p q [] d h = refl
 any_same p q (x ∷ xs) d h = rw (h 0 (omega arith), any_same p q xs d (λ j l. h (suc j) (omega arith)))
 
 pub each : {A : Type 0} (p : A → Bool) (xs : List A) → any (λ x. not (p x)) xs ≡ false → (n : ℕ) → n < length xs → (d : A) → p (get_or xs n d) ≡ true
-each p xs e n h d = not_false (p (get_or xs n d)) (any_false (λ x. not (p x)) xs e n h d)
+each p xs e n h d = not-false (p (get_or xs n d)) (any_false (λ x. not (p x)) xs e n h d)
 
 -- Loops
 

@@ -3,7 +3,7 @@
 -- Assumes nothing.
 use Prim.Native.Nat.{ℕ, ◌+◌, ◌<◌, ◌≤◌}
 use mathlib.Core.Path.{◌≡◌, refl, sym, ap, ◌∙◌}
-use mathlib.Core.Bool.{Bool, false, ◌||◌, or_false, or_assoc}
+use mathlib.Core.Bool.{Bool, false, ◌||◌, or-false, or_assoc}
 use mathlib.Core.List.{List}
 use native.Mathlib.Numerals.{add-one}
 use lib.ListN.{length, get_or, drop, drop_of_length-le}
@@ -29,4 +29,4 @@ module _ {A : Type 0} (p : A → Bool) (xs : List A) (a : Bool) where
     unfolding any
     whole h =
         let none : any p (drop n xs) ≡ false = rw (drop_of_length-le xs h) in
-        sym (or_false b) ∙ ap (λ (t : Bool). b || t) (sym none) ∙ g.same
+        sym (or-false b) ∙ ap (λ (t : Bool). b || t) (sym none) ∙ g.same

@@ -14,7 +14,7 @@ use mathlib.Core.Bool.{Bool, true, false, not, ◌||◌, true≢false}
 use mathlib.Core.List.{List, []}
 use native.Mathlib.Omega.{arith}
 use lib.ListN.{length, set, replicate}
-use borrow.Author.Tests.{not_false}
+use borrow.Author.Tests.{not-false}
 use Rattle.book.specs.Syntax.{Scope, no_node}
 use Rattle.book.specs.Limits.{Within}
 use Rattle.book.specs.References.{scope_at, no_clause, node_names, dangles_in}
@@ -115,7 +115,7 @@ module _
             typed = put _ _ _ _ g.typed (omega arith) within x r.byte ex step.typed;
             gathered =
                 more _ _ _ _ _ g.gathered no_node within _
-                (told _ _ _ _ g.typed within x ex (sym step.named ∙ not_false r.names e) r.suits step.fitting);
+                (told _ _ _ _ g.typed within x ex (sym step.named ∙ not-false r.names e) r.suits step.fitting);
           }
 
   pub nodes_end : length (scope_at book i).nodes ≤ n

@@ -7,7 +7,7 @@
 -- Assumes nothing.
 use Prim.Native.Nat.{ℕ, zero, suc, ◌-◌, ◌≤◌, ◌<◌}
 use mathlib.Core.Path.{◌≡◌, refl, sym, ◌∙◌}
-use mathlib.Core.Bool.{Bool, true, false, ◌||◌, false≢true, or-true, or_false}
+use mathlib.Core.Bool.{Bool, true, false, ◌||◌, false≢true, or-true, or-false}
 use mathlib.Core.List.{List, [], ◌∷◌}
 use native.Mathlib.Omega.{arith}
 use lib.ListN.{length, get_or, set, drop, replicate, length-set}
@@ -115,4 +115,4 @@ module _ {variables : List Variable} {given : List Given} {chosen marks : List �
         where
           swap : (a b : Bool) → (a || b) ≡ (b || a)
           swap true b = sym (or-true b)
-          swap false b = sym (or_false b)
+          swap false b = sym (or-false b)

@@ -6,7 +6,7 @@
 -- Assumes nothing.
 use Prim.Native.Nat.{ℕ, ◌<◌}
 use mathlib.Core.Path.{◌≡◌, refl, sym, ap, subst, ◌∙◌}
-use mathlib.Core.Bool.{Bool, true, false, ◌||◌, or-true, or_false}
+use mathlib.Core.Bool.{Bool, true, false, ◌||◌, or-true, or-false}
 use mathlib.Core.List.{List, [], ◌∷◌, ◌++◌}
 use mathlib.Core.Logic.{⊎_elim}
 use native.Mathlib.Omega.{arith}
@@ -46,7 +46,7 @@ module _ (edge : ℕ → ℕ → Bool) (n : ℕ) (order : List ℕ) (complete : 
       (decide (among done x))
 
 pub snoc_other : (done : List ℕ) (x w : ℕ) → (w ≡ x → ⊥) → among (done ++ x ∷ []) w ≡ among done w
-snoc_other done x w ne = among_snoc done x w ∙ ap (λ (t : Bool). among done w || t) (ne_eqb w x ne) ∙ or_false (among done w)
+snoc_other done x w ne = among_snoc done x w ∙ ap (λ (t : Bool). among done w || t) (ne_eqb w x ne) ∙ or-false (among done w)
 
 pub snoc_here : (done : List ℕ) (x w : ℕ) → w ≡ x → among (done ++ x ∷ []) w ≡ true
 snoc_here done x w e = among_snoc done x w ∙ ap (λ (t : Bool). among done w || t) (eq-eqb w x e) ∙ or-true (among done w)

@@ -10,7 +10,7 @@ use native.Mathlib.Omega.{arith}
 use lib.ListN.{length, get_or, set}
 use lib.Seq.{get_or-set_same, get_or-set_other}
 use lib.Dec.{eqb}
-use borrow.Author.Tests.{ne_eqb, le-ltb, not-true, not_false}
+use borrow.Author.Tests.{ne_eqb, le-ltb, not-true, not-false}
 use Rattle.calculus.specs.declared.Value.{Value}
 use Rattle.calculus.specs.declared.Joined.{Joined}
 use Rattle.calculus.specs.declared.Joined.TheVariants.{One}
@@ -167,7 +167,7 @@ module _ {g : Given} {st : List ℕ} {h : ℕ} (top : Takes g st h) (wanted : Va
     take_other n = rw ((top.some v e).0, ← a, not-true r n)
 
     pub take_right : not r ≡ false → taking (entries st h) (λ y st₁. wanting wanted y (f y st₁)) ≡ f v (entries st (h - 1))
-    take_right n = rw ((top.some v e).0, ← a, not_false r n)
+    take_right n = rw ((top.some v e).0, ← a, not-false r n)
 
 lower : {h t : ℕ} {st tr : List ℕ} → (h ≤ length st) × (h ≤ 1024) → (t ≤ 512) × (t * 2 ≤ length tr) → Room (h - 1) t st tr
 lower p q = record { height = omega arith; stack = omega arith; tries = q.0; pairs = q.1 }

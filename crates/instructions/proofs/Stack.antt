@@ -12,7 +12,7 @@ use native.Mathlib.Omega.{arith}
 use native.Mathlib.Numerals.{add-one}
 use lib.ListN.{length, get_or, set}
 use lib.Seq.{get_or-set_same, get_or-set_other}
-use borrow.Author.Tests.{lt-ltb, le-ltb, ne_eqb, not-true, not_false}
+use borrow.Author.Tests.{lt-ltb, le-ltb, ne_eqb, not-true, not-false}
 use mir.Syntax.{w32}
 use mir.Val.{SFits}
 use lib.ListN.{length-set}
@@ -161,7 +161,7 @@ module _ {u t : ValueType} {r : Bool} (op : Binary) (v w : Value) (e : u ≡ val
   suits_not n = let a : t ≡ operand_type op (value_type v) = f ∙ ap (operand_type op) e in rw (← a, ← g, not-true r n)
 
   pub suits_both : {q : Bool} → not r ≡ false → q ≡ same_type t (value_type w) → q ≡ suitable op v w
-  suits_both n h = let a : t ≡ operand_type op (value_type v) = f ∙ ap (operand_type op) e in rw (← a, ← g, not_false r n) h
+  suits_both n h = let a : t ≡ operand_type op (value_type v) = f ∙ ap (operand_type op) e in rw (← a, ← g, not-false r n) h
 
 module _ {st : List ℕ} {h : ℕ} {g : Given} (k : Takes g st h) (env : Surroundings) (left : ℕ) (ts : List Try) (m : Memory) where
   module _ (op : Unary) where
@@ -177,7 +177,7 @@ module _ {st : List ℕ} {h : ℕ} {g : Given} (k : Takes g st h) (env : Surroun
       pub unary_right : not r ≡ false
           → effect env (Instruction.unary op) left (entries st h) ts m ≡ answered (unary_of op v) (entries st (h - 1)) ts m
       unfolding effect
-      unary_right n = rw ((k.some v e).0, ← a, ← b, not_false r n)
+      unary_right n = rw ((k.some v e).0, ← a, ← b, not-false r n)
 
   module _ (op : Binary) where
     pub binary_none : g ≡ Absent → effect env (Instruction.binary op) left (entries st h) ts m ≡ stop stuck
@@ -249,11 +249,11 @@ module _ (env : Surroundings) (left : ℕ) (m : Memory) where
 
         pub branch_yes : y ≡ true → Moves (move.Go (record { passed = 2; height = h - 1; tries = t })) 2 st tr m (effect env (Instruction.jump_if_no d) left (entries st h) (opened tr t) m)
         unfolding effect
-        branch_yes f = (rw ((k.some v e).0, ← a, not_false r n, ← b, f), omega arith, below)
+        branch_yes f = (rw ((k.some v e).0, ← a, not-false r n, ← b, f), omega arith, below)
 
         pub branch_no : y ≡ false → Moves (move.Go (record { passed = 2 + d; height = h - 1; tries = t })) 2 st tr m (effect env (Instruction.jump_if_no d) left (entries st h) (opened tr t) m)
         unfolding effect
-        branch_no f = let z : 2 + d - 2 ≡ d = omega arith in (rw ((k.some v e).0, ← a, not_false r n, ← b, f, z), omega arith, below)
+        branch_no f = let z : 2 + d - 2 ≡ d = omega arith in (rw ((k.some v e).0, ← a, not-false r n, ← b, f, z), omega arith, below)
 
   module _ (st : List ℕ) (h d t : ℕ) (p : (h ≤ length st) × (h ≤ 1024) × (d < 65536)) where
     pub settle_empty : (ts : List Try) → h ≡ 0 → effect env (Instruction.settle d) left (entries st h) ts m ≡ stop stuck

@@ -18,7 +18,7 @@ use lib.Seq.{drop-cons, drop-drop, get_or-set_same, get_or-set_other}
 use lib.Dec.{eqb, ltb}
 use mir.Syntax.{w32}
 use mir.Val.{SFits, to_z}
-use borrow.Author.Tests.{lt-ltb, le-ltb, ltb-true, ltb-false, eqb-true, eqb-false, not_false}
+use borrow.Author.Tests.{lt-ltb, le-ltb, ltb-true, ltb-false, eqb-true, eqb-false, not-false}
 use Rattle.calculus.specs.Values.{number_of}
 use Rattle.calculus.specs.declared.Given.{Given}
 use Rattle.calculus.specs.declared.Given.TheVariants.{Absent, Present}
@@ -52,8 +52,8 @@ can_give variables given t v e =
     let a = neither unknown (mismatch || repeated) e in
     let b = neither mismatch repeated a.1 in
     record {
-      known = ltb-true v (length variables) (not_false (ltb v (length variables)) a.0);
-      typed = not_false (same_type t (get_or variables v (record { holds = YesNo })).holds) b.0;
+      known = ltb-true v (length variables) (not-false (ltb v (length variables)) a.0);
+      typed = not-false (same_type t (get_or variables v (record { holds = YesNo })).holds) b.0;
       fresh = b.1;
     }
 

@@ -8,7 +8,7 @@
 -- Assumes nothing.
 use Prim.Native.Nat.{ℕ, zero, suc, ◌<◌}
 use mathlib.Core.Path.{◌≡◌, refl, sym, ◌∙◌}
-use mathlib.Core.Bool.{true, ◌||◌, false≢true, or-true, or_false}
+use mathlib.Core.Bool.{true, ◌||◌, false≢true, or-true, or-false}
 use mathlib.Core.List.{List, [], ◌∷◌, ◌++◌}
 use mathlib.Core.Logic.{◌⊎◌, inl, inr, ⊎_elim}
 use native.Mathlib.Omega.{arith}
@@ -25,7 +25,7 @@ among_append (x ∷ xs) ys v = ⊎_elim (λ e. rw e) (λ e. rw e (among_append x
 
 pub among_snoc : (xs : List ℕ) (v w : ℕ) → among (xs ++ (v ∷ [])) w ≡ (among xs w || eqb w v)
 unfolding among
-among_snoc xs v w = among_append xs (v ∷ []) w ∙ rw (or_false (eqb w v))
+among_snoc xs v w = among_append xs (v ∷ []) w ∙ rw (or-false (eqb w v))
 
 pub among_none : {A : Type 0} (v : ℕ) → among [] v ≡ true → A
 unfolding among

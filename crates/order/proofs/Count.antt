@@ -8,7 +8,7 @@
 -- Assumes nothing.
 use Prim.Native.Nat.{ℕ, zero, suc, ◌<◌, ◌≤◌, ◌+◌}
 use mathlib.Core.Path.{◌≡◌, refl, sym, ap, ◌∙◌}
-use mathlib.Core.Bool.{Bool, true, false, cond, ◌||◌, or-true, or_false}
+use mathlib.Core.Bool.{Bool, true, false, cond, ◌||◌, or-true, or-false}
 use mathlib.Core.Logic.{⊎_elim}
 use native.Mathlib.Omega.{arith}
 use native.Mathlib.Nat.{eq-or-lt_of_le}
@@ -57,13 +57,13 @@ count_more p (suc n) v h q =
     ⊎_elim
     (λ (e : v ≡ n).
     let old : count (with_one p v) n ≡ count p n =
-    count_same (with_one p v) p n (λ w l. ap (λ (b : Bool). p w || b) (ne_eqb w v (omega arith)) ∙ or_false (p w)) in
+    count_same (with_one p v) p n (λ w l. ap (λ (b : Bool). p w || b) (ne_eqb w v (omega arith)) ∙ or-false (p w)) in
     let here : with_one p v n ≡ true = rw (eq-eqb n v (sym e)) (or-true (p n)) in
     let there : p n ≡ false = ap p (sym e) ∙ q in
     rw (here, there) (omega arith))
     (λ l.
     let old : count (with_one p v) n ≡ suc (count p n) = count_more p n v l q in
-    let here : with_one p v n ≡ p n = rw (ne_eqb n v (omega arith)) (or_false (p n)) in
+    let here : with_one p v n ≡ p n = rw (ne_eqb n v (omega arith)) (or-false (p n)) in
     rw here (omega arith))
     (eq-or-lt_of_le {n = v} {m = n} (omega arith))
 

@@ -8,7 +8,7 @@
 use Rattle.laws.proofs.Zeros.{zeros}
 use Prim.Native.Nat.{ℕ, ◌<◌, ◌≤◌, ◌+◌, ◌*◌}
 use mathlib.Core.Path.{◌≡◌, sym}
-use mathlib.Core.Bool.{true, false, not, ◌||◌, or-true, or_false, and-true, and-false}
+use mathlib.Core.Bool.{true, false, not, ◌||◌, or-true, or-false, and-true, and-false}
 use mathlib.Core.List.{List}
 use mathlib.Core.Logic.{⊎_elim}
 use lib.ListN.{length, get_or, set, replicate}
@@ -51,7 +51,7 @@ marked_set done v w h =
     (λ (q : eqb w v ≡ true).
     let e : w ≡ v = eqb-true w v q in
     rw (q, e, get_or-set_same done v 1 0 h) (sym (or-true (not (eqb (get_or done v 0) 0)))))
-    (λ (q : eqb w v ≡ false). rw (q, get_or-set_other done v w 1 0 (eqb-false w v q)) (sym (or_false (not (eqb (get_or done w 0) 0)))))
+    (λ (q : eqb w v ≡ false). rw (q, get_or-set_other done v w 1 0 (eqb-false w v q)) (sym (or-false (not (eqb (get_or done w 0) 0)))))
     (decide (eqb w v))
 
 pub zero_marks : (n i : ℕ) → marked (replicate n 0) i ≡ false

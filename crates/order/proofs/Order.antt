@@ -20,7 +20,7 @@ use native.Mathlib.Nat.{eq-or-lt_of_le}
 use lib.ListN.{length, get_or, take, length-append, get_or-append}
 use lib.Seq.{take-append-le, take-append_seam, get_or-append_seam}
 use lib.Dec.{eqb}
-use borrow.Author.Tests.{eqb-true, lt-ltb, le-ltb, not-true, not_false}
+use borrow.Author.Tests.{eqb-true, lt-ltb, le-ltb, not-true, not-false}
 use Rattle.order.specs.Search.{none}
 use Rattle.order.specs.Order.{among, ready, next, taken, order}
 use Rattle.order.specs.Reaching.{Reaches}
@@ -175,7 +175,7 @@ module _ (edge : ℕ → ℕ → Bool) (n : ℕ) where
   order_or_cycle =
       let left : ℕ → Bool = λ v. not (among (order edge n) v) in
       ⊎_elim
-      (λ q. inl (order_all.1 (λ v l. not_false (among (order edge n) v) (none_each left n q v l))))
+      (λ q. inl (order_all.1 (λ v l. not-false (among (order edge n) v) (none_each left n q v l))))
       (λ q.
       let a = none_not left n q in
       inr

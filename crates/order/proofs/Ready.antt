@@ -17,7 +17,7 @@ use mathlib.Core.Bool.{Bool, true, false, not, false≢true, and-false}
 use mathlib.Core.Logic.{⊎_elim}
 use native.Mathlib.Omega.{arith}
 use lib.Dec.{eqb}
-use borrow.Author.Tests.{eq-eqb, eqb-true, eqb-false, not-true, not_false}
+use borrow.Author.Tests.{eq-eqb, eqb-true, eqb-false, not-true, not-false}
 use Rattle.order.specs.Search.{none}
 use Rattle.order.specs.Order.{unmet, ready, next}
 use Rattle.laws.proofs.Booleans.{decide, both}
@@ -38,7 +38,7 @@ module _ (edge : ℕ → ℕ → Bool) (done : ℕ → Bool) (v w : ℕ) where
 
   pub unmet_none : unmet edge done v w ≡ false → edge v w ≡ true → done w ≡ true
   unfolding unmet
-  unmet_none u e = not_false (done w) (rw e at u)
+  unmet_none u e = not-false (done w) (rw e at u)
 
 -- what holds below w and at w holds below the next
 pub lacks_more : (p : ℕ → Bool) (w : ℕ) → ((u : ℕ) → u < w → p u ≡ false) → p w ≡ false → (u : ℕ) → u < w + 1 → p u ≡ false
@@ -53,7 +53,7 @@ module _ (edge : ℕ → ℕ → Bool) (n : ℕ) (done : ℕ → Bool) where
   unfolding ready unmet
   ready_met v w r h e =
       let m = none_each (unmet edge done v) n (both (not (done v)) _ r).1 w h in
-      not_false (done w) (rw e at m)
+      not-false (done w) (rw e at m)
 
   pub ready_now : (v w : ℕ) → done v ≡ false → ((u : ℕ) → u < w → unmet edge done v u ≡ false) → n ≤ w → ready edge n done v ≡ true
   unfolding ready none

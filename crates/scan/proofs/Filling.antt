@@ -8,7 +8,7 @@ use mathlib.Core.Path.{◌≡◌, refl, sym, ap, ◌∙◌}
 use mathlib.Core.List.{List, []}
 use native.Mathlib.Omega.{arith}
 use lib.ListN.{length, get_or, drop, drop_of_length-le}
-use borrow.Author.Tests.{eqb-false, not_false}
+use borrow.Author.Tests.{eqb-false, not-false}
 use Rattle.record.specs.Kinds.{shape_in}
 use Rattle.record.specs.declared.Medium.TheVariants.{Book}
 use Rattle.book.specs.declared.Tally.{Tally}
@@ -164,7 +164,7 @@ module _ (bytes : List ℕ) (room : ℕ) (index : List ℕ) (last scopes at : �
   stage_before h =
       (in_order_lem last st
       (rw was_read.stage
-      (either (unknown_kind m) (follows last (stage_of m)) (not_false _ was_read.clean.ordered) was_read.clean.known))
+      (either (unknown_kind m) (follows last (stage_of m)) (not-false _ was_read.clean.ordered) was_read.clean.known))
       h).0
 
   scope_before : 2 ≤ st → 1 ≤ scopes

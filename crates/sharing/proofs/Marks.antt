@@ -8,7 +8,7 @@
 -- Assumes nothing.
 use Prim.Native.Nat.{ℕ, ◌<◌, ◌≤◌, ◌+◌}
 use mathlib.Core.Path.{◌≡◌, refl, sym, ◌∙◌}
-use mathlib.Core.Bool.{Bool, true, false, ◌||◌, or-true, or_false}
+use mathlib.Core.Bool.{Bool, true, false, ◌||◌, or-true, or-false}
 use mathlib.Core.List.{List, [], ◌∷◌, ◌++◌, append-nil}
 use mathlib.Core.Logic.{⊎_elim}
 use native.Mathlib.Omega.{arith}
@@ -59,7 +59,7 @@ module _ (marks : List ℕ) (twice : Bool) (w : ℕ) (byte : w < 256) where
   unfolding meets mark_all
   marked_past h =
       record {
-        found = rw (marked_false marks w (get_or-eq_default marks 0 h)) (sym (or_false twice));
+        found = rw (marked_false marks w (get_or-eq_default marks 0 h)) (sym (or-false twice));
         memory = sym (set_out marks w 1 h);
         bytes = also byte none;
       }
@@ -67,7 +67,7 @@ module _ (marks : List ℕ) (twice : Bool) (w : ℕ) (byte : w < 256) where
   pub marked_new : get_or marks w 0 ≡ 0 → Marking (w ∷ []) marks twice twice (set marks w 1)
   unfolding meets mark_all
   marked_new h =
-      record { found = rw (marked_false marks w h) (sym (or_false twice)); memory = refl; bytes = also byte none }
+      record { found = rw (marked_false marks w h) (sym (or-false twice)); memory = refl; bytes = also byte none }
 
   pub marked_again : (get_or marks w 0 ≡ 0 → ⊥) → Marking (w ∷ []) marks twice true (set marks w 1)
   unfolding meets mark_all
@@ -129,7 +129,7 @@ meets_any :
     {names : List ℕ} (marks : List ℕ) (twice : Bool) → Bytes names → 256 ≤ length marks
     → meets names marks twice ≡ (twice || (any (marked marks) names || repeats names))
 unfolding meets any repeats
-meets_any marks twice none h = sym (or_false twice)
+meets_any marks twice none h = sym (or-false twice)
 meets_any marks twice (also {x} {xs} b more) h =
     meets_any (set marks x 1) (twice || marked marks x) more (simp length-set h)
     ∙ rw (any_marked_set xs marks x (omega arith))

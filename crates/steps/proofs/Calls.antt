@@ -4,7 +4,7 @@
 -- Assumes nothing.
 use Prim.Native.Nat.{ℕ, ◌<◌, ◌≤◌, ◌+◌}
 use mathlib.Core.Path.{◌≡◌, refl, sym, ap, ◌∙◌}
-use mathlib.Core.Bool.{Bool, true, false, ◌&&◌, ◌||◌, and-false, or_false, and-or_distrib_left}
+use mathlib.Core.Bool.{Bool, true, false, ◌&&◌, ◌||◌, and-false, or-false, and-or_distrib_left}
 use mathlib.Core.List.{List, [], ◌∷◌}
 use mathlib.Core.Logic.{⊎_elim}
 use native.Mathlib.Omega.{arith}
@@ -61,7 +61,7 @@ rows_split book i x y =
     (λ (q : leb i x ≡ true).
     let l = leb-true i x q in
     ⊎_elim
-    (λ (e : i ≡ x). rw (q, e, eq-eqb x x refl, lt-leb (x + 1) x (omega arith)) (sym (or_false (calls book x y))))
+    (λ (e : i ≡ x). rw (q, e, eq-eqb x x refl, lt-leb (x + 1) x (omega arith)) (sym (or-false (calls book x y))))
     (λ (h : i < x). rw (q, ne_eqb i x (omega arith), le-leb (i + 1) x (omega arith)))
     (eq-or-lt_of_le l))
     (λ (q : leb i x ≡ false). let l = leb-false i x q in rw (q, ne_eqb i x (omega arith), lt-leb (i + 1) x (omega arith)))

@@ -6,7 +6,7 @@
 -- Assumes nothing.
 use Prim.Native.Nat.{ℕ, ◌<◌, ◌≤◌, ◌+◌, ◌*◌}
 use mathlib.Core.Path.{◌≡◌, refl, sym, ap, ◌∙◌}
-use mathlib.Core.Bool.{Bool, true, false, ◌&&◌, ◌||◌, and-false, or-true, or_false, or_assoc}
+use mathlib.Core.Bool.{Bool, true, false, ◌&&◌, ◌||◌, and-false, or-true, or-false, or_assoc}
 use mathlib.Core.List.{List}
 use mathlib.Core.Logic.{⊎_elim}
 use native.Mathlib.Omega.{arith}
@@ -29,7 +29,7 @@ module _ (deps : List ℕ) (v w : ℕ) where
   no_row h =
       record {
         long = refl;
-        edges = λ x y l m. rw (ne_eqb v x (omega arith)) (sym (or_false (linked deps x y)));
+        edges = λ x y l m. rw (ne_eqb v x (omega arith)) (sym (or-false (linked deps x y)));
         whole = λ r. r;
       }
 
@@ -38,7 +38,7 @@ module _ (deps : List ℕ) (v w : ℕ) where
   no_column h =
       record {
         long = refl;
-        edges = λ x y l m. rw (ne_eqb w y (omega arith), and-false (eqb v x)) (sym (or_false (linked deps x y)));
+        edges = λ x y l m. rw (ne_eqb w y (omega arith), and-false (eqb v x)) (sym (or-false (linked deps x y)));
         whole = λ r. r;
       }
 
@@ -61,7 +61,7 @@ zero_set : (deps : List ℕ) (p q : ℕ) → p < length deps → eqb (get_or (se
 zero_set deps p q h =
     ⊎_elim
     (λ (t : eqb q p ≡ true). let e : q ≡ p = eqb-true q p t in rw (t, e, get_or-set_same deps p 0 0 h) (sym (or-true (eqb (get_or deps p 0) 0))))
-    (λ (t : eqb q p ≡ false). rw (t, get_or-set_other deps p q 0 0 (eqb-false q p t)) (sym (or_false (eqb (get_or deps q 0) 0))))
+    (λ (t : eqb q p ≡ false). rw (t, get_or-set_other deps p q 0 0 (eqb-false q p t)) (sym (or-false (eqb (get_or deps q 0) 0))))
     (decide (eqb q p))
 
 module _ (deps : List ℕ) (v w : ℕ) (size : length deps ≡ 1640) (l : v < 40) (m : w < 40) where
@@ -135,7 +135,7 @@ module _ (from : List ℕ) (left whole : ℕ → ℕ → Bool) where
       record {
         long = g.long;
         edges =
-            λ x y l m. sym (or_false (linked to x y)) ∙ ap (λ (t : Bool). linked to x y || t) (sym (none x y l m)) ∙ g.edges x y l m;
+            λ x y l m. sym (or-false (linked to x y)) ∙ ap (λ (t : Bool). linked to x y || t) (sym (none x y l m)) ∙ g.edges x y l m;
         whole = g.whole;
       }
 

@@ -6,7 +6,7 @@
 -- Assumes nothing.
 use Prim.Native.Nat.{ℕ, ◌<◌, ◌+◌}
 use mathlib.Core.Path.{◌≡◌, refl, sym, ap, ◌∙◌}
-use mathlib.Core.Bool.{Bool, true, false, ◌||◌, or_false, or_assoc}
+use mathlib.Core.Bool.{Bool, true, false, ◌||◌, or-false, or_assoc}
 use mathlib.Core.List.{List, [], ◌∷◌}
 use mathlib.Core.Logic.{⊎_elim}
 use native.Mathlib.Omega.{arith}
@@ -68,14 +68,14 @@ module _ (v w : ℕ) (lower : ℕ → Term) where
   unfolding reads reads_any any of
   reads_term (node.Constant b) l = rw (ne_eqb 40 w (omega arith))
   reads_term (node.Number z) l = rw (ne_eqb 40 w (omega arith))
-  reads_term (node.Own x) l = sym (or_false (eqb x w))
-  reads_term (node.Called k x) l = sym (or_false (eqb (v + k) w))
+  reads_term (node.Own x) l = sym (or-false (eqb x w))
+  reads_term (node.Called k x) l = sym (or-false (eqb (v + k) w))
   reads_term (node.Empty t) l = rw (ne_eqb 40 w (omega arith))
   reads_term (node.Conflict t) l = rw (ne_eqb 40 w (omega arith))
-  reads_term (node.Unary op a) l = rw (ne_eqb 40 w (omega arith)) (sym (or_false (of a)))
-  reads_term (node.Binary op a b) l = rw (ne_eqb 40 w (omega arith)) (ap (λ (t : Bool). of a || t) (sym (or_false (of b))))
+  reads_term (node.Unary op a) l = rw (ne_eqb 40 w (omega arith)) (sym (or-false (of a)))
+  reads_term (node.Binary op a b) l = rw (ne_eqb 40 w (omega arith)) (ap (λ (t : Bool). of a || t) (sym (or-false (of b))))
   reads_term (node.Choice c a b) l =
-      rw (ne_eqb 40 w (omega arith)) (ap (λ (t : Bool). of c || (of a || t)) (sym (or_false (of b))))
+      rw (ne_eqb 40 w (omega arith)) (ap (λ (t : Bool). of c || (of a || t)) (sym (or-false (of b))))
   reads_term (node.Default x y z j c) l =
       let zs = exception lower z none in
       let ys = exception lower y zs in
@@ -83,7 +83,7 @@ module _ (v w : ℕ) (lower : ℕ → Term) where
       rw (ne_eqb 40 w (omega arith))
       (in_exception x ys (unless255 y (unless255 z (j ∷ c ∷ []))) b
       (in_exception y zs (unless255 z (j ∷ c ∷ [])) b
-      (in_exception z none (j ∷ c ∷ []) b (ap (λ (t : Bool). of j || t) (sym (or_false (of c)))))))
+      (in_exception z none (j ∷ c ∷ []) b (ap (λ (t : Bool). of j || t) (sym (or-false (of c)))))))
 
 pub node_reads_lem : (s : Scope) (n y : ℕ) → n < length s.nodes → y < 40
     → ((a : ℕ) → among (operands (get_or s.nodes n no_node)) a ≡ true → a < n)
@@ -111,7 +111,7 @@ clause_reads_lem s y c =
     (decide (eqb c.condition 255))
   where
     last : (q : Consequence) → reads (length s.variables) y (consequence_term s q) ≡ any (node_reads s y) (consequence_node q)
-    last (Of n) = sym (or_false (node_reads s y n))
+    last (Of n) = sym (or-false (node_reads s y n))
     last (Fixed b) = refl
 
 pub few_rows : (book : List Scope) (i n : ℕ) → dangles book ≡ false → Within book → n < length (scope_at book i).clauses

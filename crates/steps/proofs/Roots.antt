@@ -5,7 +5,7 @@
 -- Assumes nothing.
 use Prim.Native.Nat.{ℕ, ◌<◌, ◌≤◌, ◌+◌}
 use mathlib.Core.Path.{◌≡◌, sym, ap, ◌∙◌}
-use mathlib.Core.Bool.{Bool, true, false, ◌&&◌, ◌||◌, or_false, or_assoc}
+use mathlib.Core.Bool.{Bool, true, false, ◌&&◌, ◌||◌, or-false, or_assoc}
 use mathlib.Core.List.{List}
 use native.Mathlib.Omega.{arith}
 use native.Mathlib.Numerals.{add-one}
@@ -120,5 +120,5 @@ module _ (book : List Scope) (i : ℕ) (few : length (scope_at book i).nodes ≤
               let s = scope_at book i in
               let none : clauses_left s c x y ≡ false = rw (drop_of_length-le s.clauses l) in
               let owned = owned_edges s owners (length s.nodes) x y in
-              sym (or_false owned) ∙ ap (λ (t : Bool). owned || t) (sym none) ∙ g.edges x y v;
+              sym (or-false owned) ∙ ap (λ (t : Bool). owned || t) (sym none) ∙ g.edges x y v;
         }

@@ -16,7 +16,7 @@ use mathlib.Core.Logic.{⊎_elim}
 use native.Mathlib.Omega.{arith}
 use lib.ListN.{length, get_or}
 use lib.Dec.{eqb, ltb}
-use borrow.Author.Tests.{ltb-true, ltb-false, lt-ltb, eqb-true, eqb-false, eq-eqb, ne_eqb, not_false}
+use borrow.Author.Tests.{ltb-true, ltb-false, lt-ltb, eqb-true, eqb-false, eq-eqb, ne_eqb, not-false}
 use Rattle.laws.proofs.Booleans.{decide, both, or_cases, neither, both_ways, untrue}
 use Rattle.calculus.specs.declared.Given.{Given}
 use Rattle.book.specs.Lists.{any}
@@ -193,7 +193,7 @@ count_order variables [] once known = ap length (none_chosen 0 variables)
 count_order variables (c ∷ cs) once known =
     let o = neither (among cs c) (repeats cs) once in
     let k = neither (not (ltb c (length variables))) (any (λ v. not (ltb v (length variables))) cs) known in
-    let here = ltb-true c (length variables) (not_false (ltb c (length variables)) k.0) in
+    let here = ltb-true c (length variables) (not-false (ltb c (length variables)) k.0) in
     one_more c cs 0 variables o.0 (omega arith) (omega (arith, here)) ∙ ap suc (count_order variables cs o.1 k.1)
 
 -- Lists that are not refused

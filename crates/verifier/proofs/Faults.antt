@@ -6,7 +6,7 @@
 -- Assumes nothing.
 use Prim.Native.Nat.{ℕ, suc, ◌+◌, ◌-◌, ◌<◌, ◌≤◌}
 use mathlib.Core.Path.{◌≡◌, refl, sym, ap, ◌∙◌}
-use mathlib.Core.Bool.{Bool, true, false, not, ◌||◌, or_false}
+use mathlib.Core.Bool.{Bool, true, false, not, ◌||◌, or-false}
 use mathlib.Core.List.{List}
 use mathlib.Core.Logic.{◌⊎◌, inl, inr, ⊎_elim}
 use native.Mathlib.Omega.{arith}
@@ -35,7 +35,7 @@ shift a b =
 module _ (s : ℕ) (u : Progress) where
   pub variable_more : s ≡ 2 → Limited u → ltb 31 u.variables ≡ exceeds_with s u
   unfolding exceeds_with counted
-  variable_more e l = rw e (sym (rw (shift 31 u.variables, le-ltb 8 u.subs l.subs) (or_false (ltb 31 u.variables))))
+  variable_more e l = rw e (sym (rw (shift 31 u.variables, le-ltb 8 u.subs l.subs) (or-false (ltb 31 u.variables))))
 
   pub sub_more : s ≡ 3 → Limited u → ltb 7 u.subs ≡ exceeds_with s u
   unfolding exceeds_with counted

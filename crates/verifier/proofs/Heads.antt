@@ -13,7 +13,7 @@ use native.Mathlib.Omega.{arith}
 use lib.ListN.{length, get_or, take, drop, set, length-set}
 use lib.Seq.{get_or-set_same, get_or-set_other, take-suc}
 use lib.Dec.{ltb}
-use borrow.Author.Tests.{lt-ltb, ltb-true, ltb-false, not_false}
+use borrow.Author.Tests.{lt-ltb, ltb-true, ltb-false, not-false}
 use Rattle.laws.proofs.Booleans.{decide}
 use Rattle.book.specs.Scopes.{sum}
 use Rattle.book.specs.Syntax.{variable_of}
@@ -268,7 +268,7 @@ module _ (code : List ℕ) (at : ℕ) (u : Progress) (directory ring : List ℕ)
         (λ a.
         let f = formed (earlier code u.blocks) b (block_fits code u.blocks busy3.head.present a) in
         let n = any_false (λ i. not (has_block (earlier code u.blocks) i)) b.sub_scopes f.known u.subs more3.inside 0 in
-        let h : has_block (earlier code u.blocks) first ≡ true = not_false (has_block (earlier code u.blocks) first) (rw more3.here at n) in
+        let h : has_block (earlier code u.blocks) first ≡ true = not-false (has_block (earlier code u.blocks) first) (rw more3.here at n) in
         false≢true (sym (r.closed.known first ∙ rw q) ∙ h))
 
     module _ (there : place_in directory first ≡ 0 → ⊥) where

@@ -16,7 +16,7 @@ use native.Mathlib.Numerals.{add-one}
 use lib.ListN.{length, get_or, take, drop, length-append, length-drop, drop_of_length-le}
 use lib.Seq.{drop-cons, drop-drop}
 use lib.Dec.{eqb, ltb}
-use borrow.Author.Tests.{eq-eqb, ltb-false, eqb-true, eqb-false, not-true, not_false}
+use borrow.Author.Tests.{eq-eqb, ltb-false, eqb-true, eqb-false, not-true, not-false}
 use Rattle.laws.proofs.Booleans.{decide, both, neither}
 use Rattle.record.specs.Kinds.{kinds, shapes_of}
 use Rattle.record.specs.declared.Medium.TheVariants.{Code}
@@ -93,7 +93,7 @@ clean t k rest e =
     record {
       known = eqb-false (stage_of k) 0 a.0;
       whole = ltb-false (length rest) (body_length k) b.0;
-      ordered = not_false (follows t.stage (stage_of k)) d.0;
+      ordered = not-false (follows t.stage (stage_of k)) d.0;
       variables = ltb-false 32 (counted (stage_of k) t).variables f.0;
       sub_scopes = ltb-false 8 (counted (stage_of k) t).sub_scopes g.0;
       valid = g.1;

@@ -5,7 +5,7 @@
 -- Assumes nothing.
 use Prim.Native.Nat.{ℕ, suc, ◌<◌, ◌≤◌, ◌+◌}
 use mathlib.Core.Path.{◌≡◌, refl, sym, ap, ◌∙◌}
-use mathlib.Core.Bool.{true, false, ◌||◌, or_false, true≢false, false≢true}
+use mathlib.Core.Bool.{true, false, ◌||◌, or-false, true≢false, false≢true}
 use mathlib.Core.List.{List}
 use mathlib.Core.Logic.{⊎_elim}
 use native.Mathlib.Omega.{arith}
@@ -118,7 +118,7 @@ module _ (bytes order from : List ℕ) (n : ℕ) (scoped : Scoped bytes n) (bloc
                   let e : j ≡ i = eqb-true j i q in
                   rw e (get_or-set_same weights i w 0 (omega (arith, in_book)) ∙ right, omega (arith, right)))
                   (λ (q : eqb j i ≡ false).
-                  let d = g.done j (sym (or_false (among (take k (blocks book)) j)) ∙ (rw q at m')) in
+                  let d = g.done j (sym (or-false (among (take k (blocks book)) j)) ∙ (rw q at m')) in
                   (get_or-set_other weights i j w 0 (eqb-false j i q) ∙ d.0, d.1))
                   (decide (eqb j i));
             }

@@ -1,0 +1,38 @@
+-- `blocks::enter`, `run_block`, `run_frame` and `enter_sub` meet their contracts. A block enters only blocks of lower numbers.
+use Prim.Native.Nat.{◌+◌, ◌-◌, ◌*◌}
+use mathlib.Core.Path.{◌≡◌, refl, sym, ◌∙◌}
+use lib.ListN.{length}
+use native.Mathlib.Omega.{arith}
+use Rattle.slices.proofs.Parts.{part_room}
+use Rattle.instructions.specs.Views.{givens_at}
+use Rattle.blocks.specs.Entries.{run_at, variables_at, Known}
+use Rattle.blocks.specs.Running.{Running}
+use Rattle.blocks.proofs.Tables.{small}
+use Rattle.blocks.proofs.Entering.{starts, stepping, world, body_is, ordered, ending, came_end, lent_rest, lent_size, lent_marked, rest_length, lent_before, sub_at, enterable}
+use Rattle.blocks.proofs.Entering.{entry_twice, entry_ended, entry_stuck, entry_short, entry_turn, entry_few, callee_entry, came_values, came_ended, came_stuck, came_short}
+use Rattle.blocks.proofs.Entering.{stands, acts, goes_on, ends_so, too_short, moved, further, went_on, went_ended, went_stuck, went_short}
+use Rattle.blocks.proofs.Entering.{fresh_none, fresh_few, fresh_all}
+use Rattle.blocks.proofs.Known.{row_room, recalled, unrecalled, entry_from, entry_sized, came_from, came_so, noted}
+use Rattle.blocks.proofs.Large.{came_to}
+use borrow.Author.Rules.{rules}
+use Prim.Native.Nat.{ℕ, ◌<◌}
+use Rattle.blocks.proofs.+enter_enter_sub_run_block_run_frame.Given as goal
+
+abbrev pub decreases-enter : goal.decreases-enter
+decreases-enter l = 4 * l.p + 3
+
+abbrev pub decreases-enter_sub : goal.decreases-enter_sub
+decreases-enter_sub l = 4 * l.p
+
+abbrev pub decreases-run_block : goal.decreases-run_block
+decreases-run_block l = 4 * l.p + 2
+
+abbrev pub decreases-run_frame : goal.decreases-run_frame
+decreases-run_frame l = 4 * l.p + 1
+
+abbrev pub invariant-run_frame-loop-s : goal.invariant-run_frame-loop-s
+invariant-run_frame-loop-s l =
+    Running l.code l.directory l.p l.initial.st l.initial.tr (run_at l.code l.p (givens_at l.initial.own 0 (variables_at l.code l.p))) l.body l.st l.tr l.own l.frame l.s × Known l.code l.memo × (length l.frame ≡ length l.initial.frame)
+
+abbrev pub decreases-run_frame-loop-s : goal.decreases-run_frame-loop-s
+decreases-run_frame-loop-s l = length l.body - l.s.at

@@ -1,0 +1,14 @@
+-- `checks::check_nodes` meets its contract. The invariant of its loop is `Nodes`.
+use Prim.Native.Nat.{◌-◌}
+use native.Mathlib.Omega.{arith}
+use borrow.Author.Rules.{rules}
+use Rattle.book.specs.Decode.{scopes_of}
+use Rattle.checks.proofs.Passes.{Nodes, nodes_start, marks_length, types_length, in_table, step_length, node_dangles_lem, node_turn, nodes_end}
+use Rattle.checks.proofs.check_nodes.Given as goal
+
+abbrev pub invariant-loop-n : goal.invariant-loop-n
+invariant-loop-n l =
+    Nodes (scopes_of l.book) l.i l.initial.marks l.marks l.types l.shares l.mismatches l.n
+
+abbrev pub decreases-loop-n : goal.decreases-loop-n
+decreases-loop-n l = l.count - l.n

@@ -1,0 +1,34 @@
+-- `choices::order_marked` meets its contract. The invariant: the marked numbers below v are written.
+use Prim.Native.Nat.{◌-◌}
+use mathlib.Core.Path.{sym, ◌∙◌}
+use mathlib.Core.Logic.{⊎_elim}
+use lib.ListN.{length}
+use native.Mathlib.Omega.{arith}
+use borrow.Author.Rules.{rules}
+use Rattle.choices.proofs.Ordering.{WritingMarked, start, marked_one, other_one, stop}
+use Rattle.choices.proofs.order_marked.Goals as goal
+
+pub loop-v-init : goal.loop-v-init
+loop-v-init c = start _ c.requires.ordered_len
+
+pub overflow_cast-ordered : goal.overflow_cast-ordered
+overflow_cast-ordered c = omega (arith, c.requires.marks_len_bound, c.loop-v-test.true, c.loop-v.invariant.below)
+
+pub bounds-ordered-count : goal.bounds-ordered-count
+bounds-ordered-count c = omega (arith, c.requires.marks_len_bound, c.loop-v-test.true, c.loop-v.invariant.below, c.loop-v.invariant.size)
+
+pub overflow_add-count : goal.overflow_add-count
+overflow_add-count c = omega (arith, c.requires.marks_len_bound, c.loop-v-test.true, c.loop-v.invariant.below)
+
+pub loop-v-preserved : goal.loop-v-preserved
+loop-v-preserved c =
+    ⊎_elim
+    (λ q. rw (q.1, q.2) (marked_one c.loop-v.invariant c.requires.marks_len_bound c.loop-v-test.true q.0.taken))
+    (λ q. rw (q.1, q.2) (other_one c.loop-v.invariant c.requires.marks_len_bound c.loop-v-test.true q.0.left))
+    c.if-marks-v-ne0.branch
+
+pub shape_of-ordered : goal.shape_of-ordered
+shape_of-ordered c = c.loop-v.invariant.size ∙ sym c.requires.ordered_len
+
+pub returns : goal.returns
+returns c = stop c.loop-v.invariant c.requires.marks_len_bound c.loop-v-test.false

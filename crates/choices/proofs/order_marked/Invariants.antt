@@ -1,0 +1,15 @@
+-- `choices::order_marked` meets its contract. The invariant: the marked numbers below v are written.
+use Prim.Native.Nat.{◌-◌}
+use mathlib.Core.Path.{sym, ◌∙◌}
+use mathlib.Core.Logic.{⊎_elim}
+use lib.ListN.{length}
+use native.Mathlib.Omega.{arith}
+use borrow.Author.Rules.{rules}
+use Rattle.choices.proofs.Ordering.{WritingMarked, start, marked_one, other_one, stop}
+use Rattle.choices.proofs.order_marked.Given as goal
+
+abbrev pub invariant-loop-v : goal.invariant-loop-v
+invariant-loop-v l = WritingMarked l.marks l.ordered l.count l.v
+
+abbrev pub decreases-loop-v : goal.decreases-loop-v
+decreases-loop-v l = length l.marks - l.v

@@ -1,0 +1,8 @@
+use Rattle.directory.specs.Layout.{block_in}
+use borrow.Author.Rules.{rules}
+use Rattle.directory.proofs.block_of.Lts as lts
+use Rattle.directory.proofs.block_of.Goals as goal
+
+pub returns : goal.returns
+unfolding block_in
+returns c = c.entry_at.ensures

@@ -1,0 +1,55 @@
+use Prim.Native.Nat.{◌-◌}
+use mathlib.Core.Path.{◌≡◌, sym, ◌∙◌}
+use mathlib.Core.List.{List}
+use native.Mathlib.Omega.{arith}
+use lib.ListN.{length, length-set}
+use borrow.Author.Rules.{rules}
+use Rattle.book.specs.declared.Variable.{Variable}
+use Rattle.lists.proofs.Types.{Filling, start, turn, stop}
+use Rattle.directory.specs.Layout.{Declares}
+use Rattle.directory.proofs.fill_types.Lts as lts
+use Rattle.directory.proofs.fill_types.Goals as goal
+
+pub loop-v-init : goal.loop-v-init
+loop-v-init c = (c.requires.2, λ vs d. start c.requires.2)
+
+pub type_byte-requires : goal.type_byte-requires
+type_byte-requires c =
+    let few = c.requires in
+    let n = c.variables_in-count.ensures in
+    (few.0, omega (arith, c.loop-v-test.true))
+
+pub bounds-types-v : goal.bounds-types-v
+bounds-types-v c =
+    let few = c.requires.1 in
+    let n = c.variables_in-count.ensures in
+    let l = c.loop-v.invariant.0 in
+    omega (arith, c.loop-v-test.true)
+
+pub overflow_add-v : goal.overflow_add-v
+overflow_add-v c = omega (arith, c.loop-v-test.true)
+
+pub loop-v-smaller : goal.loop-v-smaller
+loop-v-smaller c = omega (arith, c.loop-v-test.true)
+
+pub loop-v-preserved : goal.loop-v-preserved
+loop-v-preserved c =
+    let few = c.requires.1 in
+    let n = c.variables_in-count.ensures in (
+      length-set c.loop-v.types c.loop-v.v _ ∙ c.loop-v.invariant.0,
+      λ vs d.
+          let m = d.number in
+          turn (c.loop-v.invariant.1 vs d) _ (omega (arith, c.loop-v-test.true))
+          (c.type_byte.ensures ∙ d.types _ (omega (arith, c.loop-v-test.true))),
+    )
+
+pub shape_of-types : goal.shape_of-types
+shape_of-types c = c.loop-v.invariant.0 ∙ sym c.requires.2
+
+pub returns : goal.returns
+returns c =
+    λ vs d.
+    let few = c.requires.1 in
+    let n = c.variables_in-count.ensures in
+    let m = d.number in
+    stop (c.loop-v.invariant.1 vs d) (n ∙ m) (omega arith) c.loop-v-test.false

@@ -1,0 +1,17 @@
+use Prim.Native.Nat.{◌-◌}
+use mathlib.Core.Path.{◌≡◌, sym, ◌∙◌}
+use mathlib.Core.List.{List}
+use native.Mathlib.Omega.{arith}
+use lib.ListN.{length, length-set}
+use borrow.Author.Rules.{rules}
+use Rattle.book.specs.declared.Variable.{Variable}
+use Rattle.lists.proofs.Types.{Filling, start, turn, stop}
+use Rattle.directory.specs.Layout.{Declares}
+use Rattle.directory.proofs.fill_types.Lts as lts
+use Rattle.directory.proofs.fill_types.Given as goal
+
+abbrev pub invariant-loop-v : goal.invariant-loop-v
+invariant-loop-v l = (length l.types ≡ 32) × ((vs : List Variable) → Declares l.directory l.p vs → Filling vs l.types l.v)
+
+abbrev pub decreases-loop-v : goal.decreases-loop-v
+decreases-loop-v l = l.count - l.v

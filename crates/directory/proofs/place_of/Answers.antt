@@ -1,0 +1,13 @@
+use Rattle.directory.specs.Layout.{place_in}
+use borrow.Author.Tests.{lt-ltb, le-ltb}
+use borrow.Author.Rules.{rules}
+use Rattle.directory.proofs.place_of.Lts as lts
+use Rattle.directory.proofs.place_of.Goals as goal
+
+pub returns-then-scope-lt-PLACES : goal.returns-then-scope-lt-PLACES
+unfolding place_in
+returns-then-scope-lt-PLACES c = rw (lt-ltb _ 32 c.if-scope-lt-PLACES.true) c.entry_at.ensures
+
+pub returns : goal.returns
+unfolding place_in
+returns c = rw (le-ltb _ 32 c.if-scope-lt-PLACES.false)

@@ -1,0 +1,8 @@
+use Rattle.directory.specs.Layout.{block_weight}
+use borrow.Author.Rules.{rules}
+use Rattle.directory.proofs.weight_of.Lts as lts
+use Rattle.directory.proofs.weight_of.Goals as goal
+
+pub returns : goal.returns
+unfolding block_weight
+returns c = c.entry_at.ensures

@@ -1,0 +1,19 @@
+-- `emitter::emit_call` meets its contract. The loop's invariant: the pieces from its number on are written.
+use lib.ListN.{length}
+use Prim.Native.Nat.{ℕ}
+use Rattle.book.specs.Decode.{scopes_of}
+use Rattle.book.specs.References.{scope_at}
+use Rattle.book.specs.Positions.{sub_scope_at}
+use native.Mathlib.Omega.{arith}
+use Rattle.emitter.specs.Pieces.{override_piece, override_size, called_count}
+use Rattle.emitter.proofs.Emission.{Downward, start, room, turn}
+use Rattle.emitter.proofs.Pieces.{call_size_lem, call_stop}
+use mathlib.Core.Path.{refl, ap, ◌∙◌}
+use Rattle.emitter.proofs.emit_call.Given as goal
+
+abbrev pub invariant-loop-v : goal.invariant-loop-v
+invariant-loop-v l =
+    Downward l.initial.out l.initial.p (override_piece l.book l.i l.k) (override_size l.book l.i l.k) (called_count l.book l.i l.k) l.v l.p l.out
+
+abbrev pub decreases-loop-v : goal.decreases-loop-v
+decreases-loop-v l = l.v

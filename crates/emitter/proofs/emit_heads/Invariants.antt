@@ -1,0 +1,13 @@
+-- `emitter::emit_heads` meets its contract. The loop's invariant: the pieces from its number on are written.
+use mathlib.Core.Path.{refl}
+use native.Mathlib.Omega.{arith}
+use Rattle.emitter.specs.Pieces.{head_count, head_piece, pair}
+use Rattle.emitter.proofs.Emission.{Downward, start, room, turn}
+use Rattle.emitter.proofs.Pieces.{heads_size_lem, heads_stop, emits_head}
+use Rattle.emitter.proofs.emit_heads.Given as goal
+
+abbrev pub invariant-loop-n : goal.invariant-loop-n
+invariant-loop-n l = Downward l.initial.out l.at (head_piece l.book l.i l.kind) pair (head_count l.book l.i l.kind) l.n l.p l.out
+
+abbrev pub decreases-loop-n : goal.decreases-loop-n
+decreases-loop-n l = l.n

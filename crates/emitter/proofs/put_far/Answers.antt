@@ -1,0 +1,20 @@
+-- `emitter::put_far` meets its contract.
+use lib.ListN.{length-set}
+use native.Mathlib.Omega.{arith}
+use Rattle.emitter.proofs.Emission.{put_none, put_distance}
+use borrow.Author.Rules.{rules}
+use Rattle.emitter.proofs.put_far.Goals as goal
+
+pub returns-then-out-end : goal.returns-then-out-end
+returns-then-out-end c =
+    put_none _ _ _ _ c.if-out-end.true
+
+pub bounds-out-place-2 : goal.bounds-out-place-2
+bounds-out-place-2 c = simp length-set (let h = c.if-out-end.false in omega arith)
+
+pub bounds-out-place-3 : goal.bounds-out-place-3
+bounds-out-place-3 c = simp length-set (let h = c.if-out-end.false in omega arith)
+
+pub returns : goal.returns
+returns c =
+    put_distance _ _ _ _ c.if-out-end.false

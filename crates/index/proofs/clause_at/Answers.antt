@@ -1,0 +1,20 @@
+-- `index::clause_at` meets its contract.
+use native.Mathlib.Omega.{arith}
+use Rattle.index.proofs.Rows.{clause_here, clause_past}
+use borrow.Author.Rules.{rules}
+use Rattle.index.proofs.clause_at.Goals as goal
+
+pub overflow_add-c : goal.overflow_add-c
+overflow_add-c c = omega (arith, (clause_here _ _ c.requires _ c.args.c _ c.count_at.ensures c.if-c-count_at.true).column)
+
+pub column_at-at-requires : goal.column_at-at-requires
+column_at-at-requires c = let h = clause_here _ _ c.requires _ c.args.c _ c.count_at.ensures c.if-c-count_at.true in (h.row, h.low, h.column, h.inside)
+
+pub clause_of-requires : goal.clause_of-requires
+clause_of-requires c = rw c.column_at-at.ensures (clause_here _ _ c.requires _ c.args.c _ c.count_at.ensures c.if-c-count_at.true).found.whole
+
+pub returns-then-c-count_at : goal.returns-then-c-count_at
+returns-then-c-count_at c = rw (c.clause_of.ensures, c.column_at-at.ensures) (clause_here _ _ c.requires _ c.args.c _ c.count_at.ensures c.if-c-count_at.true).found.is
+
+pub returns-else-c-count_at : goal.returns-else-c-count_at
+returns-else-c-count_at c = clause_past _ _ c.requires _ c.args.c _ c.count_at.ensures c.if-c-count_at.false

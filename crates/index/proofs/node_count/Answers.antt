@@ -1,0 +1,7 @@
+-- `index::node_count` meets its contract.
+use mathlib.Core.Path.{◌∙◌}
+use borrow.Author.Rules.{rules}
+use Rattle.index.proofs.node_count.Goals as goal
+
+pub returns : goal.returns
+returns c = c.count_at.ensures ∙ c.requires.node_count c.args.i

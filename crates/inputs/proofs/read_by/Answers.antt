@@ -1,0 +1,87 @@
+-- `inputs::read_by` meets its contract. The invariant: the list is read up to a position, and the cells hold what it gives so far.
+use Rattle.lists.specs.Inputs.{bad_record}
+use Rattle.lists.specs.Reading.{typed}
+use Rattle.lists.proofs.Reading.{Read, start, stop, fault, room, cell, turn}
+use Rattle.lists.proofs.Types.{typed_count}
+use Rattle.slices.proofs.Parts.{all_left}
+use Rattle.cells.specs.Cells.{given_of}
+use lib.ListN.{length, get_or, drop}
+use native.Mathlib.Omega.{arith}
+use Prim.Native.Nat.{◌+◌, ◌-◌, ◌≤◌}
+use mathlib.Core.Path.{◌≡◌, sym, ap, ◌∙◌}
+use mathlib.Core.Bool.{Bool, false, false≢true}
+use mathlib.Core.List.{map}
+use borrow.Author.Rules.{rules}
+use Rattle.inputs.proofs.read_by.Goals as goal
+use Rattle.inputs.proofs.read_by.Goals.{After-input_length, After-is_bad, Else-is_bad}
+
+pub loop-at-init : goal.loop-at-init
+loop-at-init c = start _ _ c.requires.given_value
+
+-- the record at the position is bad by its definition where the test says so
+verdict : (c : After-is_bad) → Bool
+verdict c =
+    bad_record (typed c.args.types.now) (map given_of c.loop-at.given)
+    (get_or c.args.inputs.now c.loop-at.at 0) (drop (c.loop-at.at + 1) c.args.inputs.now)
+
+judged : (c : After-is_bad) → verdict c ≡ c.is_bad.result
+unfolding verdict
+judged c =
+    rw (← all_left (c.loop-at.at + 1) c.args.inputs.now)
+    (sym c.is_bad.ensures)
+
+good : (c : Else-is_bad) → verdict c ≡ false
+good c = judged c ∙ c.if-is_bad.false
+
+few : (c : Else-is_bad) → length (typed c.args.types.now) ≤ 32
+few c = rw (typed_count c.args.types.now) c.requires.types_len_bound
+
+pub shape_of-given-then-is_bad : goal.shape_of-given-then-is_bad
+shape_of-given-then-is_bad c = c.loop-at.invariant.size ∙ sym (ap length c.requires.given_value)
+
+pub returns-then-is_bad : goal.returns-then-is_bad
+unfolding verdict
+returns-then-is_bad c =
+    record {
+      size = c.loop-at.invariant.size;
+      taken = λ e. absurd (false≢true e);
+      refused = λ e. fault c.loop-at.invariant c.loop-at-test.true (judged (goal.at.returns-then-is_bad c).After-is_bad ∙ c.if-is_bad.true);
+    }
+
+pub bounds-given-v : goal.bounds-given-v
+unfolding verdict
+bounds-given-v c =
+    rw (c.byte_at-v.ensures, all_left (c.loop-at.at + 1) c.args.inputs.now)
+    (cell c.loop-at.invariant c.loop-at-test.true (few (goal.at.bounds-given-v c).Else-is_bad) (good (goal.at.bounds-given-v c).Else-is_bad))
+
+-- the record ends within the list
+whole :
+    (c : After-input_length)
+    → c.loop-at.at + 1 + c.input_length.result ≤ length c.args.inputs.now
+unfolding verdict
+whole c =
+    rw c.input_length.ensures
+    (room c.loop-at.invariant c.loop-at-test.true (few c) (good c))
+
+pub overflow_add-at : goal.overflow_add-at
+overflow_add-at c = let r = whole (goal.at.overflow_add-at c).After-input_length in omega arith
+
+pub loop-at-smaller : goal.loop-at-smaller
+loop-at-smaller c = let r = whole (goal.at.loop-at-smaller c).After-input_length in omega arith
+
+pub loop-at-preserved : goal.loop-at-preserved
+unfolding verdict
+loop-at-preserved c =
+    rw (c.byte_at-v.ensures, c.cell_of.ensures, c.input_value.ensures, c.input_length.ensures, all_left (c.loop-at.at + 1) c.args.inputs.now)
+    (turn c.loop-at.invariant c.loop-at-test.true (few (goal.at.loop-at-preserved c).Else-is_bad) (good (goal.at.loop-at-preserved c).Else-is_bad))
+
+pub shape_of-given : goal.shape_of-given
+shape_of-given c = c.loop-at.invariant.size ∙ sym (ap length c.requires.given_value)
+
+pub returns : goal.returns
+returns c =
+    record {
+      size = c.loop-at.invariant.size;
+      taken = λ e. stop c.loop-at.invariant c.loop-at-test.false;
+      refused = λ e. absurd (false≢true (sym e));
+    }

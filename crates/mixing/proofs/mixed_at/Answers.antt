@@ -1,0 +1,61 @@
+-- `mixing::mixed_at` meets its contract. The invariant of its loop is `Marking`.
+use Prim.Native.Nat.{ℕ, ◌-◌, ◌<◌}
+use mathlib.Core.List.{List}
+use mathlib.Core.Logic.{inl, inr, ⊎_elim}
+use native.Mathlib.Omega.{arith}
+use borrow.Author.Rules.{rules}
+use lib.ListN.{length}
+use Rattle.book.specs.Decode.{scopes_of}
+use Rattle.book.specs.References.{scope_at}
+use Rattle.book.specs.Syntax.{Scope}
+use Rattle.book.specs.Positions.{clause_at}
+use Rattle.mixing.proofs.Targets.{Ranged, ranged}
+use Rattle.mixing.proofs.Marking.{Read, Marking, start, room_at, turn, found, ended}
+use Rattle.mixing.proofs.mixed_at.Goals as goal
+use Rattle.mixing.proofs.mixed_at.Goals.{After-mark_of-mark}
+
+pub loop-n-init : goal.loop-n-init
+loop-n-init c = start _ _
+
+module _ (c : After-mark_of-mark) where
+  abbrev scopes : List Scope
+  scopes = scopes_of c.args.book.now
+
+  -- the targets of all clauses have their places
+  all : (k : ℕ) → k < length (scope_at scopes c.args.i).clauses → Ranged (clause_at scopes c.args.i k).target
+  all = ranged scopes c.requires.fact_3 c.requires.fact_2 c.args.i
+
+  -- the clause of this turn
+  read : Read scopes c.args.i c.loop-n.n c.slot_of-at.result c.mark_of-mark.result
+  read =
+      record {
+        within = rw (← c.clause_count-count.ensures) c.loop-n-test.true;
+        place = rw c.clause_at-clause.ensures at c.slot_of-at.ensures;
+        mark = rw c.clause_at-clause.ensures at c.mark_of-mark.ensures;
+      }
+
+  room : c.slot_of-at.result < 288
+  room = room_at _ _ _ _ c.loop-n.invariant all _ _ read
+
+pub bounds-seen-at : goal.bounds-seen-at
+bounds-seen-at c = omega (arith, room (goal.at.bounds-seen-at c).After-mark_of-mark, c.loop-n.invariant.room)
+
+pub bounds-seen-at-then-seen-at-ne0 : goal.bounds-seen-at-then-seen-at-ne0
+bounds-seen-at-then-seen-at-ne0 c = omega (arith, room (goal.at.bounds-seen-at-then-seen-at-ne0 c).After-mark_of-mark, c.loop-n.invariant.room)
+
+pub returns-then-seen-at : goal.returns-then-seen-at
+returns-then-seen-at c =
+    let marked = (goal.at.returns-then-seen-at c).After-mark_of-mark in
+    found _ _ _ _ marked.loop-n.invariant (all marked) _ _ (read marked) c.if-seen-at-ne0.true c.if-seen-at.true
+
+pub bounds-seen-at-in-loop-n : goal.bounds-seen-at-in-loop-n
+bounds-seen-at-in-loop-n c = omega (arith, room (goal.at.bounds-seen-at-in-loop-n c).After-mark_of-mark, c.loop-n.invariant.room)
+
+pub loop-n-preserved : goal.loop-n-preserved
+loop-n-preserved c =
+    let marked = (goal.at.loop-n-preserved c).After-mark_of-mark in
+    turn _ _ _ _ marked.loop-n.invariant (all marked) _ _ (read marked)
+    (⊎_elim (λ w. inr w.1.left) (λ w. inl w.left) c.if-seen-at-ne0.branch)
+
+pub returns : goal.returns
+returns c = ended _ _ _ _ c.loop-n.invariant (rw (← c.clause_count-count.ensures) c.loop-n-test.false)

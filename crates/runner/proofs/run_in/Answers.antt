@@ -1,0 +1,10 @@
+-- `runner::run_in` meets its contract.
+use Rattle.runner.proofs.Service.{ready, refused_code}
+use borrow.Author.Rules.{rules}
+use Rattle.runner.proofs.run_in.Goals as goal
+
+pub run_accepted-requires : goal.run_accepted-requires
+run_accepted-requires c = ready _ c.in-Accepted.is c.verify.ensures
+
+pub returns-in-Refused : goal.returns-in-Refused
+returns-in-Refused c = refused_code _ _ _ _ _ c.in-Refused.is c.verify.ensures

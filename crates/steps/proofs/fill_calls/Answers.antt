@@ -1,0 +1,22 @@
+-- `steps::fill_calls` meets its contract. The loop's invariant: with the calls of the scopes from i on, all calls are marked.
+use Prim.Native.Nat.{◌≤◌, ◌-◌}
+use native.Mathlib.Omega.{arith}
+use borrow.Author.Rules.{rules}
+use Rattle.book.specs.Decode.{scopes_of}
+use Rattle.book.specs.Scopes.{calls}
+use Rattle.steps.proofs.Marking.{Marking}
+use Rattle.steps.proofs.Calls.{rows_left, rows_start, rows_turn, rows_done}
+use Rattle.steps.proofs.fill_calls.Goals as goal
+
+pub loop-i-init : goal.loop-i-init
+loop-i-init c = (omega arith, rows_start _ _)
+
+pub loop-i-preserved : goal.loop-i-preserved
+loop-i-preserved c =
+    (omega arith, rows_turn _ _ _ _ c.loop-i.invariant.1 _ c.mark_calls.ensures)
+
+pub shape_of-deps : goal.shape_of-deps
+shape_of-deps c = c.loop-i.invariant.1.long
+
+pub returns : goal.returns
+returns c = rows_done _ _ _ _ c.loop-i.invariant.1 (omega arith)

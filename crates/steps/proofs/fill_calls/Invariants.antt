@@ -1,0 +1,15 @@
+-- `steps::fill_calls` meets its contract. The loop's invariant: with the calls of the scopes from i on, all calls are marked.
+use Prim.Native.Nat.{◌≤◌, ◌-◌}
+use native.Mathlib.Omega.{arith}
+use borrow.Author.Rules.{rules}
+use Rattle.book.specs.Decode.{scopes_of}
+use Rattle.book.specs.Scopes.{calls}
+use Rattle.steps.proofs.Marking.{Marking}
+use Rattle.steps.proofs.Calls.{rows_left, rows_start, rows_turn, rows_done}
+use Rattle.steps.proofs.fill_calls.Given as goal
+
+abbrev pub invariant-loop-i : goal.invariant-loop-i
+invariant-loop-i l = (l.i ≤ l.scopes) × Marking l.initial.deps l.deps (rows_left (scopes_of l.book) l.i) (calls (scopes_of l.book))
+
+abbrev pub decreases-loop-i : goal.decreases-loop-i
+decreases-loop-i l = l.scopes - l.i

@@ -1,0 +1,9 @@
+-- `terms::number` meets its contract.
+use mir.Facts.{to_z-of_z}
+use Rattle.cells.specs.Codec.{value_cell}
+use borrow.Author.Rules.{rules}
+use Rattle.terms.proofs.number.Goals as goal
+
+pub returns : goal.returns
+unfolding value_cell
+returns c = rw (c.bits_of.ensures, to_z-of_z c.ranges.z)

@@ -1,0 +1,8 @@
+-- `verifier::variable` meets its contract.
+use mathlib.Core.Path.{refl}
+use native.Mathlib.Omega.{arith}
+use borrow.Author.Rules.{rules}
+use Rattle.verifier.proofs.variable.Goals as goal
+
+pub returns : goal.returns
+returns c = (refl, rw c.wide.ensures refl, omega arith)
