@@ -1,5 +1,6 @@
 // The syntax of a book, decoded from its records. Its definitions stand in specs/, laws about them in proofs/.
 #![tactic(auto)]
+
 use answers::Fault;
 use calculus::{Binary, Unary};
 

@@ -44,7 +44,7 @@ pub data Result : Outcome → Type 0 where
   number : (z : ℤ) → SFits w32 z → Result (Gives (Number z))
   outside : (s : Side) → Result (Ends (OutOfRange s))
 
-ranged_result : (z : ℤ) → Result (ranged z)
+pub ranged_result : (z : ℤ) → Result (ranged z)
 ranged_result z = ranged_cases z Result Result.outside (Result.number z)
 
 pub unary_result : (op : Unary) (v : Value) → Result (unary_of op v)

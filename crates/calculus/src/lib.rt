@@ -1,5 +1,6 @@
 // The values and outcomes of the calculus.
 #![tactic(auto)]
+
 use answers::Cause;
 
 // A yes/no, or a number of 32 bits.

@@ -1,5 +1,6 @@
 // A variable, a joined value and an outcome as one number, a cell; slices of cells hold the variables of a scope.
 #![tactic(auto)]
+
 ghost use Rattle.std.specs.Prelude.{◌≡◌};
 ghost use Rattle.cells.specs.Cells.{given_of, given_at, held};
 ghost use Rattle.cells.specs.Codec.{value_cell, value_of, cause_of};

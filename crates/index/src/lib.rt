@@ -1,5 +1,6 @@
 // A book by its index: how many variables, sub-scopes, nodes and clauses each scope has, and each of them read from its record.
 #![tactic(auto)]
+
 ghost use Rattle.std.specs.Prelude.{◌≡◌, ◌+◌, ◌*◌, ◌≤◌, ◌<◌, length, get_or};
 ghost use Rattle.book.specs.Decode.{scopes_of};
 ghost use Rattle.book.specs.References.{scope_at};

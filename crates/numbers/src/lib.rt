@@ -1,5 +1,6 @@
 // The answers of the services as numbers: the paper's number of a fault, of a refusal and of an outcome, and a whole answer as one number.
 #![tactic(auto)]
+
 ghost use Rattle.std.specs.Prelude.{◌≡◌};
 ghost use Rattle.answers.specs.Numbers.{fault_number, refusal_number, cause_number, judged_numbers, produced_numbers, answer_numbers};
 ghost use Rattle.numbers.specs.Packed.{packed, wrapped};

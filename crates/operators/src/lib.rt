@@ -1,5 +1,6 @@
 // The operators on values. Each result equals a definition of the calculus.
 #![tactic(auto)]
+
 ghost use Rattle.std.specs.Prelude.{◌≡◌, nat_abs};
 ghost use Rattle.calculus.specs.Values.{truth_of, number_of, ranged};
 ghost use Rattle.calculus.specs.Values.{equal as Values·equal};

@@ -2,6 +2,7 @@
 // A vertex is a number below n. In the matrix `deps` the byte at v * 40 + w is 0 where v depends on w; row v is read from the vertex at
 // 1600 + v on.
 #![tactic(auto)]
+
 ghost use Rattle.std.specs.Prelude.{◌≡◌, ◌+◌, ◌<◌, ◌≤◌, length, get_or, set};
 ghost use Rattle.order.specs.Order.{next};
 ghost use Rattle.order.specs.Matrix.{marked, edge_of};

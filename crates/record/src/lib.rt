@@ -1,5 +1,6 @@
 // Records: the shape of each kind, and the record at a position.
 #![tactic(auto)]
+
 ghost use Rattle.std.specs.Prelude.{◌≡◌, ◌+◌, ◌<◌, length};
 ghost use Rattle.record.specs.Kinds.{shapes_of, shape_in};
 ghost use Rattle.record.specs.Record.{record_at, body_at};

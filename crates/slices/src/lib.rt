@@ -1,5 +1,6 @@
 // Parts of slices, and bytes read from slices and written to them.
 #![tactic(auto)]
+
 ghost use Rattle.std.specs.Prelude.{◌≡◌, ◌∷◌, [], ◌+◌, leb, length, get_or, take, drop};
 ghost use Rattle.slices.specs.Bytes.{overwrite};
 

@@ -1,5 +1,6 @@
 // Types of values: of a type byte, and of what the operators take and give.
 #![tactic(auto)]
+
 ghost use Rattle.std.specs.Prelude.{◌≡◌};
 ghost use Rattle.book.specs.Syntax.{type_of, same_type};
 ghost use Rattle.book.specs.Typing.{unary_type, operand_type};

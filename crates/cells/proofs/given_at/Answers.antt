@@ -1,7 +1,6 @@
 -- `cells::given_at` meets its contract.
 use Rattle.cells.specs.Cells.{given_at, given_of}
 use lib.ListN.{get_or-eq_default}
-use borrow.Author.Rules.{rules}
 use Rattle.cells.proofs.given_at.Goals as goal
 
 pub returns-then-at-cells : goal.returns-then-at-cells

@@ -1,7 +1,6 @@
 -- `cells::given_of` meets its contract.
 use Rattle.cells.specs.Cells.{given_of}
 use borrow.Author.Tests.{eq-eqb, ne_eqb}
-use borrow.Author.Rules.{rules}
 use Rattle.cells.proofs.given_of.Goals as goal
 
 pub returns-then-c-eq-NOTHING : goal.returns-then-c-eq-NOTHING

@@ -1,7 +1,6 @@
 -- `cells::join` meets its contract.
 use mathlib.Core.Path.{sym, ◌∙◌}
 use Rattle.cells.proofs.Joining.{join_case}
-use borrow.Author.Rules.{rules}
 use Rattle.cells.proofs.join.Goals as goal
 
 pub returns-in-Nothing-right : goal.returns-in-Nothing-right

@@ -1,7 +1,6 @@
 -- `cells::joined_of` meets its contract.
 use Rattle.cells.specs.Joining.{joined_of}
 use borrow.Author.Tests.{eq-eqb, ne_eqb, lt-ltb, le-ltb}
-use borrow.Author.Rules.{rules}
 use Rattle.cells.proofs.joined_of.Goals as goal
 
 pub returns-then-c-eq-NOTHING : goal.returns-then-c-eq-NOTHING

@@ -4,7 +4,6 @@ use borrow.Author.Tests.{lt-ltb, le-ltb}
 use mir.Facts.{to_z-of_z}
 use mir.Val.{SFits}
 use mir.Syntax.{w32}
-use borrow.Author.Rules.{rules}
 use Rattle.cells.proofs.value_in.Goals as goal
 
 pub returns-then-c-lt-ZERO : goal.returns-then-c-lt-ZERO

@@ -1,6 +1,5 @@
 -- `index::cell_at` meets its contract.
 use native.Mathlib.Omega.{arith}
-use borrow.Author.Rules.{rules}
 use Rattle.index.proofs.cell_at.Goals as goal
 
 pub overflow_cast-result : goal.overflow_cast-result

@@ -1,7 +1,6 @@
 -- `index::clause_at` meets its contract.
 use native.Mathlib.Omega.{arith}
 use Rattle.index.proofs.Rows.{clause_here, clause_past}
-use borrow.Author.Rules.{rules}
 use Rattle.index.proofs.clause_at.Goals as goal
 
 pub overflow_add-c : goal.overflow_add-c

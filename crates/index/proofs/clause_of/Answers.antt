@@ -3,7 +3,6 @@ use borrow.Author.Tests.{eq-eqb, ne_eqb}
 use Rattle.book.specs.Syntax.{clause_of}
 use Rattle.book.specs.Positions.{clause_from}
 use Rattle.index.proofs.Bodies.{after}
-use borrow.Author.Rules.{rules}
 use Rattle.index.proofs.clause_of.Goals as goal
 
 pub returns-then-book-at-eq-KIND_DEFINITION : goal.returns-then-book-at-eq-KIND_DEFINITION

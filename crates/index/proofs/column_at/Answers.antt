@@ -1,7 +1,6 @@
 -- `index::column_at` meets its contract.
 use mathlib.Core.Path.{◌∙◌}
 use Rattle.index.proofs.Rows.{column}
-use borrow.Author.Rules.{rules}
 use Rattle.index.proofs.column_at.Goals as goal
 
 pub returns : goal.returns

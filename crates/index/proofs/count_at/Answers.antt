@@ -1,7 +1,6 @@
 -- `index::count_at` meets its contract.
 use mathlib.Core.Path.{◌∙◌}
 use Rattle.index.proofs.Rows.{no_row, count}
-use borrow.Author.Rules.{rules}
 use Rattle.index.proofs.count_at.Goals as goal
 
 pub returns-then-i-ge-SCOPES : goal.returns-then-i-ge-SCOPES

@@ -1,7 +1,6 @@
 -- `index::node_at` meets its contract.
 use native.Mathlib.Omega.{arith}
 use Rattle.index.proofs.Rows.{node_here, node_past}
-use borrow.Author.Rules.{rules}
 use Rattle.index.proofs.node_at.Goals as goal
 
 pub overflow_add-n : goal.overflow_add-n

@@ -1,6 +1,5 @@
 -- `index::node_count` meets its contract.
 use mathlib.Core.Path.{◌∙◌}
-use borrow.Author.Rules.{rules}
 use Rattle.index.proofs.node_count.Goals as goal
 
 pub returns : goal.returns

@@ -8,7 +8,6 @@ use Rattle.record.specs.Kinds.{kinds, shapes_of, shape_in}
 use Rattle.book.specs.Syntax.{node_of}
 use Rattle.book.specs.Positions.{node_from, node_length}
 use Rattle.index.proofs.Bodies.{after, number_after, body_byte, kind_inside, default_inside}
-use borrow.Author.Rules.{rules}
 use Rattle.index.proofs.node_of.Goals as goal
 
 pub bounds-book-at : goal.bounds-book-at

@@ -4,7 +4,6 @@ use Prim.Native.Nat.{◌+◌}
 use Rattle.index.proofs.Bodies.{after}
 use Rattle.index.proofs.Rows.{sub_scope_here, sub_scope_past}
 use Rattle.book.specs.Positions.{sub_scope_from}
-use borrow.Author.Rules.{rules}
 use Rattle.index.proofs.sub_scope_at.Goals as goal
 
 pub overflow_add-k : goal.overflow_add-k

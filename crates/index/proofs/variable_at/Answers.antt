@@ -3,7 +3,6 @@ use native.Mathlib.Omega.{arith}
 use Rattle.index.proofs.Bodies.{after}
 use Rattle.index.proofs.Rows.{variable_here, variable_past}
 use Rattle.book.specs.Positions.{variable_from}
-use borrow.Author.Rules.{rules}
 use Rattle.index.proofs.variable_at.Goals as goal
 
 pub overflow_add-v : goal.overflow_add-v

@@ -1,7 +1,6 @@
 -- `integers::distance_at` meets its contract.
 use mathlib.Core.Path.{◌∙◌}
 use Rattle.integers.proofs.Endian.{part}
-use borrow.Author.Rules.{rules}
 use Rattle.integers.proofs.distance_at.Goals as goal
 
 pub returns : goal.returns

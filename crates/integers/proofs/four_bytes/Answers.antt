@@ -1,7 +1,6 @@
 -- `integers::four_bytes` meets its contract: four bytes at once where there are so many.
 use native.Mathlib.Omega.{arith}
 use Rattle.slices.specs.Bytes.{big_endian}
-use borrow.Author.Rules.{rules}
 use Rattle.integers.proofs.four_bytes.Goals as goal
 
 pub overflow_mul-result : goal.overflow_mul-result

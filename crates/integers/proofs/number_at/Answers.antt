@@ -5,7 +5,6 @@ use mir.Val.{to_z}
 use mir.Syntax.{w32}
 use mathlib.Core.Path.{ap}
 use Rattle.slices.specs.Bytes.{number_at}
-use borrow.Author.Rules.{rules}
 use Rattle.integers.proofs.number_at.Goals as goal
 
 pub returns : goal.returns

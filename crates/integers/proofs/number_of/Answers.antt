@@ -8,7 +8,6 @@ use mir.Val.{SFits}
 use mir.Facts.{to_z_pos, to_z-of_z}
 use borrow.Author.Tests.{le-ltb}
 use Rattle.integers.proofs.Signs.{flip_number}
-use borrow.Author.Rules.{rules}
 use Rattle.integers.proofs.number_of.Goals as goal
 use Rattle.integers.proofs.number_of.Goals.{Else-u-lt2147483648}
 

@@ -1,7 +1,6 @@
 -- `integers::two_bytes` meets its contract.
 use native.Mathlib.Omega.{arith}
 use Rattle.slices.specs.Bytes.{big_endian}
-use borrow.Author.Rules.{rules}
 use Rattle.integers.proofs.two_bytes.Goals as goal
 
 pub returns : goal.returns

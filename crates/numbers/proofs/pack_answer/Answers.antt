@@ -1,5 +1,4 @@
 -- `numbers::pack_answer` meets its contract.
-use borrow.Author.Rules.{rules}
 use Rattle.numbers.proofs.pack_answer.Goals as goal
 
 pub returns-in-Values : goal.returns-in-Values

@@ -1,5 +1,4 @@
 -- `numbers::pack_judged` meets its contract.
-use borrow.Author.Rules.{rules}
 use Rattle.numbers.proofs.pack_judged.Goals as goal
 
 pub returns-in-Accepted : goal.returns-in-Accepted

@@ -1,5 +1,4 @@
 -- `numbers::pack_produced` meets its contract.
-use borrow.Author.Rules.{rules}
 use Rattle.numbers.proofs.pack_produced.Goals as goal
 
 pub returns-in-Written : goal.returns-in-Written

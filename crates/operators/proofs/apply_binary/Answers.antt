@@ -1,4 +1,3 @@
-use borrow.Author.Rules.{rules}
 use mathlib.Core.Path.{◌≡◌}
 use mir.Syntax.{w32, w64}
 use mir.Val.{SFits, of_z, to_z}
@@ -6,13 +5,13 @@ use mir.Facts.{to_z-of_z}
 use Rattle.calculus.specs.Values.{number_of}
 use Rattle.calculus.proofs.Numbers.{number_fits, kept, sum_fits, difference_fits}
 use Rattle.operators.proofs.apply_binary.Goals as goal
-use Rattle.operators.proofs.apply_binary.Goals.{After-number_of-y, Start}
+use Rattle.operators.proofs.apply_binary.Goals.{After-number_of-y}
 
 -- the operands' numbers
-v-fits : (c : Start) → SFits w32 (number_of c.args.v)
+v-fits : (c : After-number_of-y) → SFits w32 (number_of c.args.v)
 v-fits c = number_fits c.args.v c.well_formed.1.0
 
-w_fits : (c : Start) → SFits w32 (number_of c.args.w)
+w_fits : (c : After-number_of-y) → SFits w32 (number_of c.args.w)
 w_fits c = number_fits c.args.w c.well_formed.1.1.0
 
 x-is : (c : After-number_of-y) → to_z w64 (of_z w64 c.number_of-x.result) ≡ number_of c.args.v

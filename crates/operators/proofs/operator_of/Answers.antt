@@ -1,6 +1,5 @@
 use borrow.Author.Tests.{ne_eqb}
 use Rattle.operators.specs.Kinds.{operator}
-use Rattle.operators.proofs.operator_of.Lts as lts
 use Rattle.operators.proofs.operator_of.Goals as goal
 
 pub returns-in-12 : goal.returns-in-12

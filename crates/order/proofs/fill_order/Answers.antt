@@ -1,6 +1,5 @@
 -- `order::fill_order` meets its contract: each of the three tests refuses what does not fit, and what fits is written.
 use native.Mathlib.Omega.{arith}
-use borrow.Author.Rules.{rules}
 use Rattle.order.proofs.Answer.{unfit_many, unfit_rows, unfit_room, filled_unfit}
 use Rattle.order.proofs.fill_order.Goals as goal
 

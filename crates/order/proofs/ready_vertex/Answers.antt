@@ -1,19 +1,15 @@
 -- `order::ready_vertex` meets its contract. The outer loop's invariant: each vertex below v rests, and what rows pass over is done. The inner
 -- one's: nothing below w that v depends on is unmet.
-use Prim.Native.Nat.{ℕ, ◌<◌, ◌≤◌, ◌+◌, ◌-◌}
-use mathlib.Core.Path.{◌≡◌, refl, sym, ◌∙◌}
+use Prim.Native.Nat.{◌+◌, ◌-◌}
+use mathlib.Core.Path.{refl, ◌∙◌}
 use mathlib.Core.Bool.{false}
-use mathlib.Core.Logic.{⊎_elim}
 use native.Mathlib.Omega.{arith}
 use borrow.Author.Rules.{rules}
-use lib.ListN.{length, get_or}
-use Rattle.order.specs.Order.{unmet}
-use Rattle.order.specs.Matrix.{marked, edge_of}
-use Rattle.order.specs.Memo.{Met, Resting}
 use Rattle.order.proofs.Matrix.{marked_true, marked_false, edge_false, edge_passed}
 use Rattle.order.proofs.Ready.{met_done, met_none, lacks_more}
 use Rattle.order.proofs.Memo.{met_start, rest_done, search_none, search_found, search_wait}
 use Rattle.order.proofs.ready_vertex.Goals as goal
+use Rattle.order.proofs.ready_vertex.Goals.{then-deps-v-eq0+else-done-w-eq0, else-deps-v-eq0, then-done-v-eq0+else-n-w+then-deps-v-eq0+then-done-w-eq0, else-done-v-eq0}
 
 pub search-init : goal.search-init
 search-init c = (omega arith, met_start _ _ _, search rules, refl)
@@ -40,10 +36,10 @@ pub loop-w-preserved : goal.loop-w-preserved
 loop-w-preserved c =
     let inv = c.loop-w.invariant in (
       omega arith,
-      lacks_more _ _ inv.1 (⊎_elim
-          (λ a. met_done _ _ _ _ (marked_true _ _ a.2.left))
-          (λ a. met_none _ _ _ _ (edge_false _ _ _ a.left))
-          c.if-deps-v-eq0.branch),
+      lacks_more _ _ inv.1 (elim c.if-deps-v-eq0.branch [
+        | then-deps-v-eq0+else-done-w-eq0 w ↦ met_done _ _ _ _ (marked_true _ _ w.if-done-w-eq0.false)
+        | else-deps-v-eq0 w ↦ met_none _ _ _ _ (edge_false _ _ _ w.if-deps-v-eq0.false)
+      ]),
       inv.2,
       inv.3,
     )
@@ -51,23 +47,23 @@ loop-w-preserved c =
 pub search-preserved : goal.search-preserved
 search-preserved c =
     let inv = c.search.invariant in
-    ⊎_elim
-    (λ a.
-    let new =
-    search_wait _ _ _ _ _ _ inv.1 inv.2 _ _ a.2.inv.2 a.2.inv.3 _ a.2.inv.1 (omega arith) (omega arith) (omega arith)
-    (omega (arith, inv.3)) (omega arith) a.2.inv.0 a.5.taken (marked_false _ _ a.7.taken) in (
-      omega arith,
-      rw (a.15, a.10.ensures.0) new.0,
-      rw (a.15, a.16, a.10.ensures.0, a.10.ensures.1) new.1,
-      rw (a.16, a.10.ensures.1) (new.2 ∙ inv.3),
-    ))
-    (λ a. (
-      omega arith,
-      rw a.1 inv.1,
-      rw (a.1, a.2) (rest_done _ _ _ _ _ inv.2 (marked_true _ _ a.0.left)),
-      rw a.2 inv.3,
-    ))
-    c.if-done-v-eq0.branch
+    elim c.if-done-v-eq0.branch [
+      | then-done-v-eq0+else-n-w+then-deps-v-eq0+then-done-w-eq0 a ↦
+          let new =
+          search_wait _ _ _ _ _ _ inv.1 inv.2 _ _ a.loop-w.invariant.2 a.loop-w.invariant.3 _ a.loop-w.invariant.1 (omega arith) (omega arith) (omega arith)
+          (omega (arith, inv.3)) (omega arith) a.loop-w.invariant.0 a.if-deps-v-eq0.true (marked_false _ _ a.if-done-w-eq0.true) in (
+            omega arith,
+            rw (a.deps-is, a.wait_for.ensures.0) new.0,
+            rw (a.deps-is, a.wakes-is, a.wait_for.ensures.0, a.wait_for.ensures.1) new.1,
+            rw (a.wakes-is, a.wait_for.ensures.1) (new.2 ∙ inv.3),
+          )
+      | else-done-v-eq0 a ↦ (
+        omega arith,
+        rw a.deps-is inv.1,
+        rw (a.deps-is, a.wakes-is) (rest_done _ _ _ _ _ inv.2 (marked_true _ _ a.if-done-v-eq0.false)),
+        rw a.wakes-is inv.3,
+      )
+    ]
 
 pub returns-then-v-n : goal.returns-then-v-n
 returns-then-v-n c = search_none _ _ _ _ _ _ c.search.invariant.1 c.search.invariant.2 c.if-v-n.true

@@ -1,17 +1,11 @@
 -- `order::ready_vertex` meets its contract. The outer loop's invariant: each vertex below v rests, and what rows pass over is done. The inner
 use Prim.Native.Nat.{ℕ, ◌<◌, ◌≤◌, ◌+◌, ◌-◌}
-use mathlib.Core.Path.{◌≡◌, refl, sym, ◌∙◌}
+use mathlib.Core.Path.{◌≡◌}
 use mathlib.Core.Bool.{false}
-use mathlib.Core.Logic.{⊎_elim}
-use native.Mathlib.Omega.{arith}
-use borrow.Author.Rules.{rules}
 use lib.ListN.{length, get_or}
 use Rattle.order.specs.Order.{unmet}
 use Rattle.order.specs.Matrix.{marked, edge_of}
 use Rattle.order.specs.Memo.{Met, Resting}
-use Rattle.order.proofs.Matrix.{marked_true, marked_false, edge_false, edge_passed}
-use Rattle.order.proofs.Ready.{met_done, met_none, lacks_more}
-use Rattle.order.proofs.Memo.{met_start, rest_done, search_none, search_found, search_wait}
 use Rattle.order.proofs.ready_vertex.Given as goal
 
 abbrev pub invariant-loop-w : goal.invariant-loop-w

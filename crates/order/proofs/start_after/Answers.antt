@@ -1,6 +1,5 @@
 -- `order::start_after` meets its contract.
 use native.Mathlib.Omega.{arith}
-use borrow.Author.Rules.{rules}
 use Rattle.order.proofs.start_after.Goals as goal
 
 pub overflow_cast-woken : goal.overflow_cast-woken

@@ -2,7 +2,6 @@
 use native.Mathlib.Omega.{arith}
 use mathlib.Core.Path.{refl}
 use Rattle.order.proofs.Memo.{woken_set, woken_kept}
-use borrow.Author.Rules.{rules}
 use Rattle.order.proofs.wait_for.Goals as goal
 
 pub overflow_cast-wakes : goal.overflow_cast-wakes

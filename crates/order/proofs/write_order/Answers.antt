@@ -1,13 +1,10 @@
 -- `order::write_order` meets its contract. The loop's invariant is `Filling`, `Met`: what rows pass over is done, and `Resting`: each vertex
 -- below the one at which a search starts is done or waits.
-use Prim.Native.Nat.{◌≤◌, ◌-◌}
-use mathlib.Core.Path.{◌≡◌, refl, ◌∙◌}
-use mathlib.Core.Logic.{⊎_elim}
+use Prim.Native.Nat.{◌-◌}
+use mathlib.Core.Path.{refl, ◌∙◌}
 use native.Mathlib.Omega.{arith}
 use borrow.Author.Rules.{rules}
-use lib.ListN.{length}
-use Rattle.order.specs.Memo.{Met, Resting}
-use Rattle.order.proofs.Filling.{Filling, start, turn, ended, full}
+use Rattle.order.proofs.Filling.{start, turn, ended, full}
 use Rattle.order.proofs.Memo.{met_start, met_mark, met_trans, met_next, rest_start, rest_mark}
 use Rattle.order.proofs.Ready.{next_bound}
 use Rattle.order.proofs.write_order.Goals as goal

@@ -1,14 +1,9 @@
 -- `order::write_order` meets its contract. The loop's invariant is `Filling`, `Met`: what rows pass over is done, and `Resting`: each vertex
 use Prim.Native.Nat.{◌≤◌, ◌-◌}
-use mathlib.Core.Path.{◌≡◌, refl, ◌∙◌}
-use mathlib.Core.Logic.{⊎_elim}
-use native.Mathlib.Omega.{arith}
-use borrow.Author.Rules.{rules}
+use mathlib.Core.Path.{◌≡◌}
 use lib.ListN.{length}
 use Rattle.order.specs.Memo.{Met, Resting}
-use Rattle.order.proofs.Filling.{Filling, start, turn, ended, full}
-use Rattle.order.proofs.Memo.{met_start, met_mark, met_trans, met_next, rest_start, rest_mark}
-use Rattle.order.proofs.Ready.{next_bound}
+use Rattle.order.proofs.Filling.{Filling}
 use Rattle.order.proofs.write_order.Given as goal
 
 abbrev pub invariant-loop-k : goal.invariant-loop-k

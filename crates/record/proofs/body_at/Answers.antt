@@ -1,6 +1,5 @@
 -- `record::body_at` meets its contract.
 use native.Mathlib.Nat.{add-sub_cancel_left}
-use borrow.Author.Rules.{rules}
 use Rattle.record.specs.Record.{body_at}
 use Rattle.record.proofs.body_at.Goals as goal
 

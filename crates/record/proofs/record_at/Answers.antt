@@ -1,7 +1,6 @@
 -- `record::record_at` meets its contract.
 use borrow.Author.Tests.{eq-eqb, ne_eqb, lt-ltb, le-ltb}
 use Rattle.record.specs.Record.{record_at}
-use borrow.Author.Rules.{rules}
 use Rattle.record.proofs.record_at.Goals as goal
 
 pub returns-then-s-at : goal.returns-then-s-at

@@ -1,6 +1,5 @@
 -- `record::shape_in` meets its contract.
 use Rattle.record.specs.Kinds.{shape_in}
-use borrow.Author.Rules.{rules}
 use Rattle.record.proofs.shape_in.Goals as goal
 
 pub returns-in-Book : goal.returns-in-Book

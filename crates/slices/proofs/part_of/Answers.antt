@@ -5,7 +5,6 @@ use lib.Seq.{take-nil, take_all}
 use lib.ListN.{take, drop, drop_of_length-le, length-drop, length}
 use mathlib.Core.Path.{sym, ap, ◌∙◌}
 use native.Mathlib.Nat.{add-sub_cancel_left}
-use borrow.Author.Rules.{rules}
 use Rattle.slices.proofs.part_of.Goals as goal
 
 pub returns-then-s-start : goal.returns-then-s-start

@@ -4,7 +4,6 @@ use mathlib.Core.List.{◌∷◌, []}
 use Prim.Native.Nat.{◌+◌, ◌≤◌}
 use native.Mathlib.Omega.{arith}
 use lib.ListN.{length}
-use borrow.Author.Rules.{rules}
 use borrow.Author.Tests.{leb-true, leb-false}
 use Rattle.slices.proofs.Overwrite.{stores, unfit}
 use Rattle.slices.proofs.put_byte.Goals as goal
