@@ -1,5 +1,6 @@
 // Faults 6, 7 and 8 of a book in one pass: for each scope one loop over its nodes and one over its clauses.
 #![tactic(auto)]
+
 ghost use Rattle.std.specs.Prelude.{◌≡◌, length, replicate};
 ghost use Rattle.book.specs.Decode.{scopes_of};
 ghost use Rattle.index.specs.Index.{Laid};

@@ -1,5 +1,6 @@
 // Judging a book: the first fault in the order written, or the number of its scopes; and the tables of an accepted book.
 #![tactic(auto)]
+
 ghost use Rattle.std.specs.Prelude.{◌≡◌};
 ghost use Rattle.book.specs.Decode.{scopes_of};
 ghost use Rattle.book.specs.Judge.{whole_book};

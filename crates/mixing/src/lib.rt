@@ -1,5 +1,6 @@
 // Fault 9: a rule and a definition on one target.
 #![tactic(auto)]
+
 ghost use Rattle.std.specs.Prelude.{◌≡◌, false, length};
 ghost use Rattle.book.specs.Decode.{scopes_of};
 ghost use Rattle.book.specs.References.{dangles};

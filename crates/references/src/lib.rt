@@ -1,5 +1,6 @@
 // Fault 6, a number that names nothing or what it may not: numbers by themselves, a clause's target and parent, and a scope's sub-scopes.
 #![tactic(auto)]
+
 ghost use Rattle.std.specs.Prelude.{◌≡◌, length, ltb};
 ghost use Rattle.book.specs.Syntax.{same_target};
 ghost use Rattle.book.specs.Decode.{scopes_of};
@@ -52,7 +53,7 @@ pub fn default_names(n: usize, x: u8, y: u8, z: u8, j: u8, c: u8) -> bool
 }
 
 // Whether two targets are one.
-fn same_target_lem(a: Target, b: Target) -> bool
+fn same_target(a: Target, b: Target) -> bool
     ensures { result ≡ same_target a b }
 {
     (a.sub == b.sub) & (a.variable == b.variable)
@@ -80,7 +81,7 @@ pub fn names_parent(book: &[u8], index: &[u16], i: usize, n: usize, p: u8, targe
     }
     let parent = clause_at(book, index, i, p as usize);
     let other = parent.target;
-    below(n, p) & same_target_lem(other, target)
+    below(n, p) & same_target(other, target)
 }
 
 // Whether some sub-scope of scope i names no scope.

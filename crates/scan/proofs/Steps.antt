@@ -10,7 +10,7 @@ use mathlib.Core.Bool.{Bool, true, false, not, cond, ◌&&◌, ◌||◌}
 use mathlib.Core.List.{List, [], ◌∷◌}
 use native.Mathlib.Omega.{arith}
 use native.Mathlib.Numerals.{add-one}
-use lib.ListN.{length, get_or, take, drop, length-drop, drop_of_length-le}
+use lib.ListN.{length, get_or, drop, length-drop, drop_of_length-le}
 use lib.Seq.{drop-cons, drop-drop}
 use lib.Dec.{eqb, ltb}
 use borrow.Author.Tests.{eqb-false, lt-ltb, ltb-true, ltb-false}
@@ -25,7 +25,7 @@ use Rattle.answers.specs.declared.Fault.{Fault}
 use Rattle.answers.specs.declared.Fault.TheVariants.{Truncated, UnknownKind, OutOfOrder, LimitExceeded, InvalidByte}
 use Rattle.book.specs.declared.Scanned.{Scanned}
 use Rattle.book.specs.declared.Scanned.TheVariants.{Sound, Faulty}
-use Rattle.book.specs.Records.{Met, stage_of, counted, records_from, start, follows, exceeds, invalid, unknown_kind, truncated, out_of_order, limit_exceeded, invalid_byte}
+use Rattle.book.specs.Records.{Met, stage_of, counted, records_from, follows, exceeds, invalid, unknown_kind, truncated, out_of_order, limit_exceeded, invalid_byte}
 use Rattle.book.specs.Judge.{scan}
 use Rattle.book.proofs.Shapes.{stage_below}
 use Rattle.book.proofs.Sound.{Clean, in_limits}

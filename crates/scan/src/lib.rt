@@ -1,5 +1,6 @@
 // The pass over the records of a book: the faults 1 to 5, and the index by which the records are found.
 #![tactic(auto)]
+
 ghost use Rattle.std.specs.Prelude.{◌≡◌, ◌<◌, ◌≤◌, length};
 ghost use Rattle.scan.specs.Step.{book_record_at, end_at, step_at, step_over};
 ghost use Rattle.scan.specs.Counting.{slot_of, number_of, scopes_with, tally_of, Counts, Counting};

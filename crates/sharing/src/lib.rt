@@ -1,5 +1,6 @@
 // Fault 7, a node that is named more than once: marks for the numbers that are named.
 #![tactic(auto)]
+
 ghost use Rattle.std.specs.Prelude.{[], ◌∷◌};
 ghost use Rattle.book.specs.Sharing.{unless255};
 ghost use Rattle.sharing.specs.Marks.{Marking};

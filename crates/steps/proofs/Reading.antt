@@ -1,5 +1,4 @@
 -- What nodes and clauses read, by the nodes that they name.
---     leaf            a node that itself reads no step and names no node
 --     node_reads_lem      a node reads what it itself does and what its operands do
 --     clause_reads_lem    a clause reads what the nodes that it names do
 --     few_rows        a clause that names what is there belongs to one of 40 steps
@@ -13,8 +12,6 @@ use native.Mathlib.Omega.{arith}
 use lib.ListN.{length, get_or}
 use lib.Dec.{eqb, ltb}
 use borrow.Author.Tests.{ne_eqb, ltb-true}
-use denote.Enum.Declared.{tag_of}
-use types.Run.{OneOf, miss}
 use Rattle.order.specs.Order.{among}
 use Rattle.laws.proofs.Booleans.{decide, both}
 use Rattle.order.proofs.Among.{among_at}
@@ -32,24 +29,11 @@ use Rattle.book.specs.declared.Consequence.TheVariants.{Of, Fixed}
 use Rattle.book.specs.declared.Clause.{Clause}
 use Rattle.book.specs.Limits.{Within}
 use Rattle.book.specs.Positions.{clause_at}
-use Rattle.book.specs.contracts.Node.{the_type}
 use Rattle.book.proofs.Naming.{named_clauses, scope_sound}
 use Rattle.book.proofs.Terms.{term_here}
 use Rattle.book.proofs.Searches.{any_same}
 use Rattle.steps.specs.Edges.{own_step, step_with}
 use Rattle.steps.specs.Owners.{node_reads}
-
-pub leaf : (v : ℕ) (nd : Node) → OneOf (0 ∷ 1 ∷ 4 ∷ 5 ∷ []) (tag_of the_type nd) → (own_step v nd ≡ 40) × (operands nd ≡ [])
-leaf v (node.Constant b) h = (refl, refl)
-leaf v (node.Number z) h = (refl, refl)
-leaf v (node.Own x) h = absurd (miss (0 ∷ 1 ∷ 4 ∷ 5 ∷ []) 2 tt h)
-leaf v (node.Called k x) h = absurd (miss (0 ∷ 1 ∷ 4 ∷ 5 ∷ []) 3 tt h)
-leaf v (node.Empty t) h = (refl, refl)
-leaf v (node.Conflict t) h = (refl, refl)
-leaf v (node.Unary op a) h = absurd (miss (0 ∷ 1 ∷ 4 ∷ 5 ∷ []) 6 tt h)
-leaf v (node.Binary op a b) h = absurd (miss (0 ∷ 1 ∷ 4 ∷ 5 ∷ []) 7 tt h)
-leaf v (node.Choice c a b) h = absurd (miss (0 ∷ 1 ∷ 4 ∷ 5 ∷ []) 8 tt h)
-leaf v (node.Default x y z j c) h = absurd (miss (0 ∷ 1 ∷ 4 ∷ 5 ∷ []) 9 tt h)
 
 module _ (v w : ℕ) (lower : ℕ → Term) where
   of : ℕ → Bool

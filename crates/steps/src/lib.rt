@@ -1,5 +1,6 @@
 // The order of a book's blocks and the order of each scope's steps: faults 10 and 12.
 #![tactic(auto)]
+
 ghost use Rattle.std.specs.Prelude.{◌≡◌, [], ◌∷◌, ◌≤◌, length, replicate};
 ghost use Rattle.order.specs.Order.{order};
 ghost use Rattle.order.specs.Matrix.{edge_of};

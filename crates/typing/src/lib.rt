@@ -1,5 +1,6 @@
 // Fault 8, a type that does not fit: the types of variables and of the nodes of a table.
 #![tactic(auto)]
+
 ghost use Rattle.std.specs.Prelude.{◌≡◌};
 ghost use Rattle.book.specs.Decode.{scopes_of};
 ghost use Rattle.index.specs.Index.{Laid};

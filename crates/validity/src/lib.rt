@@ -1,5 +1,6 @@
 // Whether a record stands where it may, and whether its bytes have values that they may have: faults 3 and 5, for book and code.
 #![tactic(auto)]
+
 ghost use Rattle.std.specs.Prelude.{◌≡◌, ◌||◌, eqb};
 ghost use Rattle.book.specs.Records.{follows, invalid};
 

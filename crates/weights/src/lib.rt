@@ -1,5 +1,6 @@
 // Fault 11: the weights of the scopes, along the order of blocks.
 #![tactic(auto)]
+
 ghost use Rattle.std.specs.Prelude.{◌≡◌, ◌≤◌, length};
 ghost use Rattle.book.specs.Decode.{scopes_of};
 ghost use Rattle.book.specs.References.{scope_at};

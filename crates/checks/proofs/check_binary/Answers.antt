@@ -1,5 +1,4 @@
 -- `checks::check_binary` meets its contract.
-use borrow.Author.Rules.{rules}
 use Rattle.book.specs.References.{node_names}
 use Rattle.references.specs.Dangling.{both_below}
 use Rattle.sharing.proofs.Marks.{marked_then}

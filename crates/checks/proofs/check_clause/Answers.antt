@@ -1,7 +1,6 @@
 -- `checks::check_clause` meets its contract.
 use Rattle.sharing.proofs.Marks.{marked_unless}
 use Rattle.checks.proofs.Clause.{clause_named, clause_fits_lem}
-use borrow.Author.Rules.{rules}
 use Rattle.checks.proofs.check_clause.Goals as goal
 
 pub returns : goal.returns

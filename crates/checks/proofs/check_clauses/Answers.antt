@@ -1,10 +1,6 @@
 -- `checks::check_clauses` meets its contract. The invariant of its loop is `Clauses`.
-use Prim.Native.Nat.{◌-◌}
 use mathlib.Core.Path.{refl}
-use native.Mathlib.Omega.{arith}
-use borrow.Author.Rules.{rules}
-use Rattle.book.specs.Decode.{scopes_of}
-use Rattle.checks.proofs.Passes.{Clauses, clauses_start, clause_marks, clause_length, clause_dangles_lem, clause_turn, clauses_end}
+use Rattle.checks.proofs.Passes.{clauses_start, clause_marks, clause_length, clause_dangles_lem, clause_turn, clauses_end}
 use Rattle.checks.proofs.check_clauses.Goals as goal
 
 pub loop-n-init : goal.loop-n-init

@@ -1,7 +1,6 @@
 -- `checks::check_condition` meets its contract.
 use borrow.Author.Tests.{eq-eqb, ne_eqb}
 use Rattle.sharing.proofs.Marks.{marked_none}
-use borrow.Author.Rules.{rules}
 use Rattle.checks.proofs.check_condition.Goals as goal
 
 pub returns-then-condition-eq255 : goal.returns-then-condition-eq255

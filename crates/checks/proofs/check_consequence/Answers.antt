@@ -1,7 +1,6 @@
 -- `checks::check_consequence` meets its contract.
 use Rattle.sharing.proofs.Marks.{marked_none}
 use Rattle.checks.specs.Findings.{consequence_names}
-use borrow.Author.Rules.{rules}
 use Rattle.checks.proofs.check_consequence.Goals as goal
 
 pub returns-in-Of : goal.returns-in-Of

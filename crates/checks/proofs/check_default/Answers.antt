@@ -1,5 +1,4 @@
 -- `checks::check_default` meets its contract.
-use borrow.Author.Rules.{rules}
 use Rattle.book.specs.References.{node_names}
 use Rattle.references.specs.Dangling.{both_below, default_names}
 use Rattle.sharing.proofs.Marks.{marked_then, marked_unless}

@@ -1,5 +1,4 @@
 -- `checks::check_leaf` meets its contract.
-use borrow.Author.Rules.{rules}
 use Rattle.checks.specs.Findings.{leaf_finding}
 use Rattle.checks.proofs.check_leaf.Goals as goal
 

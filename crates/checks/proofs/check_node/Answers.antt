@@ -1,5 +1,4 @@
 -- `checks::check_node` meets its contract.
-use borrow.Author.Rules.{rules}
 use mathlib.Core.Path.{refl, ap}
 use Rattle.book.specs.References.{node_names}
 use Rattle.typing.specs.Types.{own_type, called_type}

@@ -1,9 +1,5 @@
 -- `checks::check_nodes` meets its contract. The invariant of its loop is `Nodes`.
-use Prim.Native.Nat.{◌-◌}
-use native.Mathlib.Omega.{arith}
-use borrow.Author.Rules.{rules}
-use Rattle.book.specs.Decode.{scopes_of}
-use Rattle.checks.proofs.Passes.{Nodes, nodes_start, marks_length, types_length, in_table, step_length, node_dangles_lem, node_turn, nodes_end}
+use Rattle.checks.proofs.Passes.{nodes_start, marks_length, types_length, in_table, step_length, node_dangles_lem, node_turn, nodes_end}
 use Rattle.checks.proofs.check_nodes.Goals as goal
 
 pub loop-n-init : goal.loop-n-init

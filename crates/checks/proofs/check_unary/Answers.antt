@@ -1,5 +1,4 @@
 -- `checks::check_unary` meets its contract.
-use borrow.Author.Rules.{rules}
 use Rattle.book.specs.References.{node_names}
 use Rattle.checks.specs.Findings.{type_byte, node_suits}
 use Rattle.checks.proofs.check_unary.Goals as goal

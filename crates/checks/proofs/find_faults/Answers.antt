@@ -1,19 +1,15 @@
 -- `checks::find_faults` meets its contract. The invariant: nothing dangles in the scopes below i, and whether one of them shares, or has a
 -- type that does not fit, is known.
-use Prim.Native.Nat.{◌-◌}
-use mathlib.Core.Bool.{false, true≢false}
+use mathlib.Core.Bool.{true≢false}
 use mathlib.Core.Path.{sym, ◌∙◌}
-use native.Mathlib.Omega.{arith}
-use borrow.Author.Rules.{rules}
 use Rattle.book.specs.Syntax.{empty_scope}
-use Rattle.book.specs.Decode.{scopes_of}
-use Rattle.book.specs.References.{dangles_in, dangles}
+use Rattle.book.specs.References.{dangles}
 use Rattle.book.specs.Sharing.{shares}
-use Rattle.book.specs.Typing.{mismatch_in, mismatches}
+use Rattle.book.specs.Typing.{mismatches}
 use Rattle.book.proofs.Searches.{start}
-use Rattle.book.proofs.Scopes.{Passed, stopped, next, finished}
+use Rattle.book.proofs.Scopes.{stopped, next, finished}
 use Rattle.checks.specs.Findings.{shares_in}
-use Rattle.checks.proofs.Gathered.{Gathered, more, whole}
+use Rattle.checks.proofs.Gathered.{more, whole}
 use Rattle.checks.proofs.Gathered.{start as none}
 use Rattle.checks.proofs.find_faults.Goals as goal
 

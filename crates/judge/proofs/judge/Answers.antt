@@ -1,6 +1,5 @@
 -- `judge::judge` meets its contract.
 use Rattle.scan.proofs.Beginnings.{few_rows, all_rows}
-use borrow.Author.Rules.{rules}
 use Rattle.judge.proofs.judge.Goals as goal
 
 pub judge_in-requires : goal.judge_in-requires

@@ -2,7 +2,6 @@
 use Rattle.judge.proofs.Faults.{refused, whole_order, cycle, no_cycle, cycle_first, weight_next, steps_last, none_left}
 use Rattle.book.specs.Decode.{scopes_of}
 use mathlib.Core.Path.{sym, ◌∙◌}
-use borrow.Author.Rules.{rules}
 use Rattle.judge.proofs.judge_orders.Goals as goal
 
 pub block_order-requires : goal.block_order-requires

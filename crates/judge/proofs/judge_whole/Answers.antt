@@ -2,11 +2,10 @@
 use Rattle.judge.proofs.Faults.{refused, dangling, shared, mismatched, mixed, orders_left}
 use Rattle.book.specs.Decode.{scopes_of}
 use mathlib.Core.Path.{sym, ◌∙◌}
-use borrow.Author.Rules.{rules}
 use Rattle.judge.proofs.judge_whole.Goals as goal
 
 pub find_faults-found-requires : goal.find_faults-found-requires
-find_faults-found-requires c = (c.requires.0.filled.laid, c.requires.0.filled.scopes)
+find_faults-found-requires c = record { fact_1 = c.requires.0.filled.laid; fact_2 = c.requires.0.filled.scopes }
 
 pub returns-then-found : goal.returns-then-found
 returns-then-found c = refused (dangling (scopes_of c.args.book.now) (sym c.find_faults-found.ensures.dangling ∙ c.if-found.true))
@@ -25,7 +24,12 @@ returns-then-found-3 c =
 
 pub has_mixed-requires : goal.has_mixed-requires
 has_mixed-requires c =
-    (c.requires.0.filled.laid, (c.requires.0.filled.scopes, (sym c.find_faults-found.ensures.dangling ∙ c.if-found.false, c.requires.0.filled.laid.within)))
+    record {
+      fact_1 = c.requires.0.filled.laid;
+      fact_2 = c.requires.0.filled.scopes;
+      fact_3 = sym c.find_faults-found.ensures.dangling ∙ c.if-found.false;
+      fact_4 = c.requires.0.filled.laid.within;
+    }
 
 pub returns-then-has_mixed : goal.returns-then-has_mixed
 returns-then-has_mixed c =

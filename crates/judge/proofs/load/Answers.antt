@@ -2,7 +2,6 @@
 use Rattle.judge.proofs.Faults.{refused, long, faulty, sound, read_sound, read_fault}
 use mathlib.Core.Path.{◌∙◌}
 use native.Mathlib.Omega.{arith}
-use borrow.Author.Rules.{rules}
 use Rattle.judge.proofs.load.Goals as goal
 
 pub returns-then-book-gt32768 : goal.returns-then-book-gt32768

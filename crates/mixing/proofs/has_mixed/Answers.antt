@@ -1,13 +1,10 @@
 -- `mixing::has_mixed` meets its contract. The invariant of its loop is `Passed`, and its laws give the rest.
-use Prim.Native.Nat.{◌-◌}
-use native.Mathlib.Omega.{arith}
-use borrow.Author.Rules.{rules}
-use Rattle.book.specs.Decode.{scopes_of}
-use Rattle.book.specs.Mixing.{mixed_in, mixes}
+use Rattle.book.specs.Mixing.{mixes}
 use Rattle.mixing.specs.Marks.{mixed_at}
 use Rattle.book.proofs.Searches.{start}
-use Rattle.book.proofs.Scopes.{Passed, stopped, next, finished}
+use Rattle.book.proofs.Scopes.{stopped, next, finished}
 use Rattle.mixing.proofs.has_mixed.Goals as goal
+use Rattle.mixing.proofs.has_mixed.Goals.{In-loop-i}
 
 pub loop-i-init : goal.loop-i-init
 loop-i-init c = start _ _

@@ -1,12 +1,8 @@
 -- `mixing::has_mixed` meets its contract. The invariant of its loop is `Passed`, and its laws give the rest.
 use Prim.Native.Nat.{◌-◌}
-use native.Mathlib.Omega.{arith}
-use borrow.Author.Rules.{rules}
 use Rattle.book.specs.Decode.{scopes_of}
-use Rattle.book.specs.Mixing.{mixed_in, mixes}
-use Rattle.mixing.specs.Marks.{mixed_at}
-use Rattle.book.proofs.Searches.{start}
-use Rattle.book.proofs.Scopes.{Passed, stopped, next, finished}
+use Rattle.book.specs.Mixing.{mixed_in}
+use Rattle.book.proofs.Scopes.{Passed}
 use Rattle.mixing.proofs.has_mixed.Given as goal
 
 abbrev pub invariant-loop-i : goal.invariant-loop-i

@@ -1,18 +1,17 @@
 -- `mixing::mixed_at` meets its contract. The invariant of its loop is `Marking`.
-use Prim.Native.Nat.{ℕ, ◌-◌, ◌<◌}
+use Prim.Native.Nat.{ℕ, ◌<◌}
 use mathlib.Core.List.{List}
-use mathlib.Core.Logic.{inl, inr, ⊎_elim}
+use mathlib.Core.Logic.{inl, inr}
 use native.Mathlib.Omega.{arith}
-use borrow.Author.Rules.{rules}
 use lib.ListN.{length}
 use Rattle.book.specs.Decode.{scopes_of}
 use Rattle.book.specs.References.{scope_at}
 use Rattle.book.specs.Syntax.{Scope}
 use Rattle.book.specs.Positions.{clause_at}
 use Rattle.mixing.proofs.Targets.{Ranged, ranged}
-use Rattle.mixing.proofs.Marking.{Read, Marking, start, room_at, turn, found, ended}
+use Rattle.mixing.proofs.Marking.{Read, start, room_at, turn, found, ended}
 use Rattle.mixing.proofs.mixed_at.Goals as goal
-use Rattle.mixing.proofs.mixed_at.Goals.{After-mark_of-mark}
+use Rattle.mixing.proofs.mixed_at.Goals.{After-mark_of-mark, else-seen-at-ne0, then-seen-at-ne0+else-seen-at}
 
 pub loop-n-init : goal.loop-n-init
 loop-n-init c = start _ _
@@ -55,7 +54,10 @@ pub loop-n-preserved : goal.loop-n-preserved
 loop-n-preserved c =
     let marked = (goal.at.loop-n-preserved c).After-mark_of-mark in
     turn _ _ _ _ marked.loop-n.invariant (all marked) _ _ (read marked)
-    (⊎_elim (λ w. inr w.1.left) (λ w. inl w.left) c.if-seen-at-ne0.branch)
+    (elim c.if-seen-at-ne0.branch [
+      | then-seen-at-ne0+else-seen-at w ↦ inr w.if-seen-at.false
+      | else-seen-at-ne0 w ↦ inl w.if-seen-at-ne0.false
+    ])
 
 pub returns : goal.returns
 returns c = ended _ _ _ _ c.loop-n.invariant (rw (← c.clause_count-count.ensures) c.loop-n-test.false)

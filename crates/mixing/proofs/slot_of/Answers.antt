@@ -1,7 +1,6 @@
 -- `mixing::slot_of` meets its contract.
 use borrow.Author.Tests.{eq-eqb, ne_eqb}
 use Rattle.mixing.specs.Marks.{slot_of}
-use borrow.Author.Rules.{rules}
 use Rattle.mixing.proofs.slot_of.Goals as goal
 
 pub returns-then-sub : goal.returns-then-sub

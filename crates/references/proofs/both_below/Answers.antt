@@ -1,6 +1,5 @@
 -- `references::both_below` meets its contract.
 use Rattle.references.specs.Dangling.{both_below}
-use borrow.Author.Rules.{rules}
 use Rattle.references.proofs.both_below.Goals as goal
 
 pub returns : goal.returns

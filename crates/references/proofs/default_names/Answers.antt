@@ -1,6 +1,5 @@
 -- `references::default_names` meets its contract.
 use Rattle.references.specs.Dangling.{default_names}
-use borrow.Author.Rules.{rules}
 use Rattle.references.proofs.default_names.Goals as goal
 
 pub returns : goal.returns

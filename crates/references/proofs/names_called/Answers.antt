@@ -1,7 +1,6 @@
 -- `references::names_called` meets its contract.
 use Rattle.book.specs.Positions.{sub_scope_at}
 use Rattle.book.specs.References.{names_called}
-use borrow.Author.Rules.{rules}
 use Rattle.references.proofs.names_called.Goals as goal
 
 pub returns-then-below : goal.returns-then-below

@@ -4,15 +4,11 @@ use mathlib.Core.Bool.{Bool, ◌&&◌}
 use Rattle.references.specs.Dangling.{parent_names}
 use Rattle.book.specs.Positions.{clause_at}
 use borrow.Author.Tests.{eq-eqb, ne_eqb}
-use borrow.Author.Rules.{rules}
 use Rattle.references.proofs.names_parent.Goals as goal
 
 pub returns-then-p-eq255 : goal.returns-then-p-eq255
 unfolding parent_names
 returns-then-p-eq255 c = rw (eq-eqb _ _ c.if-p-eq255.true)
-
--- ??? same-target-requires : tie.Need-same-target-requires
-same-target-requires c κs = search rules
 
 pub returns : goal.returns
 unfolding parent_names clause_at

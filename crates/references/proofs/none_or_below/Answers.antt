@@ -1,6 +1,5 @@
 -- `references::none_or_below` meets its contract.
 use borrow.Author.Tests.{eq-eqb, ne_eqb}
-use borrow.Author.Rules.{rules}
 use Rattle.references.proofs.none_or_below.Goals as goal
 
 pub returns-then-e-eq255 : goal.returns-then-e-eq255

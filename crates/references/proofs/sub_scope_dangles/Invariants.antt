@@ -1,13 +1,8 @@
 -- `references::sub_scope_dangles` meets its contract. The invariant of its loop is `Sought`.
-use Rattle.book.specs.Positions.{sub_scope_at}
-use Rattle.references.specs.Dangling.{sub_scope_dangles, wrong_sub_scope}
-use borrow.Author.Tests.{le-ltb, lt-ltb}
-use Rattle.book.proofs.Searches.{Sought, start, turn, found, ended, any_from_lem}
+use Rattle.references.specs.Dangling.{wrong_sub_scope}
+use Rattle.book.proofs.Searches.{Sought}
 use Rattle.book.specs.References.{scope_at}
 use Rattle.book.specs.Decode.{scopes_of}
-use borrow.Author.Rules.{rules}
-use native.Mathlib.Omega.{arith}
-use mathlib.Core.Path.{◌∙◌}
 use Prim.Native.Nat.{◌-◌}
 use Rattle.references.proofs.sub_scope_dangles.Given as goal
 

@@ -1,7 +1,6 @@
 -- `references::target_scope` meets its contract.
 use Rattle.references.specs.Dangling.{target_scope}
 use borrow.Author.Tests.{eq-eqb, ne_eqb}
-use borrow.Author.Rules.{rules}
 use Rattle.references.proofs.target_scope.Goals as goal
 
 pub returns-then-sub-eq255 : goal.returns-then-sub-eq255

@@ -1,5 +1,4 @@
 -- `scan::book_record_at` meets its contract.
-use borrow.Author.Rules.{rules}
 use Rattle.scan.specs.Step.{book_record_at}
 use Rattle.scan.proofs.book_record_at.Goals as goal
 

@@ -1,7 +1,6 @@
 -- `scan::end_at` meets its contract.
 use borrow.Author.Tests.{lt-ltb, le-ltb}
 use Rattle.scan.specs.Step.{end_at}
-use borrow.Author.Rules.{rules}
 use Rattle.scan.proofs.end_at.Goals as goal
 
 pub returns-then-book-at : goal.returns-then-book-at

@@ -1,5 +1,4 @@
 -- `scan::has_few_scopes` meets its contract.
-use borrow.Author.Rules.{rules}
 use Rattle.scan.proofs.Beginnings.{not_seen, seen}
 use Rattle.scan.proofs.has_few_scopes.Goals as goal
 

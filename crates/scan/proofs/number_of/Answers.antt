@@ -2,7 +2,6 @@
 use Prim.Native.Nat.{◌+◌, ◌-◌, ◌*◌}
 use native.Mathlib.Omega.{arith}
 use Rattle.scan.proofs.Tallies.{number_one, number_more}
-use borrow.Author.Rules.{rules}
 use Rattle.scan.proofs.number_of.Goals as goal
 
 pub returns-then-stage-lt2 : goal.returns-then-stage-lt2

@@ -1,11 +1,8 @@
 -- `scan::scope_bytes` meets its contract.
 use Prim.Native.Nat.{◌+◌, ◌-◌, ◌≤◌}
 use mathlib.Core.Path.{◌≡◌}
-use mathlib.Core.Logic.{⊎_elim}
-use native.Mathlib.Omega.{arith}
 use lib.ListN.{length, drop}
 use Rattle.scan.specs.Filling.{scope_bytes}
-use Rattle.scan.proofs.Beginnings.{count_one, count_none, count_end}
 use Rattle.scan.proofs.scope_bytes.Given as goal
 
 abbrev pub invariant-loop-at : goal.invariant-loop-at

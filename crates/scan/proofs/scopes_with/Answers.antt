@@ -1,5 +1,4 @@
 -- `scan::scopes_with` meets its contract.
-use borrow.Author.Rules.{rules}
 use borrow.Author.Tests.{eq-eqb, ne_eqb}
 use Rattle.scan.specs.Counting.{scopes_with}
 use Rattle.scan.proofs.scopes_with.Goals as goal

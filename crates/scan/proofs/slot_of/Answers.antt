@@ -1,4 +1,5 @@
 -- `scan::slot_of` meets its contract.
+use Rattle.std.proofs.Common.{◌≡◌, arith}
 use borrow.Author.Tests.{ne_eqb}
 use Rattle.scan.specs.Counting.{slot_of}
 use Rattle.scan.proofs.slot_of.Goals as goal
@@ -23,4 +24,8 @@ pub returns-in_default : goal.returns-in_default
 unfolding slot_of
 returns-in_default c =
     let s = c.args.stage in
-    rw (ne_eqb s 1 c.in_default.in_default-own.rest.0.0.0.1, ne_eqb s 2 c.in_default.in_default-own.rest.0.0.1, ne_eqb s 3 c.in_default.in_default-own.rest.0.1, ne_eqb s 4 c.in_default.in_default-own.rest.1)
+    let n1 : s ≡ 1 → ⊥ = omega arith in
+    let n2 : s ≡ 2 → ⊥ = omega arith in
+    let n3 : s ≡ 3 → ⊥ = omega arith in
+    let n4 : s ≡ 4 → ⊥ = omega arith in
+    rw (ne_eqb s 1 n1, ne_eqb s 2 n2, ne_eqb s 3 n3, ne_eqb s 4 n4)

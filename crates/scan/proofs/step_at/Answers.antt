@@ -3,7 +3,6 @@ use mathlib.Core.Path.{sym, ◌∙◌}
 use native.Mathlib.Omega.{arith}
 use Rattle.record.specs.declared.Record.TheVariants.{End, Unknown, Truncated}
 use Rattle.scan.proofs.Steps.{as_record, by_record_lem, whole_step, whole_record}
-use borrow.Author.Rules.{rules}
 use Rattle.scan.proofs.step_at.Goals as goal
 
 pub body_at-body-requires : goal.body_at-body-requires

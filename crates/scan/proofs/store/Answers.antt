@@ -1,7 +1,6 @@
 -- `scan::store` meets its contract.
 use native.Mathlib.Omega.{arith}
 use Rattle.scan.proofs.Stores.{none, one, few, count_room}
-use borrow.Author.Rules.{rules}
 use Rattle.scan.proofs.store.Goals as goal
 
 pub returns-then-stage-lt2 : goal.returns-then-stage-lt2

@@ -1,7 +1,6 @@
 -- `sharing::mark` meets its contract.
 use native.Mathlib.Omega.{arith}
 use Rattle.sharing.proofs.Marks.{marked_past, marked_new, marked_again}
-use borrow.Author.Rules.{rules}
 use Rattle.sharing.proofs.mark.Goals as goal
 
 pub returns-then-marks-at : goal.returns-then-marks-at

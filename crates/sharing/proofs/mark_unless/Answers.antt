@@ -1,7 +1,6 @@
 -- `sharing::mark_unless` meets its contract.
 use borrow.Author.Tests.{eq-eqb, ne_eqb}
 use Rattle.sharing.proofs.Marks.{marked_none}
-use borrow.Author.Rules.{rules}
 use Rattle.sharing.proofs.mark_unless.Goals as goal
 
 pub returns-then-w-eq255 : goal.returns-then-w-eq255

@@ -1,7 +1,6 @@
 -- `steps::block_order` meets its contract.
 use native.Mathlib.Omega.{arith}
 use Rattle.steps.proofs.Orders.{blocks_written}
-use borrow.Author.Rules.{rules}
 use Rattle.steps.proofs.block_order.Goals as goal
 
 pub returns : goal.returns

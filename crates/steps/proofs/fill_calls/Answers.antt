@@ -1,11 +1,6 @@
 -- `steps::fill_calls` meets its contract. The loop's invariant: with the calls of the scopes from i on, all calls are marked.
-use Prim.Native.Nat.{◌≤◌, ◌-◌}
 use native.Mathlib.Omega.{arith}
-use borrow.Author.Rules.{rules}
-use Rattle.book.specs.Decode.{scopes_of}
-use Rattle.book.specs.Scopes.{calls}
-use Rattle.steps.proofs.Marking.{Marking}
-use Rattle.steps.proofs.Calls.{rows_left, rows_start, rows_turn, rows_done}
+use Rattle.steps.proofs.Calls.{rows_start, rows_turn, rows_done}
 use Rattle.steps.proofs.fill_calls.Goals as goal
 
 pub loop-i-init : goal.loop-i-init

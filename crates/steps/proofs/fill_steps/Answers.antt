@@ -1,10 +1,8 @@
 -- `steps::fill_steps` meets its contract. The loop's invariant is `Filling`.
-use Prim.Native.Nat.{◌-◌}
 use native.Mathlib.Omega.{arith}
-use borrow.Author.Rules.{rules}
-use Rattle.book.specs.Decode.{scopes_of}
-use Rattle.steps.proofs.Rows.{Filling, begin, stopped, filled, fill}
+use Rattle.steps.proofs.Rows.{begin, stopped, filled, fill}
 use Rattle.steps.proofs.fill_steps.Goals as goal
+use Rattle.steps.proofs.fill_steps.Goals.{After-step_order-taken}
 
 pub loop-i-init : goal.loop-i-init
 loop-i-init c = begin _ _
@@ -19,7 +17,7 @@ pub loop-i-preserved : goal.loop-i-preserved
 loop-i-preserved c =
     let m = (goal.at.loop-i-preserved c).After-step_order-taken in
     fill _ _ _ _ m.loop-i.invariant m.requires.0.laid.within
-    (omega arith) (omega arith) (omega arith) _ _ _ m.step_order-taken.ensures m.step_order-taken.auto.1.1.1.0
+    (omega arith) (omega arith) (omega arith) _ _ _ m.step_order-taken.ensures m.step_order-taken.auto.out
     c.step_count-steps.ensures c.if-taken-steps.false
 
 pub shape_of-orders : goal.shape_of-orders

@@ -1,9 +1,7 @@
 -- `steps::fill_steps` meets its contract. The loop's invariant is `Filling`.
 use Prim.Native.Nat.{◌-◌}
-use native.Mathlib.Omega.{arith}
-use borrow.Author.Rules.{rules}
 use Rattle.book.specs.Decode.{scopes_of}
-use Rattle.steps.proofs.Rows.{Filling, begin, stopped, filled, fill}
+use Rattle.steps.proofs.Rows.{Filling}
 use Rattle.steps.proofs.fill_steps.Given as goal
 
 abbrev pub invariant-loop-i : goal.invariant-loop-i

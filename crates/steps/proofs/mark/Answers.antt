@@ -1,9 +1,9 @@
 -- `steps::mark` meets its contract.
 use Prim.Native.Nat.{◌+◌}
 use native.Mathlib.Omega.{arith}
-use borrow.Author.Rules.{rules}
 use Rattle.steps.proofs.Marking.{no_row, no_column, zeroed, one_kept, one_lower}
 use Rattle.steps.proofs.mark.Goals as goal
+use Rattle.steps.proofs.mark.Goals.{Start}
 
 pub returns-then-v-ge-WIDTH : goal.returns-then-v-ge-WIDTH
 returns-then-v-ge-WIDTH c = no_row _ _ _ c.if-v-ge-WIDTH.true

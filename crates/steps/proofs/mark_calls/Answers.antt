@@ -1,12 +1,8 @@
 -- `steps::mark_calls` meets its contract. The loop's invariant: with the calls of the sub-scopes from the k-th on, all of the scope's calls are marked.
-use Prim.Native.Nat.{◌≤◌, ◌-◌}
 use native.Mathlib.Omega.{arith}
-use borrow.Author.Rules.{rules}
-use Rattle.book.specs.Decode.{scopes_of}
-use Rattle.steps.specs.Edges.{call_edges}
-use Rattle.steps.proofs.Marking.{Marking}
-use Rattle.steps.proofs.Calls.{calls_left, calls_start, calls_turn, calls_done}
+use Rattle.steps.proofs.Calls.{calls_start, calls_turn, calls_done}
 use Rattle.steps.proofs.mark_calls.Goals as goal
+use Rattle.steps.proofs.mark_calls.Goals.{After-sub_scope_at-called}
 
 pub loop-k-init : goal.loop-k-init
 loop-k-init c = (omega arith, calls_start _ _ _)

@@ -1,16 +1,23 @@
 -- `steps::mark_node` meets its contract.
 use native.Mathlib.Omega.{arith}
+use mathlib.Core.Logic.{inl, inr}
 use Rattle.steps.proofs.Marking.{no_column}
-use Rattle.steps.proofs.Reading.{leaf}
 use Rattle.steps.proofs.Owners.{own_none, own_then, own_unless}
-use borrow.Author.Rules.{rules}
 use Rattle.steps.proofs.mark_node.Goals as goal
+use Rattle.steps.proofs.mark_node.Goals.{After-own_by-in-Binary, After-own_by-in-Choice-2, After-own_by-in-Default-4, Start}
 
 pub returns-in-Constant : goal.returns-in-Constant
 returns-in-Constant c =
-    let s = (goal.at.returns-in-Constant c).Start in
-    let q = leaf s.args.variables s.args.node c.in-Constant.in-Constant-own.keys1 in
-    (rw q.0 (no_column _ _ _ (omega arith)), rw q.1 own_none)
+    elim c.in-Constant.is [
+      | inl p ↦ rw p.1 (no_column _ _ _ (omega arith), own_none)
+      | inr p ↦ elim p [
+        | inl q ↦ rw q.1 (no_column _ _ _ (omega arith), own_none)
+        | inr q ↦ elim q [
+          | inl r ↦ rw r.1 (no_column _ _ _ (omega arith), own_none)
+          | inr r ↦ rw r.1 (no_column _ _ _ (omega arith), own_none)
+        ]
+      ]
+    ]
 
 pub returns-in-Own : goal.returns-in-Own
 returns-in-Own c = rw c.in-Own.is (c.mark.ensures, own_none)

@@ -1,10 +1,9 @@
 -- `steps::mark_nodes` meets its contract. The loop's invariant is `Descent`.
 use mathlib.Core.Path.{refl, sym, ◌∙◌}
 use native.Mathlib.Omega.{arith}
-use Rattle.book.specs.Decode.{scopes_of}
-use Rattle.steps.proofs.Descent.{Descent, descent_start, descent_down, descent_owned, descent_free, descent_done}
-use borrow.Author.Rules.{rules}
+use Rattle.steps.proofs.Descent.{descent_start, descent_down, descent_owned, descent_free, descent_done}
 use Rattle.steps.proofs.mark_nodes.Goals as goal
+use Rattle.steps.proofs.mark_nodes.Goals.{After-mark_node, Start}
 
 pub loop-n-init : goal.loop-n-init
 loop-n-init c = descent_start _ _ _ _ _ c.requires.1 c.node_count-n.ensures

@@ -1,9 +1,6 @@
 -- `steps::mark_nodes` meets its contract. The loop's invariant is `Descent`.
-use mathlib.Core.Path.{refl, sym, ◌∙◌}
-use native.Mathlib.Omega.{arith}
 use Rattle.book.specs.Decode.{scopes_of}
-use Rattle.steps.proofs.Descent.{Descent, descent_start, descent_down, descent_owned, descent_free, descent_done}
-use borrow.Author.Rules.{rules}
+use Rattle.steps.proofs.Descent.{Descent}
 use Rattle.steps.proofs.mark_nodes.Given as goal
 
 abbrev pub invariant-loop-n : goal.invariant-loop-n

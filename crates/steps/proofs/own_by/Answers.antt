@@ -1,7 +1,6 @@
 -- `steps::own_by` meets its contract.
 use native.Mathlib.Omega.{arith}
 use Rattle.steps.proofs.Owners.{own_one}
-use borrow.Author.Rules.{rules}
 use Rattle.steps.proofs.own_by.Goals as goal
 
 pub returns : goal.returns

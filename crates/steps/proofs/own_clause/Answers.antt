@@ -1,12 +1,9 @@
 -- `steps::own_clause` meets its contract.
 use Rattle.steps.proofs.Owners.{own_none, own_unless}
-use borrow.Author.Rules.{rules}
 use Rattle.steps.proofs.own_clause.Goals as goal
 
 pub returns-in-Of : goal.returns-in-Of
-returns-in-Of c =
-    let m = (goal.at.returns-in-Of c).In-Of-2 in
-    rw m.in-Of.is (own_unless m.own_by.ensures c.own_by-in-Of.ensures)
+returns-in-Of c = rw c.in-Of.is (own_unless c.own_by.ensures c.own_by-in-Of.ensures)
 
 pub returns-in-Fixed : goal.returns-in-Fixed
 returns-in-Fixed c = rw c.in-Fixed.is (own_unless c.own_by.ensures own_none)

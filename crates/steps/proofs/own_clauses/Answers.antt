@@ -1,13 +1,11 @@
 -- `steps::own_clauses` meets its contract. The loop's invariant is `Rooting`.
-use Prim.Native.Nat.{◌≤◌, ◌-◌}
 use mathlib.Core.Path.{sym, ap, ◌∙◌}
 use native.Mathlib.Omega.{arith}
 use lib.ListN.{length}
-use Rattle.book.specs.Decode.{scopes_of}
 use Rattle.steps.proofs.Reading.{few_rows}
-use Rattle.steps.proofs.Roots.{Rooting, rooting_start, rooting_turn, rooting_done}
-use borrow.Author.Rules.{rules}
+use Rattle.steps.proofs.Roots.{rooting_start, rooting_turn, rooting_done}
 use Rattle.steps.proofs.own_clauses.Goals as goal
+use Rattle.steps.proofs.own_clauses.Goals.{After-step_with-row, Start}
 
 pub loop-c-init : goal.loop-c-init
 loop-c-init c =

@@ -1,8 +1,8 @@
 -- `steps::step_count` meets its contract.
 use native.Mathlib.Omega.{arith}
 use Rattle.book.specs.Steps.{step_count}
-use borrow.Author.Rules.{rules}
 use Rattle.steps.proofs.step_count.Goals as goal
+use Rattle.steps.proofs.step_count.Goals.{Start}
 
 pub overflow_add-result : goal.overflow_add-result
 overflow_add-result c =

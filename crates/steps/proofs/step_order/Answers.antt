@@ -1,8 +1,8 @@
 -- `steps::step_order` meets its contract.
 use native.Mathlib.Omega.{arith}
 use Rattle.steps.proofs.Orders.{steps_written, few_steps}
-use borrow.Author.Rules.{rules}
 use Rattle.steps.proofs.step_order.Goals as goal
+use Rattle.steps.proofs.step_order.Goals.{After-fill_reads, After-step_count-steps}
 
 pub write_order-requires : goal.write_order-requires
 write_order-requires c =

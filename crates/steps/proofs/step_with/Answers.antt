@@ -1,7 +1,6 @@
 -- `steps::step_with` meets its contract.
 use borrow.Author.Tests.{eq-eqb, ne_eqb}
 use Rattle.steps.specs.Edges.{step_with}
-use borrow.Author.Rules.{rules}
 use Rattle.steps.proofs.step_with.Goals as goal
 
 pub returns-then-target : goal.returns-then-target

@@ -1,7 +1,6 @@
 -- `steps::write_order` meets its contract.
 use native.Mathlib.Omega.{arith}
 use Rattle.steps.proofs.Orders.{written, not_unfit}
-use borrow.Author.Rules.{rules}
 use Rattle.steps.proofs.write_order.Goals as goal
 
 pub returns-in-Taken : goal.returns-in-Taken

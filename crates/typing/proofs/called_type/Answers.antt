@@ -1,7 +1,6 @@
 -- `typing::called_type` meets its contract.
 use Rattle.book.specs.Positions.{sub_scope_at}
 use Rattle.typing.specs.Types.{own_type, called_type}
-use borrow.Author.Rules.{rules}
 use Rattle.typing.proofs.called_type.Goals as goal
 
 pub returns : goal.returns

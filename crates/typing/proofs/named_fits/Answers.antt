@@ -1,7 +1,6 @@
 -- `typing::named_fits` meets its contract.
 use borrow.Author.Tests.{eq-eqb, ne_eqb}
 use Rattle.typing.specs.Types.{named_fits}
-use borrow.Author.Rules.{rules}
 use Rattle.typing.proofs.named_fits.Goals as goal
 
 pub returns-then-n-eq255 : goal.returns-then-n-eq255

@@ -1,7 +1,6 @@
 -- `typing::own_type` meets its contract.
 use Rattle.book.specs.Positions.{variable_at}
 use Rattle.typing.specs.Types.{own_type}
-use borrow.Author.Rules.{rules}
 use Rattle.typing.proofs.own_type.Goals as goal
 
 pub returns : goal.returns

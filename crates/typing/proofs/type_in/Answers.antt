@@ -1,7 +1,6 @@
 -- `typing::type_in` meets its contract.
 use borrow.Author.Tests.{eq-eqb, ne_eqb}
 use Rattle.typing.specs.Types.{type_in}
-use borrow.Author.Rules.{rules}
 use Rattle.typing.proofs.type_in.Goals as goal
 
 pub returns-then-byte_at-eq0 : goal.returns-then-byte_at-eq0

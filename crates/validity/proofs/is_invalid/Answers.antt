@@ -1,7 +1,6 @@
 -- `validity::is_invalid` meets its contract.
 use borrow.Author.Tests.{eq-eqb, ne_eqb}
 use Rattle.book.specs.Records.{invalid}
-use borrow.Author.Rules.{rules}
 use Rattle.validity.proofs.is_invalid.Goals as goal
 
 pub returns-then-has_type : goal.returns-then-has_type

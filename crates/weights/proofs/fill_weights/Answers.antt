@@ -1,11 +1,9 @@
 -- `weights::fill_weights` meets its contract. The loop's invariant is `Weighing`.
 use mathlib.Core.Path.{refl}
-use Prim.Native.Nat.{◌-◌}
 use native.Mathlib.Omega.{arith}
-use borrow.Author.Rules.{rules}
-use Rattle.book.specs.Decode.{scopes_of}
-use Rattle.weights.proofs.Weighing.{Weighing, first, order_long, in_book, all_weighed, heavy, weighed}
+use Rattle.weights.proofs.Weighing.{first, order_long, in_book, all_weighed, heavy, weighed}
 use Rattle.weights.proofs.fill_weights.Goals as goal
+use Rattle.weights.proofs.fill_weights.Goals.{Start}
 
 pub loop-k-init : goal.loop-k-init
 loop-k-init c = first _ _

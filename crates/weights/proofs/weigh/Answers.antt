@@ -1,13 +1,9 @@
 -- `weights::weigh` meets its contract. The loop's invariant: with the weights of the sub-scopes from the k-th on, the total is the scope's weight.
-use Prim.Native.Nat.{◌≤◌, ◌+◌, ◌-◌, ◌*◌}
-use mathlib.Core.Path.{◌≡◌, ◌∙◌}
+use mathlib.Core.Path.{◌∙◌}
 use native.Mathlib.Omega.{arith}
-use borrow.Author.Rules.{rules}
-use Rattle.book.specs.Decode.{scopes_of}
-use Rattle.book.specs.References.{scope_at}
-use Rattle.weights.specs.Weighing.{weight_by}
-use Rattle.weights.proofs.Weighing.{sum_from, sum_start, sum_turn, sum_end}
+use Rattle.weights.proofs.Weighing.{sum_start, sum_turn, sum_end}
 use Rattle.weights.proofs.weigh.Goals as goal
+use Rattle.weights.proofs.weigh.Goals.{Start}
 
 pub loop-k-init : goal.loop-k-init
 loop-k-init c = (omega arith, omega arith, sum_start _ _ _)

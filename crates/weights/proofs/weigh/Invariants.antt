@@ -1,12 +1,10 @@
 -- `weights::weigh` meets its contract. The loop's invariant: with the weights of the sub-scopes from the k-th on, the total is the scope's weight.
 use Prim.Native.Nat.{◌≤◌, ◌+◌, ◌-◌, ◌*◌}
-use mathlib.Core.Path.{◌≡◌, ◌∙◌}
-use native.Mathlib.Omega.{arith}
-use borrow.Author.Rules.{rules}
+use mathlib.Core.Path.{◌≡◌}
 use Rattle.book.specs.Decode.{scopes_of}
 use Rattle.book.specs.References.{scope_at}
 use Rattle.weights.specs.Weighing.{weight_by}
-use Rattle.weights.proofs.Weighing.{sum_from, sum_start, sum_turn, sum_end}
+use Rattle.weights.proofs.Weighing.{sum_from}
 use Rattle.weights.proofs.weigh.Given as goal
 
 abbrev pub invariant-loop-k : goal.invariant-loop-k
