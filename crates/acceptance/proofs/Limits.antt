@@ -2,7 +2,7 @@
 --     faultless_within      each scope is within its limits
 --     faultless_scopes      there are at most 32 scopes
 --     faultless_size        the book has at most 32,768 bytes
---     accepted_within, accepted-scopes, accepted-size    the same of an accepted book
+--     accepted_within, accepted_scopes, accepted_size    the same of an accepted book
 -- Assumes nothing.
 use Prim.Native.Nat.{ℕ, ◌≤◌}
 use mathlib.Core.Path.{◌≡◌}

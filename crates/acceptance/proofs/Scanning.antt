@@ -1,5 +1,5 @@
 -- The records of a book one by one.
---     Clear, none-head, none_tail    where no record is faulty, neither the first is nor any after it
+--     Clear, none_head, none_tail    where no record is faulty, neither the first is nor any after it
 --     none_or_first                  no record is faulty, or there is a first faulty one
 --     scan_sound                     the scan is sound if and only if no record is faulty
 --     scan_faulty                    it gives a fault if and only if that is the first faulty record's first
@@ -99,6 +99,13 @@ module _ (m : Met) (ms : List Met) where
   scan_first OutOfOrder (FirstOf.third a b c) = skip _ _ a ∙ skip _ _ b ∙ meet _ _ c
   scan_first LimitExceeded (FirstOf.fourth a b c d) = skip _ _ a ∙ skip _ _ b ∙ skip _ _ c ∙ meet _ _ d
   scan_first InvalidByte (FirstOf.fifth a b c d e) = skip _ _ a ∙ skip _ _ b ∙ skip _ _ c ∙ skip _ _ d ∙ meet _ _ e
+  scan_first DanglingReference x = elim x [ ]
+  scan_first SharedNode x = elim x [ ]
+  scan_first TypeMismatch x = elim x [ ]
+  scan_first MixedClauses x = elim x [ ]
+  scan_first ScopeCycle x = elim x [ ]
+  scan_first WeightExceeded x = elim x [ ]
+  scan_first DependencyCycle x = elim x [ ]
 
 -- a record has none of the five faults, or a first one
 clear_or_first : (m : Met) → Clear m ⊎ ((f : Fault) × FirstOf m f)
@@ -203,6 +210,13 @@ faulty_in_book bytes f r = go f r.fault
     go OutOfOrder (FirstOf.third a b c) = at out_of_order c
     go LimitExceeded (FirstOf.fourth a b c d) = rw (at limit_exceeded d) (or-true (too_long bytes))
     go InvalidByte (FirstOf.fifth a b c d e) = at invalid_byte e
+    go DanglingReference x = elim x [ ]
+    go SharedNode x = elim x [ ]
+    go TypeMismatch x = elim x [ ]
+    go MixedClauses x = elim x [ ]
+    go ScopeCycle x = elim x [ ]
+    go WeightExceeded x = elim x [ ]
+    go DependencyCycle x = elim x [ ]
 
 pub sound_free : (bytes : List ℕ) → too_long bytes ≡ false → NoneFaulty (records bytes) → FreeBelow 6 bytes
 sound_free bytes s n Truncated l h = false≢true (sym n.complete ∙ h)

@@ -1,6 +1,6 @@
 -- In an accepted book every scope is well formed: nothing in it dangles, no node is named twice, types fit, and no target has both
 -- rules and definitions.
---     fitting_nodes, fitting-clauses                  of a scope without mismatch: each node and clause fits
+--     fitting_nodes, fitting_clauses                  of a scope without mismatch: each node and clause fits
 --     unmixed_pairs                                   of a scope that is not mixed: no two clauses are
 --     faultless_formed                                each scope of a book without fault is well formed
 --     faultless_weight                                each scope's weight is 4,096 at most

@@ -33,7 +33,7 @@ use Rattle.lists.proofs.Lengths.{length_most}
 use Rattle.acceptance.proofs.Acceptance.{accepted_count}
 use Rattle.acceptance.proofs.Orders.{accepted_book}
 use Rattle.evaluation.specs.Run.{Entered, values, ended, run_scope}
-use Rattle.evaluation.specs.Evaluate.{count_in, length_in, Reply, refuse, reply_of, fitting, on_inputs, asked_by, asked, evaluate_by, evaluate}
+use Rattle.evaluation.specs.Evaluate.{count_in, length_in, Reply, refuse, reply_of, on_inputs, asked_by, asked, evaluate_by, evaluate}
 use Rattle.evaluation.specs.Answers.{Asked, Entering, Replied, InValues, InEnd}
 use Rattle.answers.specs.declared.Refusal.{Refusal}
 use Rattle.answers.specs.declared.Answer.{Answer}

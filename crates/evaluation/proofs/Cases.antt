@@ -1,5 +1,5 @@
 -- What evaluating replies, by the tests that it makes.
---     evaluate_faulty, evaluate-absent, evaluate-malformed, evaluate-short    1 to 12, 13, 14, 15
+--     evaluate_faulty, evaluate_absent, evaluate_malformed, evaluate_short    1 to 12, 13, 14, 15
 --     evaluate_run    a good list and enough room: what the run comes to
 -- Assumes nothing.
 use Prim.Native.Nat.{ℕ, ◌<◌, ◌≤◌}

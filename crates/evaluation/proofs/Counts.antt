@@ -4,7 +4,7 @@
 --     order_bounded       so it is of a run of the scope's steps in any order that is complete
 --     values_count        of an accepted book: a run that ends in values has entered as many scopes as the weight says
 --     ended_count         one that ends with a cause, at least one and at most as many
---     entered_small, reached-small    the count is 4,096 at most, and so it is in each state that the run reaches
+--     entered_small, reached_small    the count is 4,096 at most, and so it is in each state that the run reaches
 -- Assumes nothing.
 use Prim.Native.Nat.{ℕ, zero, suc, ◌<◌, ◌≤◌, ◌+◌, ◌-◌}
 use mathlib.Core.Path.{◌≡◌, refl, sym, ap, subst, ◌∙◌}

@@ -6,7 +6,7 @@
 --     entered_steps           it is a run of the scope's steps, in which each call enters the scope that its sub-scope names
 --     entered_count           at least one scope is entered
 --     by_blocks               what holds of a scope if it holds of those that its sub-scopes name holds of every scope
---     accepted-..             each of these of an accepted book; accepted-entered-real, that it is not what entering an absent block comes to
+--     accepted_..             each of these of an accepted book; accepted_entered_real, that it is not what entering an absent block comes to
 -- Assumes nothing.
 use Prim.Native.Nat.{ℕ, zero, suc, ◌<◌, ◌≤◌, ◌+◌, ◌-◌}
 use mathlib.Core.Path.{◌≡◌, refl, sym, ap, subst, ◌∙◌}

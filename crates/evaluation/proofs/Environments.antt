@@ -2,7 +2,7 @@
 --     eval_same           environments that hold the same where a typed term reads give the same outcome
 --     tree_same           so they do for a variable's tree if they hold the same of what its step depends on
 --     handing_same        and for what a call hands over
---     handing_overrides, overrides-handing    what a call hands over, variable by variable
+--     handing_overrides, overrides_handing    what a call hands over, variable by variable
 -- Assumes nothing.
 use Prim.Native.Nat.{ℕ, zero, suc, ◌<◌, ◌≤◌, ◌+◌}
 use mathlib.Core.Path.{◌≡◌, refl, sym, ap, subst, ◌∙◌}

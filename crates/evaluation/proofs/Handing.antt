@@ -1,7 +1,7 @@
 -- What a call hands over, and what it did under the former meaning.
 --     handing_agrees             it is the same in environments that agree on the override trees
 --     handing_kept               a call whose overrides did not end empty hands over the same, or ends by the same cause
---     ends_empty_lem, empty-ends     they ended empty exactly where the first override tree without a value is empty
+--     ends_empty_lem, empty_ends     they ended empty exactly where the first override tree without a value is empty
 --     never_empty                now they never do
 -- Assumes nothing.
 use Prim.Native.Nat.{ℕ, zero, suc, ◌+◌, ◌<◌}

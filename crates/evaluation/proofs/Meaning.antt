@@ -1,9 +1,9 @@
 -- What a scope means is what it runs to, in whatever order its steps are taken.
 --     run_solves          where a run of the steps in some order ends in values, these solve the scope's equations
 --     solution_runs       where values solve them, a run of the steps in any order ends in these values
---     run_means, means-run        of an accepted book: a scope is run to values if and only if it means them
+--     run_means, means_run        of an accepted book: a scope is run to values if and only if it means them
 --     means_unique                what a scope means is unique
---     order_means, means-order    the same for its steps in any order in which each stands once and after all that it depends on
+--     order_means, means_order    the same for its steps in any order in which each stands once and after all that it depends on
 --     any_order                   so the order decides nothing but which end a run without values comes to, and its count
 -- Assumes nothing.
 use Prim.Native.Nat.{ℕ, suc, ◌<◌, ◌≤◌, ◌+◌, ◌-◌}

@@ -2,7 +2,7 @@
 --     next_below      it is one of the numbers below n
 --     next_after      all that it depends on is done
 --     next_new        it is not done itself
---     snoc_here, snoc-more, snoc-other, append-more, append-none    once it is done as well
+--     snoc_here, snoc_more, snoc_other, append_more, append_none    once it is done as well
 -- Assumes nothing.
 use Prim.Native.Nat.{ℕ, ◌<◌}
 use mathlib.Core.Path.{◌≡◌, refl, sym, ap, subst, ◌∙◌}

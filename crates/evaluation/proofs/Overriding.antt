@@ -2,7 +2,7 @@
 -- provides, and "barring any useful information provided by the caller, we fall back on the existing definition". Figure 7 forces an override in the
 -- caller, so by figure 6 an empty one ends the caller, as it did before paper 02, No. 5. Now the variable's outcome is that of a default whose one
 -- exception has the override tree's outcome; where that is an end, it ends the run before the entry.
---     override_settles, override-stops    by the outcome of the override tree: what is handed over, and an end
+--     override_settles, override_stops    by the outcome of the override tree: what is handed over, and an end
 --     override_exception                  so, read in one environment, the override tree is that exception
 --     rules_never_empty                   a tree of rules is never empty, so an override by rules never falls back
 -- Assumes nothing.

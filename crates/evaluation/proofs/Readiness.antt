@@ -1,13 +1,13 @@
 -- Along a run every read meets a value that is set and of its type.
 --     trees_ready         where all that a step depends on is there, its trees can be evaluated
 --     progress_ready      so it is of the next step, all before it in the order being done
---     progress_new, progress-below    the next step is one of the scope's and not yet done
+--     progress_new, progress_below    the next step is one of the scope's and not yet done
 --     reached_progress    what the state holds where a run of a scope's steps has come so far
 --     reached_ready       before each step all that it depends on is there
 --     steps_fit           a run that ends in values ends in one for each variable, of its type
 --     reached_handed      what a call hands over fits the variables of the scope that it enters
 --     accepted_fit        of an accepted book: so does entering a scope with values that fit its variables
---     accepted_progress, accepted-new, accepted-ready, accepted-trees, accepted-handed    and the above of each step that is reached
+--     accepted_progress, accepted_new, accepted_ready, accepted_trees, accepted_handed    and the above of each step that is reached
 -- Assumes nothing.
 use Prim.Native.Nat.{ℕ, zero, suc, ◌<◌, ◌≤◌, ◌+◌, ◌-◌}
 use mathlib.Core.Path.{◌≡◌, refl, sym, ap, subst, ◌∙◌}

@@ -1,6 +1,6 @@
 -- Running the steps of a scope.
---     variable_turn, variable-end                a variable's step that gives a value, and one that does not
---     call_turn, call-failed, call-end           a call that gives values, one whose overrides do not, one whose scope does not
+--     variable_turn, variable_end                a variable's step that gives a value, and one that does not
+--     call_turn, call_failed, call_end           a call that gives values, one whose overrides do not, one whose scope does not
 --     steps_congruent     a run depends only on what entering the scope's sub-scopes comes to
 --     by_step             what holds of each way that a step can go holds of the run from it
 --     steps_count         the count never falls along a run

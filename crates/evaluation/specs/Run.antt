@@ -76,7 +76,7 @@ module _ (by : Outcome → Handed) where
 
   -- entering scope i, whose block and all blocks it enters stand in the list, last block first
   unfoldable pub enter_by : List Scope → List ℕ → ℕ → List Given → Entered
-  -- a block that is not there: no scope of an accepted book meets it (accepted-entered-real)
+  -- a block that is not there: no scope of an accepted book meets it (accepted_entered_real)
   enter_by book [] i given = ended Empty 0
   enter_by book (b ∷ earlier) i given =
       let s = scope_at book i in

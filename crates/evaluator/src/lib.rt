@@ -1,5 +1,6 @@
 // Evaluating a scope of a book: the service.
 #![tactic(auto)]
+
 ghost use Rattle.scan.specs.Filling.{Unfilled};
 ghost use Rattle.links.specs.Links.{Blanks};
 ghost use Rattle.loaded.specs.Loaded.{Replied};

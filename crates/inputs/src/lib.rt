@@ -1,5 +1,6 @@
 // Input lists: "Inputs are records too". A list is read into cells that are unset.
 #![tactic(auto)]
+
 ghost use Rattle.std.specs.Prelude.{◌≡◌, ◌≤◌, length, replicate, map};
 ghost use Rattle.cells.specs.Cells.{given_of};
 ghost use Rattle.book.specs.Decode.{scopes_of};

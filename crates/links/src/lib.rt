@@ -1,5 +1,6 @@
 // The links of a scope's clauses: the exceptions of a clause, and the bases of a target, each in a chain.
 #![tactic(auto)]
+
 ghost use Rattle.std.specs.Prelude.{◌≡◌};
 ghost use Rattle.book.specs.Syntax.{is_rule};
 ghost use Rattle.links.specs.Links.{slot_of, head_of, with_clause, Room, Blank, Linked, Blanks, AllLinked};

@@ -1,10 +1,10 @@
 -- The values of cells.
 --     held_fits                     a cell holds a number of 32 bits
 --     decoded_values                cells that hold what a list says have its values
---     typed_values, typed-length    cells of the variables' types have values of their types, and results of their length
+--     typed_values, typed_length    cells of the variables' types have values of their types, and results of their length
 -- Assumes nothing.
 use Prim.Native.Nat.{ℕ, suc, ◌+◌, ◌<◌}
-use mathlib.Core.Bool.{true, false, false≢true}
+use mathlib.Core.Bool.{true, false≢true}
 use mir.Syntax.{w32}
 use mir.Val.{SFits}
 use Rattle.calculus.specs.Values.{number_of}

@@ -1,6 +1,7 @@
 // A loaded book is one that is accepted, with its index, the links of its clauses and the orders of its steps: preparing it, and running a scope
 // of it.
 #![tactic(auto)]
+
 ghost use Rattle.scopes.specs.Known.{Known};
 ghost use Rattle.loaded.specs.Loaded.{Unprepared, Prepared, RunsLoaded, Replied};
 

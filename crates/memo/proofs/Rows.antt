@@ -3,7 +3,7 @@
 --     absent_none, absent_more, ungiven-*     a loop that looks for what is given
 --     not_asked, not_known, recalled          a row that is read
 --     not_noted, noted                        a row that is written
---     nothing_kept, kept-found, kept-noted    tables whose rows are as they must be
+--     nothing_kept, kept_found, kept_noted    tables whose rows are as they must be
 -- Assumes nothing.
 use Prim.Native.Nat.{ℕ, suc, ◌+◌, ◌*◌, ◌<◌, ◌≤◌}
 use mathlib.Core.Path.{◌≡◌, refl, sym, ap, subst, ◌∙◌}

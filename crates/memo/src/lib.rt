@@ -1,5 +1,6 @@
 // What entering a scope or a block came to, kept: a row of cells, the count of scopes entered before them.
 #![tactic(auto)]
+
 ghost use Rattle.memo.specs.Rows.{Copying, Copied, Ungiven, RowRoom, Recalled, Remembered};
 
 use calculus::Given;

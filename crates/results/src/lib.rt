@@ -1,5 +1,6 @@
 // Results: "the same records, all variables of the scope in number order". Their length, and writing them from cells.
 #![tactic(auto)]
+
 ghost use Rattle.std.specs.Prelude.{◌≡◌, ◌+◌, ◌≤◌, length};
 ghost use Rattle.book.specs.Decode.{scopes_of};
 ghost use Rattle.book.specs.References.{scope_at};

@@ -1,5 +1,6 @@
 // Entering a scope of a book: its steps are run in their order, each call in cells of its own.
 #![tactic(auto)]
+
 ghost use Rattle.cells.specs.Codec.{Codes};
 ghost use Rattle.trees.specs.Rows.{Evaluable};
 ghost use Rattle.scopes.specs.Steps.{step_outcome, Stepping, Hands, HandsAll, HandedAll, Came};

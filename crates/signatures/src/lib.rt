@@ -1,5 +1,6 @@
 // A scope's signature: the type bytes of its variables.
 #![tactic(auto)]
+
 ghost use Rattle.std.specs.Prelude.{◌≡◌, ◌≤◌, length};
 ghost use Rattle.book.specs.Syntax.{type_of};
 ghost use Rattle.book.specs.Decode.{scopes_of};

@@ -1,6 +1,7 @@
 // The nodes of a scope, evaluated on demand over the cells of variables: one branch of an "if", a right operand where the left gave a value,
 // the justification where no exception gave one, the consequence where the justification is yes. An outcome is a cell.
 #![tactic(auto)]
+
 ghost use Rattle.std.specs.Prelude.{◌≡◌};
 ghost use Rattle.calculus.specs.Values.{ranged as Values·ranged};
 ghost use Rattle.calculus.specs.declared.Value.TheVariants.{Number};

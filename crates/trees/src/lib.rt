@@ -1,5 +1,6 @@
 // The default trees of a scope over the cells of variables, by the links of its clauses. An outcome is a cell.
 #![tactic(auto)]
+
 ghost use Rattle.std.specs.Prelude.{◌≡◌, ◌<◌, length};
 ghost use Rattle.cells.specs.Codec.{Codes, Gathers};
 ghost use Rattle.terms.specs.Clauses.{ReadableClause};

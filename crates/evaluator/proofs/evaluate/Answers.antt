@@ -1,6 +1,5 @@
 -- `evaluator::evaluate` meets its contract.
 use Rattle.scan.proofs.Beginnings.{few_rows, all_rows}
-use borrow.Author.Rules.{rules}
 use Rattle.evaluator.proofs.evaluate.Goals as goal
 
 pub evaluate_in-requires : goal.evaluate_in-requires

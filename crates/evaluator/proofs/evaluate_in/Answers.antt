@@ -1,7 +1,6 @@
 -- `evaluator::evaluate_in` meets its contract.
 use mathlib.Core.Path.{sym, ◌∙◌}
 use Rattle.evaluator.proofs.Service.{refused_book}
-use borrow.Author.Rules.{rules}
 use Rattle.evaluator.proofs.evaluate_in.Goals as goal
 
 pub evaluate_accepted-requires : goal.evaluate_accepted-requires

@@ -1,14 +1,13 @@
 -- `evaluator::run` meets its contract.
 use native.Mathlib.Omega.{arith}
 use Rattle.evaluator.proofs.Service.{blank_links, scopes_few}
-use borrow.Author.Rules.{rules}
 use Rattle.evaluator.proofs.run.Goals as goal
 
 pub run_in-requires : goal.run_in-requires
-run_in-requires c = (c.requires, blank_links c.requires 834 (omega (arith, c.if-n-le1.true)))
+run_in-requires c = record { asked = c.requires; blanks = blank_links c.requires 834 (omega (arith, c.if-n-le1.true)) }
 
 pub run_in-requires-then-n-le8 : goal.run_in-requires-then-n-le8
-run_in-requires-then-n-le8 c = (c.requires, blank_links c.requires 6672 (omega (arith, c.if-n-le8.true)))
+run_in-requires-then-n-le8 c = record { asked = c.requires; blanks = blank_links c.requires 6672 (omega (arith, c.if-n-le8.true)) }
 
 pub run_in-requires-2 : goal.run_in-requires-2
-run_in-requires-2 c = (c.requires, blank_links c.requires 26688 (omega (arith, scopes_few c.requires)))
+run_in-requires-2 c = record { asked = c.requires; blanks = blank_links c.requires 26688 (omega (arith, scopes_few c.requires)) }

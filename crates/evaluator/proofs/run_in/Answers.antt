@@ -1,7 +1,6 @@
 -- `evaluator::run_in` meets its contract.
 use native.Mathlib.Omega.{arith}
 use Rattle.evaluator.proofs.Service.{blank_memo, scopes_few, runs_loaded}
-use borrow.Author.Rules.{rules}
 use Rattle.evaluator.proofs.run_in.Goals as goal
 
 pub run_loaded-requires : goal.run_loaded-requires

@@ -3,7 +3,6 @@ use borrow.Author.Tests.{eq-eqb, ne_eqb}
 use mir.Facts.{to_z-of_z}
 use mir.Val.{SFits}
 use mir.Syntax.{w32}
-use borrow.Author.Rules.{rules}
 use Rattle.inputs.proofs.input_value.Goals as goal
 
 pub returns-then-kind-eq1 : goal.returns-then-kind-eq1

@@ -3,7 +3,6 @@ use mathlib.Core.List.{map}
 use Rattle.cells.specs.Cells.{given_of}
 use Rattle.lists.specs.Reading.{typed}
 use Rattle.lists.proofs.Reading.{tests}
-use borrow.Author.Rules.{rules}
 use Rattle.inputs.proofs.is_bad.Goals as goal
 
 pub returns-then-is_malformed : goal.returns-then-is_malformed

@@ -1,7 +1,6 @@
 -- `inputs::is_malformed` meets its contract.
 use Rattle.lists.specs.Reading.{malformed}
 use borrow.Author.Tests.{eq-eqb, ne_eqb, lt-ltb, le-ltb}
-use borrow.Author.Rules.{rules}
 use Rattle.inputs.proofs.is_malformed.Goals as goal
 
 pub returns-then-length-eq0 : goal.returns-then-length-eq0

@@ -1,19 +1,18 @@
 -- `inputs::read_by` meets its contract. The invariant: the list is read up to a position, and the cells hold what it gives so far.
-use Rattle.lists.specs.Inputs.{bad_record}
+use Rattle.lists.specs.Inputs.{input_length, bad_record}
 use Rattle.lists.specs.Reading.{typed}
-use Rattle.lists.proofs.Reading.{Read, start, stop, fault, room, cell, turn}
+use Rattle.lists.proofs.Reading.{start, stop, fault, room, cell, turn}
 use Rattle.lists.proofs.Types.{typed_count}
 use Rattle.slices.proofs.Parts.{all_left}
 use Rattle.cells.specs.Cells.{given_of}
 use lib.ListN.{length, get_or, drop}
 use native.Mathlib.Omega.{arith}
-use Prim.Native.Nat.{◌+◌, ◌-◌, ◌≤◌}
+use Prim.Native.Nat.{ℕ, ◌+◌, ◌≤◌}
 use mathlib.Core.Path.{◌≡◌, sym, ap, ◌∙◌}
 use mathlib.Core.Bool.{Bool, false, false≢true}
-use mathlib.Core.List.{map}
-use borrow.Author.Rules.{rules}
+use mathlib.Core.List.{List, map}
 use Rattle.inputs.proofs.read_by.Goals as goal
-use Rattle.inputs.proofs.read_by.Goals.{After-input_length, After-is_bad, Else-is_bad}
+use Rattle.inputs.proofs.read_by.Goals.{After-is_bad}
 
 pub loop-at-init : goal.loop-at-init
 loop-at-init c = start _ _ c.requires.given_value
@@ -30,11 +29,11 @@ judged c =
     rw (← all_left (c.loop-at.at + 1) c.args.inputs.now)
     (sym c.is_bad.ensures)
 
-good : (c : Else-is_bad) → verdict c ≡ false
-good c = judged c ∙ c.if-is_bad.false
+good : (c : After-is_bad) → c.is_bad.result ≡ false → verdict c ≡ false
+good c e = judged c ∙ e
 
-few : (c : Else-is_bad) → length (typed c.args.types.now) ≤ 32
-few c = rw (typed_count c.args.types.now) c.requires.types_len_bound
+few : (types : List ℕ) → length types ≤ 32 → length (typed types) ≤ 32
+few types h = rw (typed_count types) h
 
 pub shape_of-given-then-is_bad : goal.shape_of-given-then-is_bad
 shape_of-given-then-is_bad c = c.loop-at.invariant.size ∙ sym (ap length c.requires.given_value)
@@ -52,28 +51,24 @@ pub bounds-given-v : goal.bounds-given-v
 unfolding verdict
 bounds-given-v c =
     rw (c.byte_at-v.ensures, all_left (c.loop-at.at + 1) c.args.inputs.now)
-    (cell c.loop-at.invariant c.loop-at-test.true (few (goal.at.bounds-given-v c).Else-is_bad) (good (goal.at.bounds-given-v c).Else-is_bad))
+    (cell c.loop-at.invariant c.loop-at-test.true (few c.args.types.now c.requires.types_len_bound) (good (goal.at.bounds-given-v c).After-is_bad c.if-is_bad.false))
 
 -- the record ends within the list
-whole :
-    (c : After-input_length)
-    → c.loop-at.at + 1 + c.input_length.result ≤ length c.args.inputs.now
+whole : (c : After-is_bad) (n : ℕ) → c.is_bad.result ≡ false → n ≡ input_length (get_or c.args.inputs.now c.loop-at.at 0) → c.loop-at.at + 1 + n ≤ length c.args.inputs.now
 unfolding verdict
-whole c =
-    rw c.input_length.ensures
-    (room c.loop-at.invariant c.loop-at-test.true (few c) (good c))
+whole c n e h = rw h (room c.loop-at.invariant c.loop-at-test.true (few c.args.types.now c.requires.types_len_bound) (good c e))
 
 pub overflow_add-at : goal.overflow_add-at
-overflow_add-at c = let r = whole (goal.at.overflow_add-at c).After-input_length in omega arith
+overflow_add-at c = let r = whole (goal.at.overflow_add-at c).After-is_bad _ c.if-is_bad.false c.input_length.ensures in omega arith
 
 pub loop-at-smaller : goal.loop-at-smaller
-loop-at-smaller c = let r = whole (goal.at.loop-at-smaller c).After-input_length in omega arith
+loop-at-smaller c = let r = whole (goal.at.loop-at-smaller c).After-is_bad _ c.if-is_bad.false c.input_length.ensures in omega arith
 
 pub loop-at-preserved : goal.loop-at-preserved
 unfolding verdict
 loop-at-preserved c =
     rw (c.byte_at-v.ensures, c.cell_of.ensures, c.input_value.ensures, c.input_length.ensures, all_left (c.loop-at.at + 1) c.args.inputs.now)
-    (turn c.loop-at.invariant c.loop-at-test.true (few (goal.at.loop-at-preserved c).Else-is_bad) (good (goal.at.loop-at-preserved c).Else-is_bad))
+    (turn c.loop-at.invariant c.loop-at-test.true (few c.args.types.now c.requires.types_len_bound) (good (goal.at.loop-at-preserved c).After-is_bad c.if-is_bad.false))
 
 pub shape_of-given : goal.shape_of-given
 shape_of-given c = c.loop-at.invariant.size ∙ sym (ap length c.requires.given_value)

@@ -1,7 +1,6 @@
 -- `links::fill_all_links` meets its contract. The loop's invariant is `Filling`.
 use Prim.Native.Nat.{◌-◌}
-use native.Mathlib.Omega.{arith}
-use Rattle.links.proofs.Rows.{Filling, begin, blank, fill, filled}
+use Rattle.links.proofs.Rows.{Filling}
 use Rattle.links.proofs.fill_all_links.Given as goal
 
 abbrev pub invariant-loop-i : goal.invariant-loop-i

@@ -1,15 +1,9 @@
 -- `links::fill_links` meets its contract. The loop's invariant: the clauses from the n-th on are linked.
-use Prim.Native.Nat.{◌≤◌, ◌-◌}
-use mathlib.Core.Path.{◌≡◌}
-use native.Mathlib.Omega.{arith}
+use Prim.Native.Nat.{◌≤◌}
 use lib.ListN.{length}
-use borrow.Author.Rules.{rules}
 use Rattle.book.specs.Decode.{scopes_of}
 use Rattle.book.specs.References.{scope_at}
-use Rattle.book.specs.Positions.{clause_at}
 use Rattle.links.specs.Links.{LinkedFrom}
-use Rattle.links.proofs.Named.{sound_chained}
-use Rattle.links.proofs.Linking.{start, room, turn}
 use Rattle.links.proofs.fill_links.Given as goal
 
 abbrev pub invariant-loop-n : goal.invariant-loop-n

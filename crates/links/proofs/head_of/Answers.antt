@@ -1,7 +1,6 @@
 -- `links::head_of` meets its contract.
 use mathlib.Core.Path.{sym, ◌∙◌}
 use Rattle.links.proofs.Slots.{head_base, head_exception}
-use borrow.Author.Rules.{rules}
 use Rattle.links.proofs.head_of.Goals as goal
 
 pub returns-then-parent : goal.returns-then-parent

@@ -7,7 +7,6 @@ use lib.ListN.{length-set}
 use Rattle.book.specs.Syntax.{is_rule}
 use Rattle.links.specs.Links.{with_clause}
 use Rattle.links.proofs.Slots.{slot_bound}
-use borrow.Author.Rules.{rules}
 use Rattle.links.proofs.link_clause.Goals as goal
 use Rattle.links.proofs.link_clause.Goals.{Then-is_rule}
 

@@ -2,7 +2,6 @@
 use mathlib.Core.Path.{sym}
 use native.Mathlib.Omega.{arith}
 use Rattle.links.proofs.Slots.{slot_past, slot_own, slot_none, slot_called}
-use borrow.Author.Rules.{rules}
 use Rattle.links.proofs.slot_of.Goals as goal
 
 pub returns-then-variable-ge32 : goal.returns-then-variable-ge32

@@ -1,7 +1,6 @@
 -- `loaded::prepare` meets its contract.
 use native.Mathlib.Omega.{arith}
 use Rattle.loaded.proofs.Preparing.{unlinked, accepted_so, refused_so}
-use borrow.Author.Rules.{rules}
 use Rattle.loaded.proofs.prepare.Goals as goal
 
 pub fill_all_links-requires : goal.fill_all_links-requires

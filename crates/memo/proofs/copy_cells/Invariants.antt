@@ -1,9 +1,6 @@
 -- `memo::copy_cells` meets its contract. The invariant: the cells so far are copied.
 use Prim.Native.Nat.{◌-◌, ◌≤◌}
-use native.Mathlib.Omega.{arith}
-use borrow.Author.Rules.{rules}
 use Rattle.memo.specs.Rows.{Copied}
-use Rattle.memo.proofs.Rows.{copied_none, copied_more, copied_all}
 use Rattle.memo.proofs.copy_cells.Given as goal
 
 abbrev pub invariant-loop-v : goal.invariant-loop-v

@@ -1,7 +1,4 @@
 -- `memo::none_given` meets its contract. The invariant: none of the variables so far is given.
-use Prim.Native.Nat.{◌-◌}
-use borrow.Author.Rules.{rules}
-use Rattle.memo.specs.Rows.{NoneGiven}
 use Rattle.memo.proofs.Rows.{absent_none, absent_more, ungiven_false, ungiven_true}
 use Rattle.memo.proofs.none_given.Goals as goal
 

@@ -2,10 +2,8 @@
 use Rattle.lists.specs.Reading.{typed}
 use Rattle.lists.proofs.Lengths.{Counted, start, few, turn, stop}
 use Rattle.lists.proofs.Types.{typed_count, typed_at}
-use lib.ListN.{length}
 use native.Mathlib.Omega.{arith}
-use Prim.Native.Nat.{◌+◌, ◌-◌}
-use borrow.Author.Rules.{rules}
+use Prim.Native.Nat.{◌+◌}
 use Rattle.results.proofs.length_by.Goals as goal
 use Rattle.results.proofs.length_by.Goals.{After-result_size-total}
 

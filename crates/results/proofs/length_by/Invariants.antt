@@ -1,11 +1,8 @@
 -- `results::length_by` meets its contract. The invariant: the variables below v are counted.
 use Rattle.lists.specs.Reading.{typed}
-use Rattle.lists.proofs.Lengths.{Counted, start, few, turn, stop}
-use Rattle.lists.proofs.Types.{typed_count, typed_at}
+use Rattle.lists.proofs.Lengths.{Counted}
 use lib.ListN.{length}
-use native.Mathlib.Omega.{arith}
-use Prim.Native.Nat.{◌+◌, ◌-◌}
-use borrow.Author.Rules.{rules}
+use Prim.Native.Nat.{◌-◌}
 use Rattle.results.proofs.length_by.Given as goal
 
 abbrev pub invariant-loop-v : goal.invariant-loop-v

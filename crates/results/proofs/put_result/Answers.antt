@@ -12,29 +12,27 @@ use Rattle.results.proofs.put_result.Goals as goal
 
 pub returns-in-Truth : goal.returns-in-Truth
 returns-in-Truth c =
-    let s = (goal.at.returns-in-Truth c).Start in
     let value = c.in-Truth.is in
-    let fits = rw value at s.requires in
+    let fits = rw value at c.requires in
     rw value
     (record {
       memory =
           rw (c.put_byte-in-Truth-2.ensures, c.put_byte-in-Truth.ensures, c.put_byte.ensures, c.bit_of.ensures)
-          (put_bytes s.args.results.now s.args.at 1 s.args.v _ fits);
+          (put_bytes c.args.results.now c.args.at 1 c.args.v _ fits);
       next = refl;
     })
 
 pub returns-in-Number : goal.returns-in-Number
 returns-in-Number c =
-    let s = (goal.at.returns-in-Number c).Start in
     let z = c.in-Number.n in
     let value = c.in-Number.is in
     let l = number_length z in
     let f : SFits w32 z = search rules in
-    let fits = rw value at s.requires in
+    let fits = rw value at c.requires in
     rw value
     (record {
       memory =
           rw (c.put_number.ensures, to_z-of_z f, c.put_byte-in-Number-2.ensures, c.put_byte-in-Number.ensures)
-          (put_bytes s.args.results.now s.args.at 2 s.args.v (number_bytes z) fits);
+          (put_bytes c.args.results.now c.args.at 2 c.args.v (number_bytes z) fits);
       next = omega arith;
     })

@@ -3,7 +3,6 @@ use Rattle.lists.specs.Writing.{result_length_at}
 use Rattle.lists.proofs.Types.{whole, few}
 use Rattle.lists.specs.Results.{result_length}
 use mathlib.Core.Path.{ap, ◌∙◌}
-use borrow.Author.Rules.{rules}
 use Rattle.results.proofs.result_length.Goals as goal
 
 pub slice_bounds-length_by-end : goal.slice_bounds-length_by-end

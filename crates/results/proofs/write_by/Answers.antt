@@ -1,7 +1,5 @@
 -- `results::write_by` meets its contract. The invariant: the records below v are written, and what is left makes the whole.
-use Rattle.lists.proofs.Writing.{Written, start, stop, room, turn}
-use Prim.Native.Nat.{◌-◌}
-use borrow.Author.Rules.{rules}
+use Rattle.lists.proofs.Writing.{start, stop, room, turn}
 use Rattle.results.proofs.write_by.Goals as goal
 
 pub loop-v-init : goal.loop-v-init

@@ -1,7 +1,6 @@
 -- `results::write_by` meets its contract. The invariant: the records below v are written, and what is left makes the whole.
-use Rattle.lists.proofs.Writing.{Written, start, stop, room, turn}
+use Rattle.lists.proofs.Writing.{Written}
 use Prim.Native.Nat.{◌-◌}
-use borrow.Author.Rules.{rules}
 use Rattle.results.proofs.write_by.Given as goal
 
 abbrev pub invariant-loop-v : goal.invariant-loop-v

@@ -2,12 +2,11 @@
 -- run comes to what the whole does; what is known stays so. The measure: a scope that is called has its block before the caller's.
 use mathlib.Core.Path.{refl, sym, ◌∙◌}
 use native.Mathlib.Omega.{arith}
-use borrow.Author.Rules.{rules}
 use Rattle.slices.proofs.Parts.{part_room}
 use Rattle.scopes.proofs.Cells.{kept_taken, kept_dropped}
-use Rattle.scopes.proofs.Entering.{rank, scope_few, evaluable, earlier, callee, noting, runs_steps, called_few, Between, begins, ends, put_room, given_room_lem, turn_variable, end_variable}
+use Rattle.scopes.proofs.Entering.{scope_few, evaluable, earlier, callee, noting, runs_steps, called_few, begins, ends, put_room, given_room_lem, turn_variable, end_variable}
 use Rattle.scopes.proofs.Entering.{number_below, number_few, called_room_lem, end_hand, few_ended, few_values, end_call, turn_call, call_same}
-use Prim.Native.Nat.{ℕ, suc, ◌<◌, ◌+◌, ◌-◌, ◌*◌}
+use Prim.Native.Nat.{◌+◌, ◌-◌, ◌*◌}
 use Rattle.scopes.proofs.+enter_sub_run_steps.Goals as goal
 
 pub enter_sub-recall_scope-known-requires : goal.enter_sub-recall_scope-known-requires
@@ -17,7 +16,7 @@ pub enter_sub-shape_of-own-then-known-gt0 : goal.enter_sub-shape_of-own-then-kno
 enter_sub-shape_of-own-then-known-gt0 t c = c.recall_scope-known.ensures.size ∙ sym c.requires.room
 
 pub enter_sub-returns-then-known-gt0 : goal.enter_sub-returns-then-known-gt0
-enter_sub-returns-then-known-gt0 t c = (c.recall_scope-known.ensures.found (λ z. omega (arith, c.if-known-gt0.true)), c.requires.known)
+enter_sub-returns-then-known-gt0 t c = record { came = c.recall_scope-known.ensures.found (λ z. omega (arith, c.if-known-gt0.true)); known = c.requires.known }
 
 pub enter_sub-sub_scope_count-calls-requires : goal.enter_sub-sub_scope_count-calls-requires
 enter_sub-sub_scope_count-calls-requires t c = c.requires.world.sound.laid
@@ -26,19 +25,19 @@ pub enter_sub-run_steps-requires : goal.enter_sub-run_steps-requires
 enter_sub-run_steps-requires t c = (omega (arith, c.decreases), runs_steps c.requires 1 c.recall_scope-known.ensures.size c.recall_scope-known.ensures.kept (omega (arith, c.sub_scope_count-calls.ensures, c.if-calls-eq0.true)))
 
 pub enter_sub-shape_of-own-then-calls-eq0 : goal.enter_sub-shape_of-own-then-calls-eq0
-enter_sub-shape_of-own-then-calls-eq0 t c = c.run_steps.ensures.0.size ∙ sym c.requires.room
+enter_sub-shape_of-own-then-calls-eq0 t c = c.run_steps.ensures.came.size ∙ sym c.requires.room
 
 pub enter_sub-run_steps-requires-then-calls-le2 : goal.enter_sub-run_steps-requires-then-calls-le2
 enter_sub-run_steps-requires-then-calls-le2 t c = (omega (arith, c.decreases), runs_steps c.requires 64 c.recall_scope-known.ensures.size c.recall_scope-known.ensures.kept (omega (arith, c.sub_scope_count-calls.ensures, c.if-calls-le2.true)))
 
 pub enter_sub-shape_of-own-then-calls-le2 : goal.enter_sub-shape_of-own-then-calls-le2
-enter_sub-shape_of-own-then-calls-le2 t c = c.run_steps-then-calls-le2.ensures.0.size ∙ sym c.requires.room
+enter_sub-shape_of-own-then-calls-le2 t c = c.run_steps-then-calls-le2.ensures.came.size ∙ sym c.requires.room
 
 pub enter_sub-run_steps-requires-2 : goal.enter_sub-run_steps-requires-2
 enter_sub-run_steps-requires-2 t c = (omega (arith, c.decreases), runs_steps c.requires 256 c.recall_scope-known.ensures.size c.recall_scope-known.ensures.kept (omega (arith, c.sub_scope_count-calls.ensures, called_few c.requires)))
 
 pub enter_sub-shape_of-own : goal.enter_sub-shape_of-own
-enter_sub-shape_of-own t c = c.run_steps-2.ensures.0.size ∙ sym c.requires.room
+enter_sub-shape_of-own t c = c.run_steps-2.ensures.came.size ∙ sym c.requires.room
 
 pub run_steps-overflow_mul-i : goal.run_steps-overflow_mul-i
 run_steps-overflow_mul-i t c = omega (arith, scope_few c.requires.entry)
@@ -77,7 +76,7 @@ pub run_steps-shape_of-memo-then-c-ge-EMPTY : goal.run_steps-shape_of-memo-then-
 run_steps-shape_of-memo-then-c-ge-EMPTY t c = c.loop-n.invariant.memo_same
 
 pub run_steps-returns-then-c-ge-EMPTY : goal.run_steps-returns-then-c-ge-EMPTY
-run_steps-returns-then-c-ge-EMPTY t c = (end_variable c.requires.entry c.loop-n.invariant.running c.variable_count-variables.ensures c.sub_scope_count.ensures c.loop-n-test.true c.byte_at-x.ensures c.if-x-variables.true c.step_cell-c.ensures c.if-c-ge-EMPTY.true c.cause_of.ensures, c.loop-n.invariant.known)
+run_steps-returns-then-c-ge-EMPTY t c = record { came = end_variable c.requires.entry c.loop-n.invariant.running c.variable_count-variables.ensures c.sub_scope_count.ensures c.loop-n-test.true c.byte_at-x.ensures c.if-x-variables.true c.step_cell-c.ensures c.if-c-ge-EMPTY.true c.cause_of.ensures; known = c.loop-n.invariant.known }
 
 pub run_steps-offset_bounds-own-x : goal.run_steps-offset_bounds-own-x
 run_steps-offset_bounds-own-x t c = omega (arith, put_room c.requires.entry c.loop-n.invariant.running c.variable_count-variables.ensures c.sub_scope_count.ensures c.loop-n-test.true c.byte_at-x.ensures c.if-x-variables.true, c.loop-n.invariant.running.own_room)
@@ -104,7 +103,7 @@ pub run_steps-shape_of-memo-then-c-ge-EMPTY-2 : goal.run_steps-shape_of-memo-the
 run_steps-shape_of-memo-then-c-ge-EMPTY-2 t c = c.loop-n.invariant.memo_same
 
 pub run_steps-returns-then-c-ge-EMPTY-2 : goal.run_steps-returns-then-c-ge-EMPTY-2
-run_steps-returns-then-c-ge-EMPTY-2 t c = (end_hand c.requires.entry c.loop-n.invariant.running c.variable_count-variables.ensures c.sub_scope_count.ensures c.loop-n-test.true c.byte_at-x.ensures c.if-x-variables.false c.hand_over-c.ensures c.if-c-ge-EMPTY-2.true c.cause_of-then-c-ge-EMPTY-2.ensures, c.loop-n.invariant.known)
+run_steps-returns-then-c-ge-EMPTY-2 t c = record { came = end_hand c.requires.entry c.loop-n.invariant.running c.variable_count-variables.ensures c.sub_scope_count.ensures c.loop-n-test.true c.byte_at-x.ensures c.if-x-variables.false c.hand_over-c.ensures c.if-c-ge-EMPTY-2.true c.cause_of-then-c-ge-EMPTY-2.ensures; known = c.loop-n.invariant.known }
 
 pub run_steps-sub_scope_at-j-requires : goal.run_steps-sub_scope_at-j-requires
 run_steps-sub_scope_at-j-requires t c = c.requires.entry.world.sound.laid
@@ -119,31 +118,31 @@ pub run_steps-enter_sub-requires : goal.run_steps-enter_sub-requires
 run_steps-enter_sub-requires t c = (omega (arith, earlier c.requires.entry _ _ (number_below c.requires.entry c.loop-n.invariant.running c.variable_count-variables.ensures c.sub_scope_count.ensures c.loop-n-test.true c.byte_at-x.ensures c.if-x-variables.false) c.sub_scope_at-j.ensures, c.decreases), callee c.requires.entry _ _ _ _ _ (number_below c.requires.entry c.loop-n.invariant.running c.variable_count-variables.ensures c.sub_scope_count.ensures c.loop-n-test.true c.byte_at-x.ensures c.if-x-variables.false) c.sub_scope_at-j.ensures c.hand_over-c.ensures.size c.hand_over-c.ensures.kept (part_room _ _ ((c.byte_at-x.result - c.variable_count-variables.result) * 32 + 32 - (c.byte_at-x.result - c.variable_count-variables.result) * 32) (called_room_lem c.requires.entry c.loop-n.invariant.running c.variable_count-variables.ensures c.sub_scope_count.ensures c.loop-n-test.true c.byte_at-x.ensures c.if-x-variables.false) (omega arith)) (kept_taken ((c.byte_at-x.result - c.variable_count-variables.result) * 32 + 32 - (c.byte_at-x.result - c.variable_count-variables.result) * 32) _ (kept_dropped ((c.byte_at-x.result - c.variable_count-variables.result) * 32) _ c.loop-n.invariant.running.called_kept)) c.loop-n.invariant.known)
 
 pub run_steps-overflow_add-count : goal.run_steps-overflow_add-count
-run_steps-overflow_add-count t c = omega (arith, few_values c.requires.entry c.loop-n.invariant.running c.variable_count-variables.ensures c.sub_scope_count.ensures c.loop-n-test.true c.byte_at-x.ensures c.if-x-variables.false c.hand_over-c.ensures c.if-c-ge-EMPTY-2.false c.sub_scope_at-j.ensures c.enter_sub.ensures.0 c.in-Values.is)
+run_steps-overflow_add-count t c = omega (arith, few_values c.requires.entry c.loop-n.invariant.running c.variable_count-variables.ensures c.sub_scope_count.ensures c.loop-n-test.true c.byte_at-x.ensures c.if-x-variables.false c.hand_over-c.ensures c.if-c-ge-EMPTY-2.false c.sub_scope_at-j.ensures c.enter_sub.ensures.came c.in-Values.is)
 
 pub run_steps-loop-n-smaller : goal.run_steps-loop-n-smaller
 run_steps-loop-n-smaller t c = omega (arith, c.loop-n-test.true)
 
 pub run_steps-loop-n-preserved : goal.run_steps-loop-n-preserved
-run_steps-loop-n-preserved t c = record { running = turn_call c.requires.entry c.loop-n.invariant.running c.variable_count-variables.ensures c.sub_scope_count.ensures c.loop-n-test.true c.byte_at-x.ensures c.if-x-variables.false c.hand_over-c.ensures c.if-c-ge-EMPTY-2.false c.sub_scope_at-j.ensures c.enter_sub.ensures.0 ((c.byte_at-x.result - c.variable_count-variables.result) * 32 + 32 - (c.byte_at-x.result - c.variable_count-variables.result) * 32) (omega arith) c.in-Values.is; known = c.enter_sub.ensures.1; called_same = call_same c.requires.entry c.loop-n.invariant.running c.variable_count-variables.ensures c.sub_scope_count.ensures c.loop-n-test.true c.byte_at-x.ensures c.if-x-variables.false c.enter_sub.ensures.0 ((c.byte_at-x.result - c.variable_count-variables.result) * 32 + 32 - (c.byte_at-x.result - c.variable_count-variables.result) * 32) (omega arith) ∙ c.loop-n.invariant.called_same; memo_same = c.enter_sub.auto.1.1.1.1.1.1.1.0 ∙ c.loop-n.invariant.memo_same }
+run_steps-loop-n-preserved t c = record { running = turn_call c.requires.entry c.loop-n.invariant.running c.variable_count-variables.ensures c.sub_scope_count.ensures c.loop-n-test.true c.byte_at-x.ensures c.if-x-variables.false c.hand_over-c.ensures c.if-c-ge-EMPTY-2.false c.sub_scope_at-j.ensures c.enter_sub.ensures.came ((c.byte_at-x.result - c.variable_count-variables.result) * 32 + 32 - (c.byte_at-x.result - c.variable_count-variables.result) * 32) (omega arith) c.in-Values.is; known = c.enter_sub.ensures.known; called_same = call_same c.requires.entry c.loop-n.invariant.running c.variable_count-variables.ensures c.sub_scope_count.ensures c.loop-n-test.true c.byte_at-x.ensures c.if-x-variables.false c.enter_sub.ensures.came ((c.byte_at-x.result - c.variable_count-variables.result) * 32 + 32 - (c.byte_at-x.result - c.variable_count-variables.result) * 32) (omega arith) ∙ c.loop-n.invariant.called_same; memo_same = c.enter_sub.auto.memo ∙ c.loop-n.invariant.memo_same }
 
 pub run_steps-overflow_add-result : goal.run_steps-overflow_add-result
-run_steps-overflow_add-result t c = omega (arith, few_ended c.requires.entry c.loop-n.invariant.running c.variable_count-variables.ensures c.sub_scope_count.ensures c.loop-n-test.true c.byte_at-x.ensures c.if-x-variables.false c.hand_over-c.ensures c.if-c-ge-EMPTY-2.false c.sub_scope_at-j.ensures c.enter_sub.ensures.0 c.in-Ended.is)
+run_steps-overflow_add-result t c = omega (arith, few_ended c.requires.entry c.loop-n.invariant.running c.variable_count-variables.ensures c.sub_scope_count.ensures c.loop-n-test.true c.byte_at-x.ensures c.if-x-variables.false c.hand_over-c.ensures c.if-c-ge-EMPTY-2.false c.sub_scope_at-j.ensures c.enter_sub.ensures.came c.in-Ended.is)
 
 pub run_steps-shape_of-own-in-Ended : goal.run_steps-shape_of-own-in-Ended
 run_steps-shape_of-own-in-Ended t c = c.loop-n.invariant.running.own_room ∙ sym c.requires.entry.room
 
 pub run_steps-shape_of-called-in-Ended : goal.run_steps-shape_of-called-in-Ended
-run_steps-shape_of-called-in-Ended t c = call_same c.requires.entry c.loop-n.invariant.running c.variable_count-variables.ensures c.sub_scope_count.ensures c.loop-n-test.true c.byte_at-x.ensures c.if-x-variables.false c.enter_sub.ensures.0 ((c.byte_at-x.result - c.variable_count-variables.result) * 32 + 32 - (c.byte_at-x.result - c.variable_count-variables.result) * 32) (omega arith) ∙ c.loop-n.invariant.called_same
+run_steps-shape_of-called-in-Ended t c = call_same c.requires.entry c.loop-n.invariant.running c.variable_count-variables.ensures c.sub_scope_count.ensures c.loop-n-test.true c.byte_at-x.ensures c.if-x-variables.false c.enter_sub.ensures.came ((c.byte_at-x.result - c.variable_count-variables.result) * 32 + 32 - (c.byte_at-x.result - c.variable_count-variables.result) * 32) (omega arith) ∙ c.loop-n.invariant.called_same
 
 pub run_steps-shape_of-memo-in-Ended : goal.run_steps-shape_of-memo-in-Ended
-run_steps-shape_of-memo-in-Ended t c = c.enter_sub.auto.1.1.1.1.1.1.1.0 ∙ c.loop-n.invariant.memo_same
+run_steps-shape_of-memo-in-Ended t c = c.enter_sub.auto.memo ∙ c.loop-n.invariant.memo_same
 
 pub run_steps-returns-in-Ended : goal.run_steps-returns-in-Ended
-run_steps-returns-in-Ended t c = (end_call c.requires.entry c.loop-n.invariant.running c.variable_count-variables.ensures c.sub_scope_count.ensures c.loop-n-test.true c.byte_at-x.ensures c.if-x-variables.false c.hand_over-c.ensures c.if-c-ge-EMPTY-2.false c.sub_scope_at-j.ensures c.enter_sub.ensures.0 c.in-Ended.is, c.enter_sub.ensures.1)
+run_steps-returns-in-Ended t c = record { came = end_call c.requires.entry c.loop-n.invariant.running c.variable_count-variables.ensures c.sub_scope_count.ensures c.loop-n-test.true c.byte_at-x.ensures c.if-x-variables.false c.hand_over-c.ensures c.if-c-ge-EMPTY-2.false c.sub_scope_at-j.ensures c.enter_sub.ensures.came c.in-Ended.is; known = c.enter_sub.ensures.known }
 
 pub run_steps-remember_scope-requires : goal.run_steps-remember_scope-requires
-run_steps-remember_scope-requires t c = (noting c.requires.entry c.loop-n.invariant.running.own_room c.loop-n.invariant.running.own_kept c.loop-n.invariant.known, ends c.requires.entry c.loop-n.invariant.running c.variable_count-variables.ensures c.sub_scope_count.ensures c.loop-n-test.false)
+run_steps-remember_scope-requires t c = record { noting = noting c.requires.entry c.loop-n.invariant.running.own_room c.loop-n.invariant.running.own_kept c.loop-n.invariant.known; came = ends c.requires.entry c.loop-n.invariant.running c.variable_count-variables.ensures c.sub_scope_count.ensures c.loop-n-test.false }
 
 pub run_steps-shape_of-own : goal.run_steps-shape_of-own
 run_steps-shape_of-own t c = c.loop-n.invariant.running.own_room ∙ sym c.requires.entry.room
@@ -152,7 +151,7 @@ pub run_steps-shape_of-called : goal.run_steps-shape_of-called
 run_steps-shape_of-called t c = c.loop-n.invariant.called_same
 
 pub run_steps-shape_of-memo : goal.run_steps-shape_of-memo
-run_steps-shape_of-memo t c = c.remember_scope.auto.1.1.1.1.1.1.0 ∙ c.loop-n.invariant.memo_same
+run_steps-shape_of-memo t c = c.remember_scope.auto.memo ∙ c.loop-n.invariant.memo_same
 
 pub run_steps-returns : goal.run_steps-returns
-run_steps-returns t c = (ends c.requires.entry c.loop-n.invariant.running c.variable_count-variables.ensures c.sub_scope_count.ensures c.loop-n-test.false, c.remember_scope.ensures)
+run_steps-returns t c = record { came = ends c.requires.entry c.loop-n.invariant.running c.variable_count-variables.ensures c.sub_scope_count.ensures c.loop-n-test.false; known = c.remember_scope.ensures }

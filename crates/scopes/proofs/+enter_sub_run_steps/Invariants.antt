@@ -1,12 +1,6 @@
 -- `scopes::enter_sub` and `scopes::run_steps` meet their contracts. The invariant: the cells hold what the steps so far have set, and the rest of the
-use mathlib.Core.Path.{refl, sym, ◌∙◌}
-use native.Mathlib.Omega.{arith}
-use borrow.Author.Rules.{rules}
-use Rattle.slices.proofs.Parts.{part_room}
-use Rattle.scopes.proofs.Cells.{kept_taken, kept_dropped}
-use Rattle.scopes.proofs.Entering.{rank, scope_few, evaluable, earlier, callee, noting, runs_steps, called_few, Between, begins, ends, put_room, given_room_lem, turn_variable, end_variable}
-use Rattle.scopes.proofs.Entering.{number_below, number_few, called_room_lem, end_hand, few_ended, few_values, end_call, turn_call, call_same}
-use Prim.Native.Nat.{ℕ, suc, ◌<◌, ◌+◌, ◌-◌, ◌*◌}
+use Rattle.scopes.proofs.Entering.{rank, Between}
+use Prim.Native.Nat.{suc, ◌-◌, ◌*◌}
 use Rattle.scopes.proofs.+enter_sub_run_steps.Given as goal
 
 abbrev pub decreases-enter_sub : goal.decreases-enter_sub

@@ -1,7 +1,6 @@
 -- `scopes::enter` meets its contract.
 use native.Mathlib.Omega.{arith}
 use Rattle.scopes.proofs.Entering.{runs_steps, called_few}
-use borrow.Author.Rules.{rules}
 use Rattle.scopes.proofs.enter.Goals as goal
 
 pub sub_scope_count-requires : goal.sub_scope_count-requires

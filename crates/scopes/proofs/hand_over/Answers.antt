@@ -1,9 +1,7 @@
 -- `scopes::hand_over` meets its contract. The invariant: the cells hold what the variables so far are handed.
-use Prim.Native.Nat.{◌-◌}
-use borrow.Author.Rules.{rules}
 use native.Mathlib.Omega.{arith}
 use Rattle.book.specs.Positions.{sub_scope_at}
-use Rattle.scopes.proofs.Hands.{Passed, none_passed, pass, halt, end}
+use Rattle.scopes.proofs.Hands.{none_passed, pass, halt, end}
 use Rattle.scopes.proofs.hand_over.Goals as goal
 
 pub sub_scope_at-j-requires : goal.sub_scope_at-j-requires

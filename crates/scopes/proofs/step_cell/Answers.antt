@@ -1,6 +1,5 @@
 -- `scopes::step_cell` meets its contract.
 use Rattle.scopes.proofs.Entering.{step_given, step_tree}
-use borrow.Author.Rules.{rules}
 use Rattle.scopes.proofs.step_cell.Goals as goal
 
 pub returns-then-g-ne-NOTHING : goal.returns-then-g-ne-NOTHING

@@ -1,12 +1,8 @@
 -- `signatures::fill_types` meets its contract. The invariant: the bytes below v are filled in.
-use Rattle.lists.proofs.Types.{Filling, start, turn, stop}
-use Rattle.book.specs.References.{scope_at}
-use Rattle.book.specs.Decode.{scopes_of}
+use Rattle.lists.proofs.Types.{start, turn, stop}
 use Rattle.book.specs.Positions.{variable_at}
 use native.Mathlib.Omega.{arith}
-use Prim.Native.Nat.{◌-◌}
 use mathlib.Core.Path.{sym, ◌∙◌}
-use borrow.Author.Rules.{rules}
 use Rattle.signatures.proofs.fill_types.Goals as goal
 
 pub loop-v-init : goal.loop-v-init

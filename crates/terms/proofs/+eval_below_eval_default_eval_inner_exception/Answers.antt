@@ -13,8 +13,8 @@ use borrow.Author.Tests.{eq-eqb, ne_eqb, eqb-false}
 use Rattle.laws.proofs.Booleans.{decide}
 use Rattle.terms.specs.Outcomes.{NamesException, Readable, ReadableException}
 use Rattle.terms.proofs.Nodes as nodes
-use borrow.Author.Rules.{rules}
 use Rattle.terms.proofs.+eval_below_eval_default_eval_inner_exception.Goals as goal
+use Rattle.terms.proofs.+eval_below_eval_default_eval_inner_exception.Goals.{eval_inner-then-t-eq-YES, eval_inner-else-t-eq-YES, eval_inner-in_default-via-then-kind-lt8, eval_inner-in_default-via-else-kind-lt8+else-kind-lt17}
 
 -- a node of lower number, and an exception
 module _ {bytes row own called : List ℕ} {n t : ℕ} (r : Readable bytes row own called n) (l : 4 * n < t) where
@@ -178,10 +178,16 @@ pub eval_inner-overflow_add-taken-else-t-eq-YES : goal.eval_inner-overflow_add-t
 eval_inner-overflow_add-taken-else-t-eq-YES t c = omega (arith, nodes.in_book _ _ _ _ _ c.requires.readable)
 
 pub eval_inner-bounds-book-at-else-t-eq-YES : goal.eval_inner-bounds-book-at-else-t-eq-YES
-eval_inner-bounds-book-at-else-t-eq-YES t c = nodes.choice_byte _ _ _ _ _ c.requires.readable c.in-17.is
+eval_inner-bounds-book-at-else-t-eq-YES t c = let h = nodes.choice_byte _ _ _ _ _ c.requires.readable c.in-17.is in omega arith
 
 pub eval_inner-eval_below-requires-in-17 : goal.eval_inner-eval_below-requires-in-17
-eval_inner-eval_below-requires-in-17 t c = below c.requires.readable (omega (arith, c.decreases)) _ (⊎_elim (λ h. rw h.2 (nodes.choice_below _ _ _ _ _ c.requires.readable c.in-17.is).1) (λ h. rw h.2 (nodes.choice_below _ _ _ _ _ c.requires.readable c.in-17.is).2) c.if-t-eq-YES.branch)
+eval_inner-eval_below-requires-in-17 t c =
+    let b = nodes.choice_below _ _ _ _ _ c.requires.readable c.in-17.is in
+    below c.requires.readable (omega (arith, c.decreases)) _
+    (elim c.if-t-eq-YES.branch [
+      | eval_inner-then-t-eq-YES w ↦ rw w.taken-is b.1
+      | eval_inner-else-t-eq-YES w ↦ rw w.taken-is b.2
+    ])
 
 pub eval_inner-overflow_add-b : goal.eval_inner-overflow_add-b
 eval_inner-overflow_add-b t c = omega (arith, nodes.in_book _ _ _ _ _ c.requires.readable)
@@ -205,7 +211,16 @@ pub eval_inner-eval_below-y-requires : goal.eval_inner-eval_below-y-requires
 eval_inner-eval_below-y-requires t c = below c.requires.readable (omega (arith, c.decreases)) _ (nodes.binary_below _ _ _ _ _ c.requires.readable (c.in-12.in_default-own.rest, c.in-12.if-kind-lt8-own.false, c.in-12.if-kind-lt17-own.true)).1
 
 pub eval_inner-eval_default-requires : goal.eval_inner-eval_default-requires
-eval_inner-eval_default-requires t c = let out : nodes.Other (get_or c.args.book.now (get_or c.args.row.now c.args.n 0) 0) = (c.requires.inner, c.in_default-1.rest, ⊎_elim (λ h. inl h.taken) (λ h. inr h.1.left) c.in_default.branch) in let byte = c.type_inv.book (get_or c.args.row.now c.args.n 0) in (omega (arith, c.decreases), record { readable = c.requires.readable; whole = nodes.default_byte _ _ _ _ _ c.requires.readable out (omega arith); is = nodes.default_node _ _ _ _ _ c.requires.readable out })
+eval_inner-eval_default-requires t c =
+    let out : nodes.Other (get_or c.args.book.now (get_or c.args.row.now c.args.n 0) 0) = (
+      c.requires.inner,
+      c.in_default-1.rest,
+      elim c.in_default.branch [
+        | eval_inner-in_default-via-then-kind-lt8 w ↦ inl w.if-kind-lt8-1.true
+        | eval_inner-in_default-via-else-kind-lt8+else-kind-lt17 w ↦ inr w.if-kind-lt17-1.false
+      ],
+    ) in
+    let byte = c.type_inv.book (get_or c.args.row.now c.args.n 0) in (omega (arith, c.decreases), record { readable = c.requires.readable; whole = nodes.default_byte _ _ _ _ _ c.requires.readable out (omega arith); is = nodes.default_node _ _ _ _ _ c.requires.readable out })
 
 pub eval_inner-returns-in-8 : goal.eval_inner-returns-in-8
 eval_inner-returns-in-8 t c = nodes.empty _ _ _ _ _ c.requires.readable c.in-8.is
@@ -221,10 +236,10 @@ eval_inner-returns-in-11 t c = nodes.of_negate _ _ _ _ _ c.requires.readable c.i
 
 pub eval_inner-returns-after-t-eq-YES : goal.eval_inner-returns-after-t-eq-YES
 eval_inner-returns-after-t-eq-YES t c =
-    ⊎_elim
-    (λ h. nodes.branch _ _ _ _ _ c.requires.readable c.in-17.is _ _ true c.eval_below-t.ensures c.if-t-ge-EMPTY.false (eq-eqb _ _ h.0.taken) (rw (← h.2) c.eval_below-in-17.ensures))
-    (λ h. nodes.branch _ _ _ _ _ c.requires.readable c.in-17.is _ _ false c.eval_below-t.ensures c.if-t-ge-EMPTY.false (ne_eqb _ _ h.0.left) (rw (← h.2) c.eval_below-in-17.ensures))
-    c.if-t-eq-YES.branch
+    elim c.if-t-eq-YES.branch [
+      | eval_inner-then-t-eq-YES w ↦ nodes.branch _ _ _ _ _ c.requires.readable c.in-17.is _ _ true c.eval_below-t.ensures (omega arith) (eq-eqb _ _ w.if-t-eq-YES.true) (rw (← w.taken-is) c.eval_below-in-17.ensures)
+      | eval_inner-else-t-eq-YES w ↦ nodes.branch _ _ _ _ _ c.requires.readable c.in-17.is _ _ false c.eval_below-t.ensures (omega arith) (ne_eqb _ _ w.if-t-eq-YES.false) (rw (← w.taken-is) c.eval_below-in-17.ensures)
+    ]
 
 pub eval_inner-returns-else-x-ge-EMPTY : goal.eval_inner-returns-else-x-ge-EMPTY
 eval_inner-returns-else-x-ge-EMPTY t c = nodes.of_two _ _ _ _ _ c.requires.readable (c.in-12.in_default-own.rest, c.in-12.if-kind-lt8-own.false, c.in-12.if-kind-lt17-own.true) _ _ _ c.eval_below-x.ensures c.eval_below-y.ensures c.binary.ensures

@@ -1,17 +1,7 @@
 -- `terms::eval_below`, `eval_inner`, `eval_default` and `exception` meet their contracts.
-use Prim.Native.Nat.{ℕ, ◌+◌, ◌*◌, ◌<◌}
-use mathlib.Core.Path.{◌≡◌}
-use mathlib.Core.Bool.{true, false, cond}
-use mathlib.Core.List.{List}
-use mathlib.Core.Logic.{inl, inr, ⊎_elim}
-use native.Mathlib.Omega.{arith}
-use lib.ListN.{get_or}
+use Prim.Native.Nat.{◌+◌, ◌*◌}
+use mathlib.Core.Bool.{cond}
 use lib.Dec.{eqb}
-use borrow.Author.Tests.{eq-eqb, ne_eqb, eqb-false}
-use Rattle.laws.proofs.Booleans.{decide}
-use Rattle.terms.specs.Outcomes.{NamesException, Readable, ReadableException}
-use Rattle.terms.proofs.Nodes as nodes
-use borrow.Author.Rules.{rules}
 use Rattle.terms.proofs.+eval_below_eval_default_eval_inner_exception.Given as goal
 
 abbrev pub decreases-eval_below : goal.decreases-eval_below

@@ -10,7 +10,6 @@ use Rattle.calculus.proofs.Numbers.{kept, sum_fits, difference_fits}
 use Rattle.operators.specs.Kinds.{operator}
 use Rattle.cells.specs.Codec.{payload}
 use Rattle.terms.proofs.Operators.{left_passes, right_passes, payload_fits, and_cells, add_cells, subtract_cells, equal_cells, less_cells}
-use borrow.Author.Rules.{rules}
 use Rattle.terms.proofs.binary.Goals as goal
 
 is : (x : ℕ) {r : ℤ} → r ≡ payload x → to_z w64 (of_z w64 r) ≡ payload x

@@ -1,14 +1,12 @@
 -- `terms::eval_rest` meets its contract.
 use Prim.Native.Nat.{ℕ, ◌+◌}
-use mathlib.Core.Logic.{⊎_elim}
 use native.Mathlib.Omega.{arith}
 use lib.ListN.{get_or}
 use Rattle.cells.specs.Codec.{Codes}
 use Rattle.terms.specs.Clauses.{consequence_in, rest_in}
 use Rattle.terms.proofs.Clauses.{condition_ends, condition_fails, condition_holds, always, defined, ruled}
-use borrow.Author.Rules.{rules}
 use Rattle.terms.proofs.eval_rest.Goals as goal
-use Rattle.terms.proofs.eval_rest.Goals.{Joined-condition}
+use Rattle.terms.proofs.eval_rest.Goals.{Joined-condition, then-condition+else-t-ge-EMPTY+else-t-ne-YES, else-condition}
 
 -- the condition was yes, or there is none
 went : (c : Joined-condition) (r : ℕ) →
@@ -16,10 +14,10 @@ went : (c : Joined-condition) (r : ℕ) →
     Codes r (consequence_in s.book.now s.row.now s.own.now s.called.now (get_or s.book.now s.at 0) (get_or s.book.now (s.at + 5) 0))
     → Codes r (rest_in s.book.now s.row.now s.own.now s.called.now s.at)
 went c r k =
-    ⊎_elim
-    (λ h. condition_holds _ _ _ _ c.args.at _ h.0.taken h.1.ensures h.2.left h.3.left r k)
-    (λ h. always _ _ _ _ c.args.at h.left r k)
-    c.if-condition.branch
+    elim c.if-condition.branch [
+      | then-condition+else-t-ge-EMPTY+else-t-ne-YES w ↦ condition_holds _ _ _ _ c.args.at _ w.if-condition.true w.eval_below-t.ensures w.if-t-ge-EMPTY.false w.if-t-ne-YES.false r k
+      | else-condition w ↦ always _ _ _ _ c.args.at w.if-condition.false r k
+    ]
 
 pub overflow_cast-condition : goal.overflow_cast-condition
 overflow_cast-condition c = omega (arith, c.type_inv.book (c.args.at + 4))

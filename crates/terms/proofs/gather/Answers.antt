@@ -1,6 +1,5 @@
 -- `terms::gather` meets its contract.
 use Rattle.terms.proofs.Defaults.{ended_stays, one_ends, one_joins}
-use borrow.Author.Rules.{rules}
 use Rattle.terms.proofs.gather.Goals as goal
 
 pub returns-then-g-ge-EMPTY : goal.returns-then-g-ge-EMPTY

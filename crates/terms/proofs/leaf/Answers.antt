@@ -6,7 +6,6 @@ use mir.Val.{SFits}
 use mir.Facts.{to_z-of_z}
 use Rattle.index.proofs.Bodies.{body_byte}
 use Rattle.terms.proofs.Leaves as leaves
-use borrow.Author.Rules.{rules}
 use Rattle.terms.proofs.leaf.Goals as goal
 
 pub bounds-book-at-2 : goal.bounds-book-at-2

@@ -8,7 +8,6 @@ use Rattle.calculus.proofs.Numbers.{zero_fits, kept, difference_fits}
 use Rattle.calculus.specs.declared.Unary.TheVariants.{Negate}
 use Rattle.cells.specs.Codec.{payload}
 use Rattle.terms.proofs.Operators.{end_passes, payload_fits, negate_cell}
-use borrow.Author.Rules.{rules}
 use Rattle.terms.proofs.negate.Goals as goal
 use Rattle.terms.proofs.negate.Goals.{After-signed}
 

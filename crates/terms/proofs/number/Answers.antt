@@ -1,7 +1,6 @@
 -- `terms::number` meets its contract.
 use mir.Facts.{to_z-of_z}
 use Rattle.cells.specs.Codec.{value_cell}
-use borrow.Author.Rules.{rules}
 use Rattle.terms.proofs.number.Goals as goal
 
 pub returns : goal.returns

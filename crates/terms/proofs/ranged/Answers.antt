@@ -6,7 +6,6 @@ use mir.Facts.{to_z-of_z}
 use Rattle.answers.specs.declared.Side.TheVariants.{Above, Below}
 use Rattle.calculus.proofs.Numbers.{ranged_by_lem, within_by}
 use Rattle.terms.proofs.Operators.{side_codes, number_codes}
-use borrow.Author.Rules.{rules}
 use Rattle.terms.proofs.ranged.Goals as goal
 use Rattle.terms.proofs.ranged.Goals.{Else-z-gt2147483647}
 

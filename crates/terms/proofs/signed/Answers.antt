@@ -3,7 +3,6 @@ use mir.Syntax.{w32}
 use mir.Val.{SFits}
 use mir.Facts.{to_z-of_z}
 use Rattle.calculus.proofs.Numbers.{wide}
-use borrow.Author.Rules.{rules}
 use Rattle.terms.proofs.signed.Goals as goal
 use Rattle.terms.proofs.signed.Goals.{After-number_of}
 

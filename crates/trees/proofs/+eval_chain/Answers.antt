@@ -1,30 +1,22 @@
 -- `trees::eval_chain` meets its contract. The loop's invariant is `Walks`. The measure: the cells of exceptions rise along the calls.
 use mathlib.Core.Path.{refl}
-use mathlib.Core.Logic.{⊎_elim}
 use native.Mathlib.Omega.{arith}
-use lib.ListN.{length}
-use Rattle.book.specs.Decode.{scopes_of}
-use Rattle.book.specs.References.{scope_at}
 use Rattle.cells.specs.Codec.{Gathers}
 use Rattle.trees.specs.Chains.{chain_outcome}
-use Rattle.trees.proofs.Walks.{Walks, begin, stop, deeper, next_walk, clause_inside, readable_clause, none_there, rises, ended, again}
-use borrow.Author.Rules.{rules}
-use Prim.Native.Nat.{ℕ, ◌+◌, ◌-◌, ◌<◌}
+use Rattle.trees.proofs.Walks.{begin, stop, deeper, next_walk, clause_inside, readable_clause, none_there, rises, ended, again}
+use Prim.Native.Nat.{ℕ, ◌+◌}
 use Rattle.trees.proofs.+eval_chain.Goals as goal
-use Rattle.trees.proofs.+eval_chain.Goals.{Joined-links-c}
-
-abbrev Met : ℕ → Type 0
-Met t = Joined-links-c (R-eval-chain t) (eval-chain-at t) eval-chain.Post eval-chain-Inv-loop eval-chain-μ-loop
+use Rattle.trees.proofs.+eval_chain.Goals.{Joined-links-c, then-links-c, else-links-c}
 
 -- what the exceptions of the clause came to
-met : (t : ℕ) (c : Met t) →
+met : (t : ℕ) (c : Joined-links-c t) →
     let s = c.args in
     Gathers c.if-links-c.x (chain_outcome s.book.now s.own.now s.called.now s.i (289 + c.loop-c.c))
 met t c =
-    ⊎_elim
-    (λ a. rw a.2 a.1.ensures)
-    (λ a. rw a.1 (none_there _ _ _ _ _ _ _ c.requires.1 _ _ c.loop-c.invariant c.loop-c-test.true a.0.left))
-    c.if-links-c.branch
+    elim c.if-links-c.branch [
+      | then-links-c w ↦ rw w.x-is w.eval_chain-x.ensures
+      | else-links-c w ↦ rw w.x-is (none_there _ _ _ _ _ _ _ c.requires _ _ c.loop-c.invariant c.loop-c-test.true w.if-links-c.false)
+    ]
 
 pub bounds-links-cell : goal.bounds-links-cell
 bounds-links-cell t c = let h = c.requires.head in omega (arith, c.requires.linked.size)
@@ -63,7 +55,7 @@ pub settle_clause-o-requires : goal.settle_clause-o-requires
 settle_clause-o-requires t c = readable_clause _ _ _ _ _ _ _ c.requires _ _ c.loop-c.invariant c.loop-c-test.true
 
 pub returns-then-g-ge-EMPTY : goal.returns-then-g-ge-EMPTY
-returns-then-g-ge-EMPTY t c = ended _ _ _ _ _ _ _ c.requires _ _ c.loop-c.invariant c.loop-c-test.true _ _ _ (met t (goal.at.returns-then-g-ge-EMPTY c).Joined-links-c) c.settle_clause-o.ensures c.gather-g.ensures c.if-g-ge-EMPTY.true
+returns-then-g-ge-EMPTY t c = ended _ _ _ _ _ _ _ c.requires _ _ c.loop-c.invariant c.loop-c-test.true _ _ _ (met t (goal.at.returns-then-g-ge-EMPTY t c).Joined-links-c) c.settle_clause-o.ensures c.gather-g.ensures c.if-g-ge-EMPTY.true
 
 pub overflow_add-c-in-loop-c : goal.overflow_add-c-in-loop-c
 overflow_add-c-in-loop-c t c = omega (arith, c.loop-c-test.true)
@@ -78,7 +70,7 @@ pub loop-c-smaller : goal.loop-c-smaller
 loop-c-smaller t c = rises _ _ _ _ _ _ _ c.requires _ _ c.loop-c.invariant c.loop-c-test.true _ refl
 
 pub loop-c-preserved : goal.loop-c-preserved
-loop-c-preserved t c = again _ _ _ _ _ _ _ c.requires _ _ c.loop-c.invariant c.loop-c-test.true _ _ _ (met t (goal.at.loop-c-preserved c).Joined-links-c) c.settle_clause-o.ensures c.gather-g.ensures _ refl
+loop-c-preserved t c = again _ _ _ _ _ _ _ c.requires _ _ c.loop-c.invariant c.loop-c-test.true _ _ _ (met t (goal.at.loop-c-preserved t c).Joined-links-c) c.settle_clause-o.ensures c.gather-g.ensures _ refl
 
 pub returns : goal.returns
 returns t c = stop _ _ _ _ _ _ _ c.requires _ _ c.loop-c.invariant c.loop-c-test.false

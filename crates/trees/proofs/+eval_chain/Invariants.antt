@@ -1,15 +1,9 @@
 -- `trees::eval_chain` meets its contract. The loop's invariant is `Walks`. The measure: the cells of exceptions rise along the calls.
-use mathlib.Core.Path.{refl}
-use mathlib.Core.Logic.{⊎_elim}
-use native.Mathlib.Omega.{arith}
 use lib.ListN.{length}
 use Rattle.book.specs.Decode.{scopes_of}
 use Rattle.book.specs.References.{scope_at}
-use Rattle.cells.specs.Codec.{Gathers}
-use Rattle.trees.specs.Chains.{chain_outcome}
-use Rattle.trees.proofs.Walks.{Walks, begin, stop, deeper, next_walk, clause_inside, readable_clause, none_there, rises, ended, again}
-use borrow.Author.Rules.{rules}
-use Prim.Native.Nat.{ℕ, ◌+◌, ◌-◌, ◌<◌}
+use Rattle.trees.proofs.Walks.{Walks}
+use Prim.Native.Nat.{◌-◌}
 use Rattle.trees.proofs.+eval_chain.Given as goal
 
 abbrev pub decreases-eval_chain : goal.decreases-eval_chain

@@ -4,7 +4,6 @@ use mathlib.Core.Path.{refl, sym, ◌∙◌}
 use native.Mathlib.Omega.{arith}
 use lib.ListN.{get_or}
 use Rattle.trees.proofs.Walks.{begin, clause_inside, readable_clause, single}
-use borrow.Author.Rules.{rules}
 use Rattle.trees.proofs.eval_bases.Goals as goal
 
 pub overflow_cast-c : goal.overflow_cast-c

@@ -3,7 +3,6 @@ use native.Mathlib.Omega.{arith}
 use native.Mathlib.Nat.{add-sub_cancel_left}
 use Rattle.trees.proofs.Targets.{slot_few}
 use Rattle.trees.proofs.Trees.{tree_walk, tree_many, tree_one, tree_empty, tree_no}
-use borrow.Author.Rules.{rules}
 use Rattle.trees.proofs.eval_tree.Goals as goal
 
 pub eval_bases-g-requires : goal.eval_bases-g-requires

@@ -1,6 +1,5 @@
 -- `trees::has_clause` meets its contract.
 use Rattle.trees.proofs.Targets.{target_claused}
-use borrow.Author.Rules.{rules}
 use Rattle.trees.proofs.has_clause.Goals as goal
 
 pub returns : goal.returns

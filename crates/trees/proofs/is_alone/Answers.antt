@@ -1,5 +1,4 @@
 -- `trees::is_alone` meets its contract.
-use borrow.Author.Rules.{rules}
 use borrow.Author.Tests.{eq-eqb, ne_eqb}
 use Rattle.trees.proofs.is_alone.Goals as goal
 

@@ -1,6 +1,5 @@
 -- `trees::settle_clause` meets its contract.
 use Rattle.terms.proofs.Defaults.{settled_many, settled, unsettled}
-use borrow.Author.Rules.{rules}
 use Rattle.trees.proofs.settle_clause.Goals as goal
 
 pub returns-then-x-eq-MANY : goal.returns-then-x-eq-MANY
