@@ -1,5 +1,5 @@
 -- Laws of writing the marked numbers, the lowest first.
---     start, marked-one, other-one, stop    writing goes on: at first, after a number that is marked or not, after all
+--     start, marked_one, other_one, stop    writing goes on: at first, after a number that is marked or not, after all
 --     marks_order                           where exactly the chosen variables are marked, these are they in order
 -- Assumes nothing.
 use Prim.Native.Nat.{ℕ, suc, ◌+◌, ◌≤◌, ◌<◌}

@@ -1,6 +1,7 @@
 // The chosen variables of a scope: whether they are good, and their order.
 // 18: "more than 12 chosen, one chosen twice, absent, not yes/no, or in the fixed list".
 #![tactic(auto)]
+
 ghost use Rattle.std.specs.Prelude.{◌≡◌, ◌≤◌, length, replicate, map};
 ghost use Rattle.cells.specs.Cells.{given_of};
 ghost use Rattle.book.specs.Decode.{scopes_of};

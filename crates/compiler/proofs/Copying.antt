@@ -1,5 +1,5 @@
 -- Bytes copied one after the other.
---     none_copied, one-copied, all-copied     before the first, one more, and after the last
+--     none_copied, one_copied, all_copied     before the first, one more, and after the last
 -- Assumes nothing.
 use Prim.Native.Nat.{ℕ, ◌+◌, ◌<◌, ◌≤◌}
 use mathlib.Core.Path.{◌≡◌, ◌∙◌}

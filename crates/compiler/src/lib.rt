@@ -1,5 +1,6 @@
 // Compiling a book: the service.
 #![tactic(auto)]
+
 ghost use Rattle.std.specs.Prelude.{◌≡◌, length};
 ghost use Rattle.compiler.specs.Compile.{Compiles};
 ghost use Rattle.scan.specs.Filling.{Unfilled};

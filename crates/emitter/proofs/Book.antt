@@ -1,7 +1,7 @@
 -- The code of an accepted book: what its blocks ask for, that positions fit, that the pieces are the fixed translation, and the answer.
---     block_ready, block-number, blank      what writing a block asks for
+--     block_ready, block_number, blank      what writing a block asks for
 --     book_room                             every position is below 2^32
---     book_length, book-code                the pieces have the sizes said, and are the code of the book
+--     book_length, book_code                the pieces have the sizes said, and are the code of the book
 --     refused, short, moved, written        the service's answers
 -- Assumes nothing.
 use Prim.Native.Nat.{ℕ, zero, suc, ◌+◌, ◌-◌, ◌*◌, ◌<◌, ◌≤◌}

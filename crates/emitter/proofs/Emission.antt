@@ -1,5 +1,5 @@
 -- Laws of bytes written from the end to the beginning.
---     put_byte, put-pair, put-distance, put-none     one byte, two, three, and none where there is no room
+--     put_byte, put_pair, put_distance, put_none     one byte, two, three, and none where there is no room
 --     _then_                 two runs, one in front of the other
 --     alike                   the same bytes, said otherwise
 -- Assumes nothing.

@@ -1,5 +1,6 @@
 // Emitting code: from its end to its beginning, so that every distance is known when it is written.
 #![tactic(auto)]
+
 ghost use Rattle.std.specs.Prelude.{◌≡◌, ◌<◌, length};
 ghost use Rattle.calculus.specs.Terms.{literal};
 ghost use Rattle.calculus.specs.declared.Value.TheVariants as value;

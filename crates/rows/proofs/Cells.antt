@@ -51,7 +51,11 @@ unfolding givens_from given_at
 givens_from_lem cells k v zero c l = refl
 givens_from_lem cells k zero (suc n) c l =
     let e : k + 0 ≡ k = omega arith in
-    rw (e, get_or-set_same cells k c 0 (omega arith), givens_after cells k c (suc k) n (omega arith))
+    let one : get_or (set cells (k + 0) c) k 0 ≡ c =
+    ap (λ (at : ℕ). get_or (set cells at c) k 0) e ∙ get_or-set_same cells k c 0 (omega arith) in
+    let rest : givens_from (set cells (k + 0) c) (suc k) n ≡ givens_from cells (suc k) n =
+    ap (λ (at : ℕ). givens_from (set cells at c) (suc k) n) e ∙ givens_after cells k c (suc k) n (omega arith) in
+    rw (one, rest)
 givens_from_lem cells k (suc v) (suc n) c l =
     let e : k + suc v ≡ suc k + v = omega arith in
     let rest : givens_from (set cells (k + suc v) c) (suc k) n ≡ set (givens_from cells (suc k) n) v (given_of c) =

@@ -1,5 +1,5 @@
 -- Zeros from a position on.
---     cleared_more, cleared-all    clearing: one byte more, behind the last
+--     cleared_more, cleared_all    clearing: one byte more, behind the last
 -- Assumes nothing.
 use Prim.Native.Nat.{ℕ, suc, ◌+◌, ◌-◌, ◌<◌, ◌≤◌}
 use mathlib.Core.Path.{◌≡◌, ◌∙◌}

@@ -2,7 +2,7 @@
 --     none_left, last_row         where no variable is left: one row
 --     first_half                  the table has two halves
 --     one_of, shorter             where a variable is left: the others are fewer
---     fills_first, fills-second   each half asks for what the whole does
+--     fills_first, fills_second   each half asks for what the whole does
 --     whole, restored             the two halves are the whole, and the variable's cell holds nothing again
 -- Assumes nothing.
 use Prim.Native.Nat.{ℕ, suc, ◌-◌, ◌*◌, ◌/◌, ◌<◌}

@@ -1,5 +1,6 @@
 // The rows of a table: running a scope of a loaded book for every assignment of no and yes to the chosen variables.
 #![tactic(auto)]
+
 ghost use Rattle.std.specs.Prelude.{◌≡◌, ◌≤◌, suc, ◌*◌, set};
 ghost use Rattle.scopes.specs.Known.{Known};
 ghost use Rattle.tabulation.specs.Assignments.{power};

@@ -7,7 +7,7 @@
 --     rows_length, rows_at    rows of one length: how long they are, and which stands where
 --     table_length_lem     2^k rows
 --     row_at           the n-th row is that of the n-th assignment
---     choice_row, choice-in    the row of an assignment stands at its binary number, also with bytes behind the table
+--     choice_row, choice_in    the row of an assignment stands at its binary number, also with bytes behind the table
 --     choice_answers   it holds evaluation's answer
 --     table_most       a table has 643,072 bytes at most
 -- Assumes nothing.

@@ -13,7 +13,7 @@ power zero = 1
 power (suc k) = 2 * power k
 
 -- the number of an assignment's row, from 0: no is the digit 0 and yes 1, the first variable the highest digit. That "Every choice is there once",
--- at this row, are the theorems choice-row and assignment-once
+-- at this row, are the theorems choice_row and assignment_once
 unfoldable pub row_number : List Bool → ℕ
 row_number [] = 0
 row_number (b ∷ bs) = bit b * power (length bs) + row_number bs

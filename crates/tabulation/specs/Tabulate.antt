@@ -28,7 +28,7 @@ unfoldable pub row_of : ℕ → Reply → List ℕ
 row_of size reply = (answer_numbers reply.answer).outcome ∷ padded size reply.written
 
 -- the row of an assignment, "with evaluation's answer": evaluating with the fixed input list and the records of the assignment; of a table that is
--- written no such evaluation is refused (row-answers)
+-- written no such evaluation is refused (row_answers)
 unfoldable pub row : List ℕ → ℕ → List ℕ → List ℕ → List Bool → List ℕ
 row bytes i chosen fixed a =
     let variables = (scope_at (scopes_of bytes) i).variables in

@@ -1,8 +1,8 @@
 -- What the service answers, by the tests that it makes.
---     refused_book, refused-scope, refused-input, refused-choice      1 to 12, 13, 14, 18
+--     refused_book, refused_scope, refused_input, refused_choice      1 to 12, 13, 14, 18
 --     ordered_so, tabulated              good chosen variables: what writing the table asks for, and that it is the answer
---     few_chosen, results-few, fills     what measuring and filling the rows ask for
---     short_so, written-so               the table, or 15
+--     few_chosen, results_few, fills     what measuring and filling the rows ask for
+--     short_so, written_so               the table, or 15
 -- Assumes nothing.
 use Prim.Native.Nat.{ℕ, suc, ◌*◌, ◌<◌, ◌≤◌}
 use mathlib.Core.Path.{◌≡◌, refl, sym, ap, subst, ◌∙◌}

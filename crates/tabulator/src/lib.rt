@@ -1,5 +1,6 @@
 // Tabulating a scope of a book: the service.
 #![tactic(auto)]
+
 ghost use Rattle.answers.specs.declared.Judged.TheVariants.{Accepted};
 ghost use Rattle.loaded.specs.Loaded.{Prepared};
 ghost use Rattle.tabulation.specs.Tabulate.{Tabulates};

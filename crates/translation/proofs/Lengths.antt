@@ -1,10 +1,10 @@
 -- The code of an accepted book is at most seven times as long as the book, and has 201,435 bytes at most.
---     steps_length, block-length, blocks-length    the length of code, as a sum
---     own_cost, called-cost    a target's tree costs no more than its clauses do
+--     steps_length, block_length, blocks_length    the length of code, as a sum
+--     own_cost, called_cost    a target's tree costs no more than its clauses do
 --     targets_cost             each clause has one target, so the targets cost no more than all clauses
 --     block_most               a block has two bytes, nine for each variable, four for each sub-scope, 42 for each clause, and for each 14 bytes of
 --                              its nodes 46
---     code_bound, code-max     at most seven times the book's length, and 201,435 bytes
+--     code_bound, code_max     at most seven times the book's length, and 201,435 bytes
 -- Assumes nothing.
 use Prim.Native.Nat.{ℕ, zero, suc, ◌+◌, ◌-◌, ◌*◌, ◌≤◌, ◌<◌}
 use mathlib.Core.Path.{◌≡◌, refl, sym, ap, subst, ◌∙◌}

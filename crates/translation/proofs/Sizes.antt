@@ -1,6 +1,6 @@
 -- The length of a term's code, and that what is to follow the code follows it.
---     code_behind, codes-behind      behind as many bytes as the size says stand the bytes that follow
---     code_length, codes-length      the length of the code
+--     code_behind, codes_behind      behind as many bytes as the size says stand the bytes that follow
+--     code_length, codes_length      the length of the code
 -- Assumes nothing.
 use Prim.Native.Nat.{ℕ, zero, suc, ◌+◌}
 use mathlib.Core.Path.{◌≡◌, refl, ap, ◌∙◌}

@@ -1,5 +1,5 @@
 -- Sums of a function's values.
---     append_below, gathered-below    numbers that are below a bound in each of several lists
+--     append_below, gathered_below    numbers that are below a bound in each of several lists
 --     sum_append       over two lists
 --     sum_below        over a list in which no number stands twice: no more than over all numbers below a bound of them
 --     range_gathered   over all numbers of things each of which adds something to what it names

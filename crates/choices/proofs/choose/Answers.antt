@@ -1,7 +1,5 @@
 -- `choices::choose` meets its contract.
 use mathlib.Core.Path.{refl, sym}
-use borrow.Author.Tests.{not-true, not-false}
-use borrow.Author.Rules.{rules}
 use Rattle.lists.proofs.Types.{whole, few}
 use Rattle.choices.proofs.Choosing.{room, at_most, refused, done}
 use Rattle.choices.proofs.choose.Goals as goal
@@ -10,19 +8,19 @@ pub slice_bounds-mark_chosen-end : goal.slice_bounds-mark_chosen-end
 slice_bounds-mark_chosen-end c = whole c.fill_types-n.ensures
 
 pub mark_chosen-requires : goal.mark_chosen-requires
-mark_chosen-requires c = (few c.fill_types-n.ensures c.requires.i_len_bound, refl)
+mark_chosen-requires c = record { types_len_bound = few c.fill_types-n.ensures c.requires.i_len_bound; marks_value = refl }
 
 pub returns-then-not-mark_chosen : goal.returns-then-not-mark_chosen
 returns-then-not-mark_chosen c =
-    refused c.fill_types-n.ensures (rw (not-true c.mark_chosen.result c.if-not-mark_chosen.true) at c.mark_chosen.ensures) c.requires.ordered_len
+    refused c.fill_types-n.ensures (rw c.if-not-mark_chosen.true at c.mark_chosen.ensures) c.requires.ordered_len
 
 pub slice_bounds-order_marked-end : goal.slice_bounds-order_marked-end
 slice_bounds-order_marked-end c = sym (room c.fill_types-n.ensures c.requires.i_len_bound c.mark_chosen.ensures)
 
 pub order_marked-requires : goal.order_marked-requires
 order_marked-requires c =
-    (at_most c.fill_types-n.ensures c.requires.i_len_bound c.mark_chosen.ensures, c.requires.ordered_len)
+    record { marks_len_bound = at_most c.fill_types-n.ensures c.requires.i_len_bound c.mark_chosen.ensures; ordered_len = c.requires.ordered_len }
 
 pub returns : goal.returns
 returns c =
-    done c.fill_types-n.ensures c.requires.i_len_bound (rw (not-false c.mark_chosen.result c.if-not-mark_chosen.false) at c.mark_chosen.ensures) c.order_marked.ensures
+    done c.fill_types-n.ensures c.requires.i_len_bound (rw c.if-not-mark_chosen.false at c.mark_chosen.ensures) c.order_marked.ensures

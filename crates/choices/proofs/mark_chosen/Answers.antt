@@ -1,15 +1,11 @@
 -- `choices::mark_chosen` meets its contract. The invariant: those from a place on are good and marked.
 use Prim.Native.Nat.{◌-◌}
 use mathlib.Core.Path.{sym, ap, ◌∙◌}
-use mathlib.Core.List.{map}
 use lib.ListN.{length}
 use native.Mathlib.Omega.{arith}
-use borrow.Author.Rules.{rules}
 use Rattle.order.proofs.Matrix.{marked_true, marked_false}
-use Rattle.cells.specs.Cells.{given_of}
-use Rattle.lists.specs.Reading.{typed}
 use Rattle.lists.proofs.Types.{typed_count}
-use Rattle.choices.proofs.Marking.{MarkingChosen, too_many, start, turn, stop, unfit_one, twice, has_mark}
+use Rattle.choices.proofs.Marking.{too_many, start, turn, stop, unfit_one, twice, has_mark}
 use Rattle.choices.proofs.mark_chosen.Goals as goal
 
 pub returns-then-chosen-gt12 : goal.returns-then-chosen-gt12
@@ -28,7 +24,7 @@ pub returns-then-cannot_give : goal.returns-then-cannot_give
 returns-then-cannot_give c = unfit_one c.loop-left.invariant c.loop-left-test.true (sym c.cannot_give.ensures ∙ c.if-cannot_give.true)
 
 pub overflow_cast-at : goal.overflow_cast-at
-overflow_cast-at c = omega (arith, c.type_inv.chosen (c.loop-left.false - 1))
+overflow_cast-at c = omega (arith, c.type_inv.chosen (c.loop-left.left - 1))
 
 pub bounds-marks-at : goal.bounds-marks-at
 bounds-marks-at c = has_mark c.loop-left.invariant c.loop-left-test.true (rw (typed_count _) c.requires.types_len_bound) (sym c.cannot_give.ensures ∙ c.if-cannot_give.false)

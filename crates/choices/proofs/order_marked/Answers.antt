@@ -1,12 +1,9 @@
 -- `choices::order_marked` meets its contract. The invariant: the marked numbers below v are written.
-use Prim.Native.Nat.{◌-◌}
 use mathlib.Core.Path.{sym, ◌∙◌}
-use mathlib.Core.Logic.{⊎_elim}
-use lib.ListN.{length}
 use native.Mathlib.Omega.{arith}
-use borrow.Author.Rules.{rules}
-use Rattle.choices.proofs.Ordering.{WritingMarked, start, marked_one, other_one, stop}
+use Rattle.choices.proofs.Ordering.{start, marked_one, other_one, stop}
 use Rattle.choices.proofs.order_marked.Goals as goal
+use Rattle.choices.proofs.order_marked.Goals.{then-marks-v-ne0, else-marks-v-ne0}
 
 pub loop-v-init : goal.loop-v-init
 loop-v-init c = start _ c.requires.ordered_len
@@ -22,10 +19,10 @@ overflow_add-count c = omega (arith, c.requires.marks_len_bound, c.loop-v-test.t
 
 pub loop-v-preserved : goal.loop-v-preserved
 loop-v-preserved c =
-    ⊎_elim
-    (λ q. rw (q.1, q.2) (marked_one c.loop-v.invariant c.requires.marks_len_bound c.loop-v-test.true q.0.taken))
-    (λ q. rw (q.1, q.2) (other_one c.loop-v.invariant c.requires.marks_len_bound c.loop-v-test.true q.0.left))
-    c.if-marks-v-ne0.branch
+    elim c.if-marks-v-ne0.branch [
+      | then-marks-v-ne0 w ↦ rw (w.ordered-is, w.count-is) (marked_one c.loop-v.invariant c.requires.marks_len_bound c.loop-v-test.true w.if-marks-v-ne0.true)
+      | else-marks-v-ne0 w ↦ rw (w.ordered-is, w.count-is) (other_one c.loop-v.invariant c.requires.marks_len_bound c.loop-v-test.true w.if-marks-v-ne0.false)
+    ]
 
 pub shape_of-ordered : goal.shape_of-ordered
 shape_of-ordered c = c.loop-v.invariant.size ∙ sym c.requires.ordered_len

@@ -1,11 +1,7 @@
 -- `choices::order_marked` meets its contract. The invariant: the marked numbers below v are written.
 use Prim.Native.Nat.{◌-◌}
-use mathlib.Core.Path.{sym, ◌∙◌}
-use mathlib.Core.Logic.{⊎_elim}
 use lib.ListN.{length}
-use native.Mathlib.Omega.{arith}
-use borrow.Author.Rules.{rules}
-use Rattle.choices.proofs.Ordering.{WritingMarked, start, marked_one, other_one, stop}
+use Rattle.choices.proofs.Ordering.{WritingMarked}
 use Rattle.choices.proofs.order_marked.Given as goal
 
 abbrev pub invariant-loop-v : goal.invariant-loop-v

@@ -1,6 +1,5 @@
 -- `compiler::compile` meets its contract.
 use Rattle.scan.proofs.Beginnings.{few_rows, all_rows}
-use borrow.Author.Rules.{rules}
 use Rattle.compiler.proofs.compile.Goals as goal
 
 pub compile_in-requires : goal.compile_in-requires

@@ -1,7 +1,6 @@
 -- `compiler::compile_in` meets its contract.
 use Rattle.compiler.proofs.Answers.{refused}
 use mathlib.Core.Path.{sym, ◌∙◌}
-use borrow.Author.Rules.{rules}
 use Rattle.compiler.proofs.compile_in.Goals as goal
 
 pub compile_accepted-requires : goal.compile_accepted-requires

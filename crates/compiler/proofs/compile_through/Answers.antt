@@ -1,35 +1,28 @@
-use borrow.Author.Rules.{rules}
 use lib.Seq.{length-take-le}
 use Rattle.compiler.proofs.Answers.{short, rest_long, moved, written}
 use mathlib.Core.Path.{refl, sym}
 use Rattle.compiler.proofs.compile_through.Goals as goal
 
--- src/lib.rt:742:9
 pub returns-then-code-length : goal.returns-then-code-length
 returns-then-code-length c =
     short _ _ c.requires.accepted c.emit_blocks-length.ensures c.if-code-length.true
 
--- src/lib.rt:746:30
 pub slice_bounds-copy-end-then-length-room-2 : goal.slice_bounds-copy-end-then-length-room-2
 slice_bounds-copy-end-then-length-room-2 c =
     sym (length-take-le _ _ c.if-code-length.false)
 
--- src/lib.rt:746:9
 pub copy-requires : goal.copy-requires
 copy-requires c =
-    rest_long c.emit_blocks-length.new.1.1.1.1.1.0 _ _ c.if-length-room.true c.if-code-length.false
+    rest_long c.emit_blocks-length.new.out _ _ c.if-length-room.true c.if-code-length.false
 
--- src/lib.rt:748:62
 pub slice_bounds-emit_blocks-end-else-length-room : goal.slice_bounds-emit_blocks-end-else-length-room
 slice_bounds-emit_blocks-end-else-length-room c =
     sym (length-take-le _ _ c.if-code-length.false)
 
--- src/lib.rt:727:1
 pub returns-then-length-room : goal.returns-then-length-room
 returns-then-length-room c =
     moved _ _ c.requires.accepted c.emit_blocks-length.ensures c.if-code-length.false c.if-length-room.true c.copy.ensures
 
--- src/lib.rt:727:1
 pub returns-else-length-room : goal.returns-else-length-room
 returns-else-length-room c =
     written _ _ c.requires.accepted c.emit_blocks-length.ensures c.if-code-length.false refl c.emit_blocks.ensures

@@ -1,10 +1,7 @@
 -- `compiler::copy` meets its contract. The loop's invariant: the bytes below its number are copied.
 use Prim.Native.Nat.{◌-◌}
 use lib.ListN.{length}
-use borrow.Author.Rules.{rules}
-use native.Mathlib.Omega.{arith}
-use mathlib.Core.Path.{◌∙◌, sym}
-use Rattle.compiler.proofs.Copying.{Copied, none_copied, one_copied, all_copied}
+use Rattle.compiler.proofs.Copying.{Copied}
 use Rattle.compiler.proofs.copy.Given as goal
 
 abbrev pub invariant-loop-n : goal.invariant-loop-n

@@ -3,8 +3,6 @@ use mathlib.Core.Path.{refl, ◌∙◌}
 use native.Mathlib.Omega.{arith}
 use Rattle.emitter.proofs.Terms.{size_also, size_around, around_none, around_also, emits_none, emits_also}
 use Rattle.emitter.proofs.Chains.{few, siblings_past, siblings_here, next_higher, first_higher, clause_size, emits_clause}
-use borrow.Author.Rules.{rules}
-use Prim.Native.Nat.{ℕ, ◌<◌, ◌+◌, ◌-◌, ◌*◌}
 use Rattle.emitter.proofs.+emit_around_emit_chain.Goals as goal
 
 pub emit_around-clause_count-requires : goal.emit_around-clause_count-requires

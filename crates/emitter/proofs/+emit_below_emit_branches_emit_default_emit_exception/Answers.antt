@@ -1,32 +1,16 @@
 -- `emitter::emit_below`, `emit_branches`, `emit_default` and `emit_exception` meet their contracts.
 -- The limit falls from a node to its parts; at one limit a default comes before an exception and branches, these before a node.
-use mathlib.Core.Path.{◌≡◌, refl, sym, ◌∙◌}
+use mathlib.Core.Path.{refl, sym, ◌∙◌}
 use native.Mathlib.Omega.{arith}
 use mir.Syntax.{w32}
 use mir.Val.{SFits}
 use mir.Facts.{to_z-of_z}
-use Rattle.book.specs.Trees.{node_term}
-use Rattle.book.specs.declared.Node.{Node}
-use Rattle.emitter.specs.Pieces.{node_below}
 use Rattle.emitter.proofs.Terms.{below_past, below_here, told, room_same, size_error, size_truth, size_number, size_own, size_called}
 use Rattle.emitter.proofs.Terms.{size_unary, size_binary, size_choice, emits_error, emits_own, emits_called, emits_unary, emits_binary}
 use Rattle.emitter.proofs.Terms.{emits_choice, emits_branches, emits_also, emits_none, exception_none, exception_some, exception_size}
 use Rattle.emitter.proofs.Terms.{default_same, default_size, default_sizes, default_plain, default_full}
 use borrow.Author.Rules.{rules}
-use Prim.Native.Nat.{ℕ, ◌<◌, ◌+◌, ◌*◌}
 use Rattle.emitter.proofs.+emit_below_emit_branches_emit_default_emit_exception.Goals as goal
-use Rattle.emitter.proofs.+emit_below_emit_branches_emit_default_emit_exception.Goals.{After-node_at-node}
-
-abbrev After : ℕ → Type 0
-After t = After-node_at-node (R-emit-below t) (emit-below-at t) emit-below.Post
-
--- the term of node n, by the variant that it was found to be
-found : (t : ℕ) (c : After t) (nd : Node) → c.node_at-node.result ≡ nd →
-    let s = c.args in
-    node_below s.book.now s.i s.limit s.n ≡ node_term (node_below s.book.now s.i s.n) nd
-found t c nd same =
-    let s = c.args in
-    below_here s.book.now s.i s.limit s.n _ nd c.if-limit-n.false c.node_at-node.ensures same
 
 pub emit_below-put_one-requires : goal.emit_below-put_one-requires
 emit_below-put_one-requires t c =
@@ -42,55 +26,55 @@ emit_below-returns-then-limit-n t c =
 
 pub emit_below-put_truth-requires : goal.emit_below-put_truth-requires
 emit_below-put_truth-requires t c =
-    omega (arith, size_truth (found t (goal.at.emit_below-put_truth-requires c).After-node_at-node _ c.in-Constant.is), c.requires.1)
+    omega (arith, size_truth (below_here c.args.book.now c.args.i c.args.limit c.args.n _ _ c.if-limit-n.false c.node_at-node.ensures c.in-Constant.is), c.requires.1)
 
 pub emit_below-put_number-requires : goal.emit_below-put_number-requires
 emit_below-put_number-requires t c =
-    omega (arith, size_number (found t (goal.at.emit_below-put_number-requires c).After-node_at-node _ c.in-Number.is), c.requires.1)
+    omega (arith, size_number (below_here c.args.book.now c.args.i c.args.limit c.args.n _ _ c.if-limit-n.false c.node_at-node.ensures c.in-Number.is), c.requires.1)
 
 pub emit_below-put_two-requires : goal.emit_below-put_two-requires
 emit_below-put_two-requires t c =
-    omega (arith, size_own (found t (goal.at.emit_below-put_two-requires c).After-node_at-node _ c.in-Own.is), c.requires.1)
+    omega (arith, size_own (below_here c.args.book.now c.args.i c.args.limit c.args.n _ _ c.if-limit-n.false c.node_at-node.ensures c.in-Own.is), c.requires.1)
 
 pub emit_below-put_two-p-requires : goal.emit_below-put_two-p-requires
 emit_below-put_two-p-requires t c =
-    omega (arith, size_called (found t (goal.at.emit_below-put_two-p-requires c).After-node_at-node _ c.in-Called.is), c.requires.1)
+    omega (arith, size_called (below_here c.args.book.now c.args.i c.args.limit c.args.n _ _ c.if-limit-n.false c.node_at-node.ensures c.in-Called.is), c.requires.1)
 
 pub emit_below-put_one-requires-in-Called : goal.emit_below-put_one-requires-in-Called
 emit_below-put_one-requires-in-Called t c =
-    omega (arith, size_called (found t (goal.at.emit_below-put_one-requires-in-Called c).After-node_at-node _ c.in-Called.is), c.requires.1, c.put_two-p.ensures.next)
+    omega (arith, size_called (below_here c.args.book.now c.args.i c.args.limit c.args.n _ _ c.if-limit-n.false c.node_at-node.ensures c.in-Called.is), c.requires.1, c.put_two-p.ensures.next)
 
 pub emit_below-put_one-requires-in-Empty : goal.emit_below-put_one-requires-in-Empty
 emit_below-put_one-requires-in-Empty t c =
-    omega (arith, size_error (found t (goal.at.emit_below-put_one-requires-in-Empty c).After-node_at-node _ c.in-Empty.is), c.requires.1)
+    omega (arith, size_error (below_here c.args.book.now c.args.i c.args.limit c.args.n _ _ c.if-limit-n.false c.node_at-node.ensures c.in-Empty.is), c.requires.1)
 
 pub emit_below-put_one-requires-in-Conflict : goal.emit_below-put_one-requires-in-Conflict
 emit_below-put_one-requires-in-Conflict t c =
-    omega (arith, size_error (found t (goal.at.emit_below-put_one-requires-in-Conflict c).After-node_at-node _ c.in-Conflict.is), c.requires.1)
+    omega (arith, size_error (below_here c.args.book.now c.args.i c.args.limit c.args.n _ _ c.if-limit-n.false c.node_at-node.ensures c.in-Conflict.is), c.requires.1)
 
 pub emit_below-put_one-p-requires : goal.emit_below-put_one-p-requires
 emit_below-put_one-p-requires t c =
-    omega (arith, size_unary (found t (goal.at.emit_below-put_one-p-requires c).After-node_at-node _ c.in-Unary.is), c.requires.1)
+    omega (arith, size_unary (below_here c.args.book.now c.args.i c.args.limit c.args.n _ _ c.if-limit-n.false c.node_at-node.ensures c.in-Unary.is), c.requires.1)
 
 pub emit_below-emit_below-requires : goal.emit_below-emit_below-requires
 emit_below-emit_below-requires t c =
-    (omega (arith, c.decreases, c.if-limit-n.false), (c.requires.0, omega (arith, size_unary (found t (goal.at.emit_below-emit_below-requires c).After-node_at-node _ c.in-Unary.is), c.requires.1, c.put_one-p.ensures.next)))
+    (omega (arith, c.decreases, c.if-limit-n.false), (c.requires.0, omega (arith, size_unary (below_here c.args.book.now c.args.i c.args.limit c.args.n _ _ c.if-limit-n.false c.node_at-node.ensures c.in-Unary.is), c.requires.1, c.put_one-p.ensures.next)))
 
 pub emit_below-put_one-p-requires-in-Binary : goal.emit_below-put_one-p-requires-in-Binary
 emit_below-put_one-p-requires-in-Binary t c =
-    omega (arith, size_binary (found t (goal.at.emit_below-put_one-p-requires-in-Binary c).After-node_at-node _ c.in-Binary.is), c.requires.1)
+    omega (arith, size_binary (below_here c.args.book.now c.args.i c.args.limit c.args.n _ _ c.if-limit-n.false c.node_at-node.ensures c.in-Binary.is), c.requires.1)
 
 pub emit_below-emit_below-q-requires : goal.emit_below-emit_below-q-requires
 emit_below-emit_below-q-requires t c =
-    (omega (arith, c.decreases, c.if-limit-n.false), (c.requires.0, omega (arith, size_binary (found t (goal.at.emit_below-emit_below-q-requires c).After-node_at-node _ c.in-Binary.is), c.requires.1, c.put_one-p-in-Binary.ensures.next)))
+    (omega (arith, c.decreases, c.if-limit-n.false), (c.requires.0, omega (arith, size_binary (below_here c.args.book.now c.args.i c.args.limit c.args.n _ _ c.if-limit-n.false c.node_at-node.ensures c.in-Binary.is), c.requires.1, c.put_one-p-in-Binary.ensures.next)))
 
 pub emit_below-emit_below-requires-in-Binary : goal.emit_below-emit_below-requires-in-Binary
 emit_below-emit_below-requires-in-Binary t c =
-    (omega (arith, c.decreases, c.if-limit-n.false), (c.requires.0, omega (arith, size_binary (found t (goal.at.emit_below-emit_below-requires-in-Binary c).After-node_at-node _ c.in-Binary.is), c.requires.1, c.put_one-p-in-Binary.ensures.next, c.emit_below-q.ensures.next)))
+    (omega (arith, c.decreases, c.if-limit-n.false), (c.requires.0, omega (arith, size_binary (below_here c.args.book.now c.args.i c.args.limit c.args.n _ _ c.if-limit-n.false c.node_at-node.ensures c.in-Binary.is), c.requires.1, c.put_one-p-in-Binary.ensures.next, c.emit_below-q.ensures.next)))
 
 pub emit_below-emit_below-p-requires : goal.emit_below-emit_below-p-requires
 emit_below-emit_below-p-requires t c =
-    (omega (arith, c.decreases, c.if-limit-n.false), (c.requires.0, omega (arith, size_choice (found t (goal.at.emit_below-emit_below-p-requires c).After-node_at-node _ c.in-Choice.is), c.requires.1)))
+    (omega (arith, c.decreases, c.if-limit-n.false), (c.requires.0, omega (arith, size_choice (below_here c.args.book.now c.args.i c.args.limit c.args.n _ _ c.if-limit-n.false c.node_at-node.ensures c.in-Choice.is), c.requires.1)))
 
 pub emit_below-overflow_sub-p : goal.emit_below-overflow_sub-p
 emit_below-overflow_sub-p t c =
@@ -98,11 +82,11 @@ emit_below-overflow_sub-p t c =
 
 pub emit_below-emit_branches-requires : goal.emit_below-emit_branches-requires
 emit_below-emit_branches-requires t c =
-    (omega (arith, c.decreases, c.if-limit-n.false), (c.requires.0, omega (arith, size_choice (found t (goal.at.emit_below-emit_branches-requires c).After-node_at-node _ c.in-Choice.is), c.requires.1, c.emit_below-p.ensures.next)))
+    (omega (arith, c.decreases, c.if-limit-n.false), (c.requires.0, omega (arith, size_choice (below_here c.args.book.now c.args.i c.args.limit c.args.n _ _ c.if-limit-n.false c.node_at-node.ensures c.in-Choice.is), c.requires.1, c.emit_below-p.ensures.next)))
 
 pub emit_below-emit_default-requires : goal.emit_below-emit_default-requires
 emit_below-emit_default-requires t c =
-    (omega (arith, c.decreases, c.if-limit-n.false), (c.requires.0, room_same _ _ _ (found t (goal.at.emit_below-emit_default-requires c).After-node_at-node _ c.in-Default.is ∙ default_same _ _ _ _ _ _ _ _) c.requires.1))
+    (omega (arith, c.decreases, c.if-limit-n.false), (c.requires.0, room_same _ _ _ (below_here c.args.book.now c.args.i c.args.limit c.args.n _ _ c.if-limit-n.false c.node_at-node.ensures c.in-Default.is ∙ default_same _ _ _ _ _ _ _ _) c.requires.1))
 
 pub emit_below-shape_of-out-in-Constant : goal.emit_below-shape_of-out-in-Constant
 emit_below-shape_of-out-in-Constant t c =
@@ -110,7 +94,7 @@ emit_below-shape_of-out-in-Constant t c =
 
 pub emit_below-returns-in-Constant : goal.emit_below-returns-in-Constant
 emit_below-returns-in-Constant t c =
-    told (found t (goal.at.emit_below-returns-in-Constant c).After-node_at-node _ c.in-Constant.is) c.put_truth.ensures
+    told (below_here c.args.book.now c.args.i c.args.limit c.args.n _ _ c.if-limit-n.false c.node_at-node.ensures c.in-Constant.is) c.put_truth.ensures
 
 pub emit_below-shape_of-out-in-Number : goal.emit_below-shape_of-out-in-Number
 emit_below-shape_of-out-in-Number t c =
@@ -119,7 +103,7 @@ emit_below-shape_of-out-in-Number t c =
 pub emit_below-returns-in-Number : goal.emit_below-returns-in-Number
 emit_below-returns-in-Number t c =
     let f : SFits w32 c.in-Number.z = search rules in
-    told (found t (goal.at.emit_below-returns-in-Number c).After-node_at-node _ c.in-Number.is) (rw (to_z-of_z f) at c.put_number.ensures)
+    told (below_here c.args.book.now c.args.i c.args.limit c.args.n _ _ c.if-limit-n.false c.node_at-node.ensures c.in-Number.is) (rw (to_z-of_z f) at c.put_number.ensures)
 
 pub emit_below-shape_of-out-in-Own : goal.emit_below-shape_of-out-in-Own
 emit_below-shape_of-out-in-Own t c =
@@ -127,7 +111,7 @@ emit_below-shape_of-out-in-Own t c =
 
 pub emit_below-returns-in-Own : goal.emit_below-returns-in-Own
 emit_below-returns-in-Own t c =
-    emits_own (found t (goal.at.emit_below-returns-in-Own c).After-node_at-node _ c.in-Own.is) c.put_two.ensures
+    emits_own (below_here c.args.book.now c.args.i c.args.limit c.args.n _ _ c.if-limit-n.false c.node_at-node.ensures c.in-Own.is) c.put_two.ensures
 
 pub emit_below-shape_of-out-in-Called : goal.emit_below-shape_of-out-in-Called
 emit_below-shape_of-out-in-Called t c =
@@ -135,7 +119,7 @@ emit_below-shape_of-out-in-Called t c =
 
 pub emit_below-returns-in-Called : goal.emit_below-returns-in-Called
 emit_below-returns-in-Called t c =
-    emits_called (found t (goal.at.emit_below-returns-in-Called c).After-node_at-node _ c.in-Called.is) c.put_two-p.ensures c.put_one-in-Called.ensures
+    emits_called (below_here c.args.book.now c.args.i c.args.limit c.args.n _ _ c.if-limit-n.false c.node_at-node.ensures c.in-Called.is) c.put_two-p.ensures c.put_one-in-Called.ensures
 
 pub emit_below-shape_of-out-in-Empty : goal.emit_below-shape_of-out-in-Empty
 emit_below-shape_of-out-in-Empty t c =
@@ -143,7 +127,7 @@ emit_below-shape_of-out-in-Empty t c =
 
 pub emit_below-returns-in-Empty : goal.emit_below-returns-in-Empty
 emit_below-returns-in-Empty t c =
-    emits_error (found t (goal.at.emit_below-returns-in-Empty c).After-node_at-node _ c.in-Empty.is) refl c.put_one-in-Empty.ensures
+    emits_error (below_here c.args.book.now c.args.i c.args.limit c.args.n _ _ c.if-limit-n.false c.node_at-node.ensures c.in-Empty.is) refl c.put_one-in-Empty.ensures
 
 pub emit_below-shape_of-out-in-Conflict : goal.emit_below-shape_of-out-in-Conflict
 emit_below-shape_of-out-in-Conflict t c =
@@ -151,7 +135,7 @@ emit_below-shape_of-out-in-Conflict t c =
 
 pub emit_below-returns-in-Conflict : goal.emit_below-returns-in-Conflict
 emit_below-returns-in-Conflict t c =
-    emits_error (found t (goal.at.emit_below-returns-in-Conflict c).After-node_at-node _ c.in-Conflict.is) refl c.put_one-in-Conflict.ensures
+    emits_error (below_here c.args.book.now c.args.i c.args.limit c.args.n _ _ c.if-limit-n.false c.node_at-node.ensures c.in-Conflict.is) refl c.put_one-in-Conflict.ensures
 
 pub emit_below-shape_of-out-in-Unary : goal.emit_below-shape_of-out-in-Unary
 emit_below-shape_of-out-in-Unary t c =
@@ -159,7 +143,7 @@ emit_below-shape_of-out-in-Unary t c =
 
 pub emit_below-returns-in-Unary : goal.emit_below-returns-in-Unary
 emit_below-returns-in-Unary t c =
-    emits_unary (found t (goal.at.emit_below-returns-in-Unary c).After-node_at-node _ c.in-Unary.is) c.unary_kind.ensures c.put_one-p.ensures c.emit_below.ensures
+    emits_unary (below_here c.args.book.now c.args.i c.args.limit c.args.n _ _ c.if-limit-n.false c.node_at-node.ensures c.in-Unary.is) c.unary_kind.ensures c.put_one-p.ensures c.emit_below.ensures
 
 pub emit_below-shape_of-out-in-Binary : goal.emit_below-shape_of-out-in-Binary
 emit_below-shape_of-out-in-Binary t c =
@@ -167,7 +151,7 @@ emit_below-shape_of-out-in-Binary t c =
 
 pub emit_below-returns-in-Binary : goal.emit_below-returns-in-Binary
 emit_below-returns-in-Binary t c =
-    emits_binary (found t (goal.at.emit_below-returns-in-Binary c).After-node_at-node _ c.in-Binary.is) c.binary_kind.ensures c.put_one-p-in-Binary.ensures c.emit_below-q.ensures c.emit_below-in-Binary.ensures
+    emits_binary (below_here c.args.book.now c.args.i c.args.limit c.args.n _ _ c.if-limit-n.false c.node_at-node.ensures c.in-Binary.is) c.binary_kind.ensures c.put_one-p-in-Binary.ensures c.emit_below-q.ensures c.emit_below-in-Binary.ensures
 
 pub emit_below-shape_of-out-in-Choice : goal.emit_below-shape_of-out-in-Choice
 emit_below-shape_of-out-in-Choice t c =
@@ -175,7 +159,7 @@ emit_below-shape_of-out-in-Choice t c =
 
 pub emit_below-returns-in-Choice : goal.emit_below-returns-in-Choice
 emit_below-returns-in-Choice t c =
-    emits_choice (found t (goal.at.emit_below-returns-in-Choice c).After-node_at-node _ c.in-Choice.is) c.emit_below-p.ensures refl c.emit_branches.ensures
+    emits_choice (below_here c.args.book.now c.args.i c.args.limit c.args.n _ _ c.if-limit-n.false c.node_at-node.ensures c.in-Choice.is) c.emit_below-p.ensures refl c.emit_branches.ensures
 
 pub emit_below-shape_of-out-in-Default : goal.emit_below-shape_of-out-in-Default
 emit_below-shape_of-out-in-Default t c =
@@ -183,7 +167,7 @@ emit_below-shape_of-out-in-Default t c =
 
 pub emit_below-returns-in-Default : goal.emit_below-returns-in-Default
 emit_below-returns-in-Default t c =
-    told (found t (goal.at.emit_below-returns-in-Default c).After-node_at-node _ c.in-Default.is ∙ default_same c.args.book.now c.args.i c.args.n _ _ _ _ _) c.emit_default.ensures
+    told (below_here c.args.book.now c.args.i c.args.limit c.args.n _ _ c.if-limit-n.false c.node_at-node.ensures c.in-Default.is ∙ default_same c.args.book.now c.args.i c.args.n _ _ _ _ _) c.emit_default.ensures
 
 pub emit_branches-put_far-p-requires : goal.emit_branches-put_far-p-requires
 emit_branches-put_far-p-requires t c =

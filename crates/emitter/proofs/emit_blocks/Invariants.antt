@@ -1,13 +1,8 @@
 -- `emitter::emit_blocks` meets its contract. The loop's invariant: the pieces from its number on are written.
-use borrow.Author.Rules.{rules}
 use lib.ListN.{length}
 use Rattle.book.specs.Decode.{scopes_of}
-use native.Mathlib.Omega.{arith}
-use Rattle.emitter.proofs.Emission.{Downward, start, room, turn}
-use mathlib.Core.Path.{refl}
-use Rattle.acceptance.proofs.Acceptance.{accepted_count}
+use Rattle.emitter.proofs.Emission.{Downward}
 use Rattle.emitter.specs.Pieces.{ordered_block, ordered_block_size}
-use Rattle.emitter.proofs.Book.{block_ready, block_number, emits_ordered, book_room, book_stop}
 use Rattle.emitter.proofs.emit_blocks.Given as goal
 
 abbrev pub invariant-loop-m : goal.invariant-loop-m

@@ -5,8 +5,7 @@ use Rattle.book.specs.Decode.{scopes_of}
 use Rattle.book.specs.References.{scope_at}
 use Rattle.book.specs.Positions.{sub_scope_at}
 use native.Mathlib.Omega.{arith}
-use Rattle.emitter.specs.Pieces.{override_piece, override_size, called_count}
-use Rattle.emitter.proofs.Emission.{Downward, start, room, turn}
+use Rattle.emitter.proofs.Emission.{start, room, turn}
 use Rattle.emitter.proofs.Pieces.{call_size_lem, call_stop}
 use mathlib.Core.Path.{refl, ap, ◌∙◌}
 use Rattle.emitter.proofs.emit_call.Goals as goal

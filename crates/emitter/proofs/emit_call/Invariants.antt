@@ -1,14 +1,6 @@
 -- `emitter::emit_call` meets its contract. The loop's invariant: the pieces from its number on are written.
-use lib.ListN.{length}
-use Prim.Native.Nat.{ℕ}
-use Rattle.book.specs.Decode.{scopes_of}
-use Rattle.book.specs.References.{scope_at}
-use Rattle.book.specs.Positions.{sub_scope_at}
-use native.Mathlib.Omega.{arith}
 use Rattle.emitter.specs.Pieces.{override_piece, override_size, called_count}
-use Rattle.emitter.proofs.Emission.{Downward, start, room, turn}
-use Rattle.emitter.proofs.Pieces.{call_size_lem, call_stop}
-use mathlib.Core.Path.{refl, ap, ◌∙◌}
+use Rattle.emitter.proofs.Emission.{Downward}
 use Rattle.emitter.proofs.emit_call.Given as goal
 
 abbrev pub invariant-loop-v : goal.invariant-loop-v

@@ -2,7 +2,6 @@
 use native.Mathlib.Omega.{arith}
 use Rattle.emitter.proofs.Chains.{few, clause_size, emits_clause}
 use mathlib.Core.Path.{refl, ◌∙◌}
-use borrow.Author.Rules.{rules}
 use Rattle.emitter.proofs.emit_clause.Goals as goal
 
 pub overflow_add-c : goal.overflow_add-c

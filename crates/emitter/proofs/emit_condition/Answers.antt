@@ -1,7 +1,6 @@
 -- `emitter::emit_condition` meets its contract.
 use native.Mathlib.Omega.{arith}
 use Rattle.emitter.proofs.Terms.{told, size_truth, condition_always, condition_node}
-use borrow.Author.Rules.{rules}
 use Rattle.emitter.proofs.emit_condition.Goals as goal
 
 pub put_truth-requires : goal.put_truth-requires

@@ -1,7 +1,6 @@
 -- `emitter::emit_consequence` meets its contract.
 use native.Mathlib.Omega.{arith}
 use Rattle.emitter.proofs.Terms.{told, size_truth, consequence_fixed, consequence_node_lem}
-use borrow.Author.Rules.{rules}
 use Rattle.emitter.proofs.emit_consequence.Goals as goal
 
 pub emit_below-requires : goal.emit_below-requires

@@ -1,8 +1,7 @@
 -- `emitter::emit_heads` meets its contract. The loop's invariant: the pieces from its number on are written.
 use mathlib.Core.Path.{refl}
 use native.Mathlib.Omega.{arith}
-use Rattle.emitter.specs.Pieces.{head_count, head_piece, pair}
-use Rattle.emitter.proofs.Emission.{Downward, start, room, turn}
+use Rattle.emitter.proofs.Emission.{start, room, turn}
 use Rattle.emitter.proofs.Pieces.{heads_size_lem, heads_stop, emits_head}
 use Rattle.emitter.proofs.emit_heads.Goals as goal
 
@@ -13,13 +12,12 @@ pub overflow_sub-n : goal.overflow_sub-n
 overflow_sub-n c = omega (arith, c.loop-n-test.true)
 
 pub head_byte-b-requires : goal.head_byte-b-requires
-head_byte-b-requires c = let s = (goal.at.head_byte-b-requires c).Start in (s.requires.0, s.requires.1, omega (arith, c.loop-n.invariant.below, c.loop-n-test.true))
+head_byte-b-requires c = (c.requires.0, c.requires.1, omega (arith, c.loop-n.invariant.below, c.loop-n-test.true))
 
 pub put_two-p-requires : goal.put_two-p-requires
 put_two-p-requires c =
-    let s = (goal.at.put_two-p-requires c).Start in
     room c.loop-n.invariant _ refl c.loop-n-test.true
-    (omega (arith, heads_size_lem s.args.book.now s.args.i s.args.kind, s.requires.3))
+    (omega (arith, heads_size_lem c.args.book.now c.args.i c.args.kind, c.requires.3))
 
 pub loop-n-smaller : goal.loop-n-smaller
 loop-n-smaller c = omega (arith, c.loop-n-test.true)

@@ -1,9 +1,6 @@
 -- `emitter::emit_heads` meets its contract. The loop's invariant: the pieces from its number on are written.
-use mathlib.Core.Path.{refl}
-use native.Mathlib.Omega.{arith}
 use Rattle.emitter.specs.Pieces.{head_count, head_piece, pair}
-use Rattle.emitter.proofs.Emission.{Downward, start, room, turn}
-use Rattle.emitter.proofs.Pieces.{heads_size_lem, heads_stop, emits_head}
+use Rattle.emitter.proofs.Emission.{Downward}
 use Rattle.emitter.proofs.emit_heads.Given as goal
 
 abbrev pub invariant-loop-n : goal.invariant-loop-n

@@ -2,7 +2,6 @@
 use native.Mathlib.Omega.{arith}
 use Rattle.emitter.proofs.Terms.{told, rest_same, rest_size, emits_rest, emits_branches}
 use mathlib.Core.Path.{refl, ◌∙◌}
-use borrow.Author.Rules.{rules}
 use Rattle.emitter.proofs.emit_rest.Goals as goal
 
 pub put_one-p-requires : goal.put_one-p-requires

@@ -4,7 +4,6 @@ use Rattle.emitter.proofs.Terms.{told, room_same, size_error, emits_error}
 use Rattle.trees.proofs.Targets.{slot_few}
 use Rattle.emitter.proofs.Chains.{few, tree_ruled, tree_none, tree_one, tree_many}
 use mathlib.Core.Path.{refl}
-use borrow.Author.Rules.{rules}
 use Rattle.emitter.proofs.emit_tree.Goals as goal
 
 pub clause_count-count-requires : goal.clause_count-count-requires

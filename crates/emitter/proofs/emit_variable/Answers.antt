@@ -2,7 +2,6 @@
 use native.Mathlib.Omega.{arith}
 use Rattle.emitter.proofs.Pieces.{variable_size_lem, emits_variable}
 use mathlib.Core.Path.{refl, ◌∙◌}
-use borrow.Author.Rules.{rules}
 use Rattle.emitter.proofs.emit_variable.Goals as goal
 
 pub put_two-p-requires : goal.put_two-p-requires

@@ -6,7 +6,6 @@ use Rattle.book.specs.Decode.{scopes_of}
 use Rattle.book.specs.References.{scope_at}
 use borrow.Author.Tests.{eq-eqb, ne_eqb}
 use Rattle.emitter.specs.Pieces.{head_count, head_byte}
-use borrow.Author.Rules.{rules}
 use Rattle.emitter.proofs.head_byte.Goals as goal
 
 pub returns-then-kind-eq-KIND_VARIABLE : goal.returns-then-kind-eq-KIND_VARIABLE
@@ -16,9 +15,8 @@ returns-then-kind-eq-KIND_VARIABLE c = rw (eq-eqb _ _ c.if-kind-eq-KIND_VARIABLE
 pub overflow_cast-result : goal.overflow_cast-result
 unfolding head_count
 overflow_cast-result c =
-    let s = (goal.at.overflow_cast-result c).Start in
-    let below : s.args.n < length (scope_at (scopes_of s.args.book.now) s.args.i).sub_scopes = rw (ne_eqb _ _ c.if-kind-eq-KIND_VARIABLE.false) at s.requires.2 in
-    omega (arith, c.sub_scope_at.ensures, s.requires.1.called s.args.n below)
+    let below : c.args.n < length (scope_at (scopes_of c.args.book.now) c.args.i).sub_scopes = rw (ne_eqb _ _ c.if-kind-eq-KIND_VARIABLE.false) at c.requires.2 in
+    omega (arith, c.sub_scope_at.ensures, c.requires.1.called c.args.n below)
 
 pub returns : goal.returns
 unfolding head_byte

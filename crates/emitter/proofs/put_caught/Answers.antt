@@ -3,7 +3,6 @@ use mathlib.Core.Path.{refl}
 use Rattle.emitter.specs.Emission.{jump}
 use Rattle.emitter.specs.Pieces.{caught}
 use Rattle.emitter.proofs.Emission.{then, alike}
-use borrow.Author.Rules.{rules}
 use Rattle.emitter.proofs.put_caught.Goals as goal
 
 pub returns : goal.returns

@@ -4,7 +4,6 @@ use mir.Syntax.{w32}
 use mir.Val.{of_z}
 use mir.Facts.{to_z-of_z}
 use Rattle.emitter.proofs.Terms.{emits_number}
-use borrow.Author.Rules.{rules}
 use Rattle.emitter.proofs.put_number.Goals as goal
 
 pub returns : goal.returns

@@ -1,7 +1,6 @@
 -- `emitter::put_one` meets its contract.
 use native.Mathlib.Omega.{arith}
 use Rattle.emitter.proofs.Emission.{put_byte, put_none}
-use borrow.Author.Rules.{rules}
 use Rattle.emitter.proofs.put_one.Goals as goal
 
 pub returns-then-out-at : goal.returns-then-out-at

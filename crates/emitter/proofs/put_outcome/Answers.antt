@@ -2,7 +2,6 @@
 use native.Mathlib.Omega.{arith}
 use Rattle.emitter.proofs.Terms.{told, size_truth, size_error, outcome_ruled, outcome_unruled, emits_error}
 use mathlib.Core.Path.{refl}
-use borrow.Author.Rules.{rules}
 use Rattle.emitter.proofs.put_outcome.Goals as goal
 
 pub put_truth-requires : goal.put_truth-requires

@@ -1,6 +1,5 @@
 -- `emitter::put_truth` meets its contract.
 use Rattle.translation.specs.Code.{size, code}
-use borrow.Author.Rules.{rules}
 use Rattle.emitter.proofs.put_truth.Goals as goal
 
 pub returns-then-b : goal.returns-then-b

@@ -2,7 +2,6 @@
 use lib.ListN.{length-set}
 use native.Mathlib.Omega.{arith}
 use Rattle.emitter.proofs.Emission.{put_none, put_pair}
-use borrow.Author.Rules.{rules}
 use Rattle.emitter.proofs.put_two.Goals as goal
 
 pub returns-then-out-end : goal.returns-then-out-end

@@ -1,11 +1,8 @@
 -- `rows::clear_from` meets its contract. The invariant: clearing from here on comes to what clearing the whole does.
 use Prim.Native.Nat.{◌-◌}
-use mathlib.Core.Path.{◌≡◌, refl, sym, ◌∙◌}
-use native.Mathlib.Omega.{arith}
-use lib.ListN.{length, length-set}
-use borrow.Author.Rules.{rules}
+use mathlib.Core.Path.{◌≡◌}
+use lib.ListN.{length}
 use Rattle.rows.specs.Filling.{cleared}
-use Rattle.rows.proofs.Clearing.{cleared_more, cleared_all}
 use Rattle.rows.proofs.clear_from.Given as goal
 
 abbrev pub invariant-loop-at : goal.invariant-loop-at

@@ -1,7 +1,6 @@
 -- `rows::put_cell` meets its contract.
 use mathlib.Core.Path.{sym}
 use lib.Seq.{set_out}
-use borrow.Author.Rules.{rules}
 use Rattle.rows.proofs.put_cell.Goals as goal
 
 pub returns-else-at-cells : goal.returns-else-at-cells

@@ -1,8 +1,6 @@
 -- `rows::table_length` meets its contract. The invariant: the length of the table of the first j.
 use Prim.Native.Nat.{◌-◌}
-use native.Mathlib.Omega.{arith}
-use borrow.Author.Rules.{rules}
-use Rattle.rows.proofs.Power.{Doubling, start, few, turn, stop}
+use Rattle.rows.proofs.Power.{Doubling}
 use Rattle.rows.proofs.table_length.Given as goal
 
 abbrev pub invariant-loop-j : goal.invariant-loop-j

@@ -4,11 +4,10 @@ use native.Mathlib.Omega.{arith}
 use lib.Seq.{length-take-le}
 use Rattle.loaded.proofs.Preparing.{few_scopes, blank_memo}
 use Rattle.tabulator.proofs.Service.{few_chosen, results_few, sized, fills, short_so, written_so}
-use borrow.Author.Rules.{rules}
 use Rattle.tabulator.proofs.write_table.Goals as goal
 
 pub result_length-requires : goal.result_length-requires
-result_length-requires c = (c.requires.enterable.world.sound.laid, (c.requires.enterable.world.sound.variables c.args.i))
+result_length-requires c = record { laid = c.requires.enterable.world.sound.laid; i_len_bound = c.requires.enterable.world.sound.variables c.args.i }
 
 pub table_length-length-requires : goal.table_length-length-requires
 table_length-length-requires c = (omega (arith, few_chosen c.requires), rw c.result_length.ensures (results_few _ _ (c.requires.enterable.world.sound.variables c.args.i)))
@@ -23,4 +22,4 @@ pub fill_rows-requires : goal.fill_rows-requires
 fill_rows-requires c = fills c.requires (blank_memo c.requires.enterable.world.accepted c.requires.enterable.world.sound.laid 1056 (omega (arith, few_scopes c.requires.enterable.world.accepted c.requires.enterable.world.sound.laid))) c.part_of-order.ensures (length-take-le _ _ c.if-table-length.false ∙ sized _ c.table_length-length.ensures c.result_length.ensures)
 
 pub returns : goal.returns
-returns c = written_so c.requires c.part_of-order.ensures c.fill_rows.ensures.0 (sized _ c.table_length-length.ensures c.result_length.ensures) c.if-table-length.false
+returns c = written_so c.requires c.part_of-order.ensures c.fill_rows.ensures.table_after (sized _ c.table_length-length.ensures c.result_length.ensures) c.if-table-length.false
