@@ -9,7 +9,9 @@ use mathlib.Core.Bool.{true, false, false≢true}
 use mathlib.Core.List.{List, [], ◌∷◌}
 use native.Mathlib.Omega.{arith}
 use lib.ListN.{length}
+use lib.IntN.{ℤ}
 use Rattle.slices.specs.Bytes.{bytes_of}
+use Rattle.calculus.specs.Values.{ranged}
 use Rattle.calculus.specs.Outcomes.{unary_on, binary_on, choose}
 use Rattle.calculus.specs.Joining.{join}
 use Rattle.calculus.specs.Defaults.{gather, settle}
@@ -29,7 +31,7 @@ use Rattle.calculus.specs.declared.Given.TheVariants.{Absent, Present}
 use Rattle.calculus.specs.declared.Unary.{Unary}
 use Rattle.calculus.specs.declared.Binary.{Binary}
 use Rattle.calculus.proofs.Exceptions.{exceptions_ended}
-use Rattle.calculus.proofs.Sides.{Result, unary_result, binary_result}
+use Rattle.calculus.proofs.Sides.{Result, ranged_result, unary_result, binary_result}
 use Rattle.book.specs.Syntax.{same_type}
 use Rattle.book.specs.Typing.{unary_type, operand_type}
 use Rattle.book.specs.declared.ValueType.{ValueType}
@@ -106,6 +108,10 @@ module _ (env : Surroundings) (m : Memory) where
     answers (Result.truth b) = refl
     answers (Result.number z f) = refl
     answers (Result.outside s) = refl
+
+    -- nor does an exact result
+    ranged_answers : (z : ℤ) → follow (answered (ranged z) st ts m) (exec env k) ≡ resume (ranged z) k st ts
+    ranged_answers z = answers (ranged_result z)
 
     unary_case : (op : Unary) (x : Outcome) → OutcomeFits (unary_type op) x → resume x (unary_kind op ∷ k) st ts ≡ resume (unary_on op x) k st ts
     unary_case op (Gives v) h = unary_runs env m k st ts op v h ∙ answers (unary_result op v)

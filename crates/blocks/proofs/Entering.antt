@@ -32,7 +32,7 @@ use Rattle.book.specs.declared.Variable.{Variable}
 use Rattle.evaluation.specs.Run.{values, ended}
 use Rattle.machine.specs.Instructions.{instruction_of}
 use Rattle.machine.specs.Blocks.{body_length, variables_of}
-use Rattle.machine.specs.Acceptance.{lands, fits, weight_in}
+use Rattle.machine.specs.Acceptance.{fits, weight_in}
 use Rattle.machine.specs.Machine.{waiting, entered, Memory, Try, Ran, ran, stuck, Next, go, returned, entered_with, with_callee, effect}
 use Rattle.machine.specs.Run.{cell_of, begins, begin, follow, exec, run_in, at_end}
 use Rattle.directory.specs.Tabled.{block_at, block_count}

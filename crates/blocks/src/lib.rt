@@ -1,5 +1,6 @@
 // The machine that runs accepted code: each entry of a block works on parts of a lent stack and of lent tries.
 #![tactic(auto)]
+
 ghost use Rattle.std.specs.Prelude.{◌≡◌, ◌+◌, ◌*◌, ◌<◌, ◌≤◌, length};
 ghost use Rattle.instructions.specs.Effects.{Stepping};
 ghost use Rattle.blocks.specs.Entries.{nonzero, Ending, Finished, Entry, Fresh, Known, Came, CameTo, Advances};

@@ -1,5 +1,6 @@
 // The directory of a code's blocks, as specs/Layout.antt sets it out: where each number stands, and its readers.
 #![tactic(auto)]
+
 ghost use Rattle.std.specs.Prelude.{◌≡◌, ◌<◌, ◌≤◌, length, get_or, List};
 ghost use Rattle.book.specs.Syntax.{type_of};
 ghost use Rattle.book.specs.declared.Variable.{Variable};

@@ -1,6 +1,7 @@
 // The engine: its four services and tabulating, what they answer, the answers' numbers, and the four services together with the claim about
 // them. It is the one crate that a user names.
 #![tactic(auto)]
+
 ghost use Rattle.std.specs.Prelude.{◌≡◌};
 ghost use Rattle.answers.specs.Numbers.{produced_numbers};
 ghost use Rattle.engine.specs.Claim.{Together};

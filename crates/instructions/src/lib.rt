@@ -1,6 +1,7 @@
 // The instructions of accepted code other than the entry of a sub-scope, over parts of a lent stack and of lent tries, and the frame of an entry,
 // as specs/Views.antt sets it out.
 #![tactic(auto)]
+
 ghost use Rattle.std.specs.Prelude.{◌≡◌, List, ℕ, ◌+◌, ◌-◌, ◌*◌, ◌<◌, ◌≤◌, length, get_or, eqb};
 ghost use Rattle.slices.specs.Bytes.{big_endian, number_at};
 ghost use Rattle.calculus.specs.declared.Joined.TheVariants.{One};

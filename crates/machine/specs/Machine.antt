@@ -36,8 +36,8 @@ pub record Memory : Type 0 where
   pub callees : List Callee
   pub count : ℕ
 
-abbrev pub field_own : Memory → ℕ → Cell
-field_own m x = get_or m.own x unset
+abbrev pub own_at : Memory → ℕ → Cell
+own_at m x = get_or m.own x unset
 
 abbrev pub callee_at : Memory → ℕ → Callee
 callee_at m k = get_or m.callees k (waiting [])
@@ -183,7 +183,7 @@ pub record Surroundings : Type 0 where
 -- the effect of an instruction, with so many bytes of the block left after it
 unfoldable pub effect : Surroundings → Instruction → ℕ → List Joined → List Try → Memory → Next
 effect env (push v) left st ts m = pushed (One v) st ts m
-effect env (read_own x) left st ts m = read_from (field_own m x) st ts m
+effect env (read_own x) left st ts m = read_from (own_at m x) st ts m
 effect env (read_called k x) left st ts m = read_in (callee_at m k) x st ts m
 effect env (unary op) left st ts m = taking st (λ v st₁. wanting (unary_type op) v (answered (unary_of op v) st₁ ts m))
 -- "the right operand on top"
@@ -198,9 +198,9 @@ effect env end_try left st ts m = closed st ts m
 effect env push_nothing left st ts m = pushed Nothing st ts m
 effect env join left st ts m = joined st ts m
 effect env (settle d) left st ts m = settled d st ts m
-effect env (store x) left st ts m = taking st (λ v st₁. wanting (env.own_type x) v (stored_to (field_own m x) x v st₁ ts m))
+effect env (store x) left st ts m = taking st (λ v st₁. wanting (env.own_type x) v (stored_to (own_at m x) x v st₁ ts m))
 effect env (override k x) left st ts m =
     taking st (λ v st₁. wanting (env.called_type k x) v (overridden (callee_at m k) k x v st₁ ts m))
 effect env (enter k) left st ts m = entered_with (env.enters k) (callee_at m k) k st ts m
-effect env (jump_if_given x d) left st ts m = jumped_if_given (field_own m x) d st ts m
+effect env (jump_if_given x d) left st ts m = jumped_if_given (own_at m x) d st ts m
 effect env unknown left st ts m = stop stuck

@@ -1,5 +1,6 @@
 // The service that runs a scope of code, judging it first.
 #![tactic(auto)]
+
 ghost use Rattle.std.specs.Prelude.{◌≡◌, true, ℕ, ◌<◌, ◌≤◌, length};
 ghost use Rattle.runner.specs.Rows.{begins_at, beginnings_in};
 ghost use Rattle.directory.specs.Layout.{place_in};

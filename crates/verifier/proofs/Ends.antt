@@ -17,7 +17,7 @@ use Rattle.laws.proofs.Booleans.{decide}
 use Rattle.book.specs.Lists.{any}
 use Rattle.book.specs.Scopes.{sum}
 use Rattle.machine.specs.Blocks.{Block, has_block, variables_of}
-use Rattle.machine.specs.Acceptance.{weight_in, well_formed, accepted}
+use Rattle.machine.specs.Acceptance.{weight_in, accepted}
 use Rattle.directory.specs.Layout.{place_in, body_in, block_weight, block_in, type_in}
 use Rattle.directory.specs.Tabled.{block_at, Entered}
 use Rattle.verifier.specs.Pass.{Marks, earlier, AreClosed, Busy, Reading, Leaving, AllClosed}

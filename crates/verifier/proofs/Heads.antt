@@ -19,7 +19,7 @@ use Rattle.book.specs.Scopes.{sum}
 use Rattle.book.specs.Syntax.{variable_of}
 use Rattle.book.specs.declared.Variable.{Variable}
 use Rattle.machine.specs.Blocks.{Block, Parsed, stage_of, has_block}
-use Rattle.machine.specs.Acceptance.{counted, sound, weight_in, accepted}
+use Rattle.machine.specs.Acceptance.{counted, weight_in, accepted}
 use Rattle.directory.specs.Layout.{place_in, block_weight, block_in, type_in}
 use Rattle.directory.specs.Tabled.{block_at}
 use Rattle.verifier.specs.Pass.{count_of, faulty_at, variable_read, sub_scope_read, Quiet, earlier, ahead, Head, Noted, Busy, Reading, VariableRoom, block_of, SubRoom, SubRead}

@@ -11,14 +11,14 @@ use mathlib.Core.Bool.{true, false, false≢true}
 use mathlib.Core.List.{List, ◌∷◌}
 use mathlib.Core.Logic.{⊎_elim}
 use native.Mathlib.Omega.{arith}
-use lib.ListN.{length, get_or, drop, set, replicate, length-replicate, drop_of_length-le}
+use lib.ListN.{length, get_or, drop, replicate, length-replicate, drop_of_length-le}
 use lib.Dec.{eqb, ltb}
 use borrow.Author.Tests.{lt-ltb, ltb-true, ltb-false, eqb-true, eqb-false}
 use Rattle.laws.proofs.Booleans.{decide}
 use Rattle.book.specs.Lists.{any}
 use Rattle.book.specs.Scopes.{sum}
 use Rattle.machine.specs.Blocks.{Block, Parsed, empty_block, stage_of, parse, has_block}
-use Rattle.machine.specs.Acceptance.{start, counted, sound, well_formed, all_well_formed, accepted}
+use Rattle.machine.specs.Acceptance.{start, counted, sound, all_well_formed, accepted}
 use Rattle.directory.specs.Layout.{place_in}
 use Rattle.directory.specs.Tabled.{block_at, Tabled, block_count, Room}
 use Rattle.verifier.specs.Pass.{count_of, faulty_at, block_read, mark, Quiet, earlier, ahead, Reading, nothing_read, filled, Leaving, AllClosed, Beginning, opening, Empty, Stepped, Left}

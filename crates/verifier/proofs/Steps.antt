@@ -17,7 +17,7 @@ use borrow.Author.Tests.{lt-ltb, ltb-true}
 use Rattle.laws.proofs.Booleans.{decide, both}
 use Rattle.machine.specs.Blocks.{Block, Parsed, body_length, stage_of, variables_of}
 use Rattle.machine.specs.Instructions.{instruction_of}
-use Rattle.machine.specs.Acceptance.{counted, sound, lands, fits, accepted}
+use Rattle.machine.specs.Acceptance.{counted, lands, fits, accepted}
 use Rattle.verifier.specs.Instructions.{form_of, named, distance_of, reach_after, ring_after}
 use Rattle.directory.specs.Layout.{block_in, size_in}
 use Rattle.directory.specs.Tabled.{block_at}

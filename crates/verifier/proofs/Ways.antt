@@ -3,7 +3,7 @@
 --     makes_beginning, makes-variable-room, makes-sub-room  what the functions of the kinds 1 to 3 ask
 --     variable_stepped, is-sub, sub-stepped                 what they give
 -- Assumes nothing.
-use Prim.Native.Nat.{ℕ, ◌+◌, ◌-◌, ◌<◌, ◌≤◌}
+use Prim.Native.Nat.{ℕ, ◌+◌, ◌<◌, ◌≤◌}
 use mathlib.Core.Path.{◌≡◌, refl, sym, ap, ◌∙◌}
 use mathlib.Core.Bool.{Bool, true, false}
 use mathlib.Core.List.{List}

@@ -2,6 +2,7 @@
 //   ring    the landings of distances that lie ahead: a mark for each position, by its remainder modulo 65,536; short code has no more
 //           positions than a ring of 8,192 marks, or of 1,024
 #![tactic(auto)]
+
 ghost use Rattle.std.specs.Prelude.{◌≡◌, true, ◌||◌, ℕ, ◌+◌, ◌<◌, ◌≤◌, ◌*◌, length, get_or, eqb, ltb};
 ghost use Rattle.record.specs.Kinds.{shape_in};
 ghost use Rattle.record.specs.declared.Medium.TheVariants.{Code};

@@ -1,21 +1,10 @@
 -- `blocks::enter`, `run_block`, `run_frame` and `enter_sub` meet their contracts. A block enters only blocks of lower numbers.
 use Prim.Native.Nat.{◌+◌, ◌-◌, ◌*◌}
-use mathlib.Core.Path.{◌≡◌, refl, sym, ◌∙◌}
+use mathlib.Core.Path.{◌≡◌}
 use lib.ListN.{length}
-use native.Mathlib.Omega.{arith}
-use Rattle.slices.proofs.Parts.{part_room}
 use Rattle.instructions.specs.Views.{givens_at}
 use Rattle.blocks.specs.Entries.{run_at, variables_at, Known}
 use Rattle.blocks.specs.Running.{Running}
-use Rattle.blocks.proofs.Tables.{small}
-use Rattle.blocks.proofs.Entering.{starts, stepping, world, body_is, ordered, ending, came_end, lent_rest, lent_size, lent_marked, rest_length, lent_before, sub_at, enterable}
-use Rattle.blocks.proofs.Entering.{entry_twice, entry_ended, entry_stuck, entry_short, entry_turn, entry_few, callee_entry, came_values, came_ended, came_stuck, came_short}
-use Rattle.blocks.proofs.Entering.{stands, acts, goes_on, ends_so, too_short, moved, further, went_on, went_ended, went_stuck, went_short}
-use Rattle.blocks.proofs.Entering.{fresh_none, fresh_few, fresh_all}
-use Rattle.blocks.proofs.Known.{row_room, recalled, unrecalled, entry_from, entry_sized, came_from, came_so, noted}
-use Rattle.blocks.proofs.Large.{came_to}
-use borrow.Author.Rules.{rules}
-use Prim.Native.Nat.{ℕ, ◌<◌}
 use Rattle.blocks.proofs.+enter_enter_sub_run_block_run_frame.Given as goal
 
 abbrev pub decreases-enter : goal.decreases-enter

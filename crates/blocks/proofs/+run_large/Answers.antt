@@ -1,5 +1,4 @@
 -- `blocks::run_large` meets its contract. The measure is how often it calls itself.
-use Prim.Native.Nat.{ℕ, ◌<◌}
 use mathlib.Core.Path.{refl}
 use native.Mathlib.Omega.{arith}
 use Rattle.blocks.proofs.Entering.{world}
@@ -7,9 +6,6 @@ use Rattle.blocks.proofs.Large.{large, enough, came_to}
 use Rattle.blocks.proofs.Tables.{small}
 use borrow.Author.Rules.{rules}
 use Rattle.blocks.proofs.+run_large.Goals as goal
-
-abbrev R : ℕ → run-large-lts.Claims
-R t = (run-large-below t, run-large.Post, run-given-reads.Asked, run-given-reads.Learnt)
 
 pub run_large-requires : goal.run_large-requires
 run_large-requires t c = (omega (arith, c.decreases), search rules)

@@ -1,8 +1,6 @@
 use mathlib.Core.Path.{refl}
 use mathlib.Core.Logic.{inl, inr}
 use native.Mathlib.Omega.{arith}
-use borrow.Author.Rules.{rules}
-use Rattle.blocks.proofs.advance.Lts as lts
 use Rattle.blocks.proofs.advance.Goals as goal
 
 -- src/lib.rt:591:9

@@ -1,7 +1,5 @@
 -- `blocks::all_set` meets its contract.
-use Prim.Native.Nat.{◌-◌}
-use Rattle.blocks.proofs.Ends.{Held, hold_start, hold, hold_not, hold_all}
-use borrow.Author.Rules.{rules}
+use Rattle.blocks.proofs.Ends.{hold_start, hold, hold_not, hold_all}
 use Rattle.blocks.proofs.all_set.Goals as goal
 
 pub loop-v-init : goal.loop-v-init

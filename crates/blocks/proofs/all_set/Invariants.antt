@@ -1,7 +1,6 @@
 -- `blocks::all_set` meets its contract.
 use Prim.Native.Nat.{◌-◌}
-use Rattle.blocks.proofs.Ends.{Held, hold_start, hold, hold_not, hold_all}
-use borrow.Author.Rules.{rules}
+use Rattle.blocks.proofs.Ends.{Held}
 use Rattle.blocks.proofs.all_set.Given as goal
 
 abbrev pub invariant-loop-v : goal.invariant-loop-v

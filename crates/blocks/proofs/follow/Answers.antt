@@ -1,6 +1,5 @@
 -- `blocks::follow` meets its contract.
 use Rattle.blocks.proofs.Entering.{moved, followed_on}
-use borrow.Author.Rules.{rules}
 use Rattle.blocks.proofs.follow.Goals as goal
 
 pub returns-in-Go : goal.returns-in-Go

@@ -1,6 +1,5 @@
 -- `blocks::one_step` meets its contract.
 use Rattle.blocks.proofs.Entering.{stepped}
-use borrow.Author.Rules.{rules}
 use Rattle.blocks.proofs.one_step.Goals as goal
 
 pub returns : goal.returns

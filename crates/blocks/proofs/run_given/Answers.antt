@@ -3,7 +3,6 @@ use mathlib.Core.Path.{◌∙◌}
 use Rattle.blocks.proofs.Known.{entry_sized, nothing_known, came_from}
 use Rattle.blocks.proofs.Large.{copied_own}
 use Rattle.blocks.proofs.Entering.{fresh_all}
-use borrow.Author.Rules.{rules}
 use Rattle.blocks.proofs.run_given.Goals as goal
 
 pub run_frame-requires : goal.run_frame-requires

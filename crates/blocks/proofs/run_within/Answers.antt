@@ -1,6 +1,5 @@
 -- `blocks::run_within` meets its contract.
 use Rattle.blocks.proofs.Large.{came_to}
-use borrow.Author.Rules.{rules}
 use Rattle.blocks.proofs.run_within.Goals as goal
 
 pub returns-in-Values : goal.returns-in-Values

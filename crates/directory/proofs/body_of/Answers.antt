@@ -1,6 +1,4 @@
 use Rattle.directory.specs.Layout.{begin_in, end_in, body_in}
-use borrow.Author.Rules.{rules}
-use Rattle.directory.proofs.body_of.Lts as lts
 use Rattle.directory.proofs.body_of.Goals as goal
 
 pub overflow_sub-end : goal.overflow_sub-end

@@ -1,7 +1,5 @@
 use lib.ListN.{get_or-eq_default}
 use mathlib.Core.Path.{sym}
-use borrow.Author.Rules.{rules}
-use Rattle.directory.proofs.entry_at.Lts as lts
 use Rattle.directory.proofs.entry_at.Goals as goal
 
 pub returns-else-i-directory : goal.returns-else-i-directory

@@ -1,13 +1,7 @@
-use Prim.Native.Nat.{◌-◌}
-use mathlib.Core.Path.{◌≡◌, sym, ◌∙◌}
-use mathlib.Core.List.{List}
+use mathlib.Core.Path.{sym, ◌∙◌}
 use native.Mathlib.Omega.{arith}
-use lib.ListN.{length, length-set}
-use borrow.Author.Rules.{rules}
-use Rattle.book.specs.declared.Variable.{Variable}
-use Rattle.lists.proofs.Types.{Filling, start, turn, stop}
-use Rattle.directory.specs.Layout.{Declares}
-use Rattle.directory.proofs.fill_types.Lts as lts
+use lib.ListN.{length-set}
+use Rattle.lists.proofs.Types.{start, turn, stop}
 use Rattle.directory.proofs.fill_types.Goals as goal
 
 pub loop-v-init : goal.loop-v-init

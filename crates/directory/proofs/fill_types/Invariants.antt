@@ -1,13 +1,10 @@
 use Prim.Native.Nat.{◌-◌}
-use mathlib.Core.Path.{◌≡◌, sym, ◌∙◌}
+use mathlib.Core.Path.{◌≡◌}
 use mathlib.Core.List.{List}
-use native.Mathlib.Omega.{arith}
-use lib.ListN.{length, length-set}
-use borrow.Author.Rules.{rules}
+use lib.ListN.{length}
 use Rattle.book.specs.declared.Variable.{Variable}
-use Rattle.lists.proofs.Types.{Filling, start, turn, stop}
+use Rattle.lists.proofs.Types.{Filling}
 use Rattle.directory.specs.Layout.{Declares}
-use Rattle.directory.proofs.fill_types.Lts as lts
 use Rattle.directory.proofs.fill_types.Given as goal
 
 abbrev pub invariant-loop-v : goal.invariant-loop-v

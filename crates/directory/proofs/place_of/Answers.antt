@@ -1,7 +1,5 @@
 use Rattle.directory.specs.Layout.{place_in}
 use borrow.Author.Tests.{lt-ltb, le-ltb}
-use borrow.Author.Rules.{rules}
-use Rattle.directory.proofs.place_of.Lts as lts
 use Rattle.directory.proofs.place_of.Goals as goal
 
 pub returns-then-scope-lt-PLACES : goal.returns-then-scope-lt-PLACES

@@ -1,6 +1,4 @@
 use Rattle.directory.specs.Layout.{sub_scopes_in}
-use borrow.Author.Rules.{rules}
-use Rattle.directory.proofs.sub_scopes_in.Lts as lts
 use Rattle.directory.proofs.sub_scopes_in.Goals as goal
 
 pub returns : goal.returns

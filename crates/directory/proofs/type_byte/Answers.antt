@@ -1,6 +1,4 @@
 use Rattle.directory.specs.Layout.{type_in}
-use borrow.Author.Rules.{rules}
-use Rattle.directory.proofs.type_byte.Lts as lts
 use Rattle.directory.proofs.type_byte.Goals as goal
 
 pub returns : goal.returns

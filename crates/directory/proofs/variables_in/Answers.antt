@@ -1,6 +1,4 @@
 use Rattle.directory.specs.Layout.{variables_in}
-use borrow.Author.Rules.{rules}
-use Rattle.directory.proofs.variables_in.Lts as lts
 use Rattle.directory.proofs.variables_in.Goals as goal
 
 pub returns : goal.returns

@@ -1,6 +1,4 @@
 use Rattle.directory.specs.Layout.{block_weight}
-use borrow.Author.Rules.{rules}
-use Rattle.directory.proofs.weight_of.Lts as lts
 use Rattle.directory.proofs.weight_of.Goals as goal
 
 pub returns : goal.returns

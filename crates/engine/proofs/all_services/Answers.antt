@@ -1,5 +1,4 @@
 -- `engine::all_services` meets its contract: by what the four services ensure.
-use borrow.Author.Rules.{rules}
 use Rattle.engine.proofs.Agreed.{together}
 use Rattle.engine.proofs.all_services.Goals as goal
 

@@ -1,6 +1,5 @@
 -- `instructions::answer` meets its contract.
 use Rattle.instructions.proofs.Stack.{answer_go, answer_ends}
-use borrow.Author.Rules.{rules}
 use Rattle.instructions.proofs.answer.Goals as goal
 
 pub returns-in-Gives : goal.returns-in-Gives

@@ -3,7 +3,6 @@ use Prim.Native.Nat.{◌*◌}
 use Rattle.instructions.proofs.Tries.{try_full, try_go}
 use native.Mathlib.Omega.{arith}
 use lib.ListN.{length-set}
-use borrow.Author.Rules.{rules}
 use Rattle.instructions.proofs.begin_try.Goals as goal
 
 pub returns-then-t-ge-TRIES : goal.returns-then-t-ge-TRIES

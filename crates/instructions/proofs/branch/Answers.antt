@@ -1,17 +1,17 @@
 -- `instructions::branch` meets its contract.
+use Rattle.std.proofs.lemmas.Bool.{not_from_true, not_from_false}
 use native.Mathlib.Omega.{arith}
 use Rattle.instructions.proofs.Stack.{branch_none, branch_other, branch_yes, branch_no}
-use borrow.Author.Rules.{rules}
 use Rattle.instructions.proofs.branch.Goals as goal
 
 pub returns-then-not-has_type : goal.returns-then-not-has_type
-returns-then-not-has_type c = λ env tr m left p. branch_other env left m c.top_value.ensures _ _ c.requires tr p c.in-Present.is c.has_type.ensures c.if-not-has_type.true
+returns-then-not-has_type c = λ env tr m left p. branch_other env left m c.top_value.ensures _ _ c.requires tr p c.in-Present.is c.has_type.ensures (not_from_false _ c.if-not-has_type.true)
 
 pub overflow_sub-result : goal.overflow_sub-result
 overflow_sub-result c = omega (arith, (c.top_value.ensures.some _ c.in-Present.is).1)
 
 pub returns-then-truth_of : goal.returns-then-truth_of
-returns-then-truth_of c = λ env tr m left p. branch_yes env left m c.top_value.ensures _ _ c.requires tr p c.in-Present.is c.has_type.ensures c.if-not-has_type.false c.truth_of.ensures c.if-truth_of.true
+returns-then-truth_of c = λ env tr m left p. branch_yes env left m c.top_value.ensures _ _ c.requires tr p c.in-Present.is c.has_type.ensures (not_from_true _ c.if-not-has_type.false) c.truth_of.ensures c.if-truth_of.true
 
 pub overflow_sub-result-in-Present : goal.overflow_sub-result-in-Present
 overflow_sub-result-in-Present c = omega (arith, (c.top_value.ensures.some _ c.in-Present.is).1)
@@ -20,4 +20,4 @@ pub returns-in-Absent : goal.returns-in-Absent
 returns-in-Absent c = λ env tr m left p. branch_none env left m c.top_value.ensures _ _ c.requires tr p c.in-Absent.is
 
 pub returns-else-truth_of : goal.returns-else-truth_of
-returns-else-truth_of c = λ env tr m left p. branch_no env left m c.top_value.ensures _ _ c.requires tr p c.in-Present.is c.has_type.ensures c.if-not-has_type.false c.truth_of.ensures c.if-truth_of.false
+returns-else-truth_of c = λ env tr m left p. branch_no env left m c.top_value.ensures _ _ c.requires tr p c.in-Present.is c.has_type.ensures (not_from_true _ c.if-not-has_type.false) c.truth_of.ensures c.if-truth_of.false

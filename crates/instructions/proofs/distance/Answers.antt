@@ -2,7 +2,6 @@
 use Prim.Native.Nat.{◌+◌}
 use native.Mathlib.Omega.{arith}
 use Rattle.slices.specs.Bytes.{big_endian}
-use borrow.Author.Rules.{rules}
 use Rattle.instructions.proofs.distance.Goals as goal
 
 pub returns : goal.returns

@@ -1,7 +1,6 @@
 -- `instructions::encode` meets its contract.
 use Rattle.calculus.proofs.Numbers.{number_fits}
 use Rattle.instructions.proofs.Stack.{encodes}
-use borrow.Author.Rules.{rules}
 use Rattle.instructions.proofs.encode.Goals as goal
 
 pub returns : goal.returns

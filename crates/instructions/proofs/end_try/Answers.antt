@@ -1,7 +1,6 @@
 -- `instructions::end_try` meets its contract.
 use Rattle.instructions.proofs.Tries.{close_none, close_go}
 use native.Mathlib.Omega.{arith}
-use borrow.Author.Rules.{rules}
 use Rattle.instructions.proofs.end_try.Goals as goal
 
 pub returns-then-t-eq0 : goal.returns-then-t-eq0

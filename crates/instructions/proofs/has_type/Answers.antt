@@ -1,5 +1,4 @@
 -- `instructions::has_type` meets its contract.
-use borrow.Author.Rules.{rules}
 use Rattle.instructions.proofs.has_type.Goals as goal
 
 pub returns : goal.returns

@@ -1,6 +1,5 @@
 -- `instructions::join_top` meets its contract.
 use Rattle.instructions.proofs.Stack.{join_low, join_go}
-use borrow.Author.Rules.{rules}
 use Rattle.instructions.proofs.join_top.Goals as goal
 
 pub returns-then-h-lt2 : goal.returns-then-h-lt2

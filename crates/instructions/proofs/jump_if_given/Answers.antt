@@ -3,7 +3,6 @@ use Prim.Native.Nat.{◌+◌, ◌-◌}
 use mathlib.Core.Path.{◌≡◌}
 use native.Mathlib.Omega.{arith}
 use Rattle.instructions.proofs.Memory.{given_unset, given_given, given_stored}
-use borrow.Author.Rules.{rules}
 use Rattle.instructions.proofs.jump_if_given.Goals as goal
 
 pub returns-then-own-x-eq-NOTHING : goal.returns-then-own-x-eq-NOTHING

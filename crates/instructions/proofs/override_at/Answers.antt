@@ -1,6 +1,5 @@
 -- `instructions::override_at` meets its contract.
 use native.Mathlib.Omega.{arith}
-use borrow.Author.Rules.{rules}
 use Rattle.instructions.proofs.override_at.Goals as goal
 
 pub type_at-requires : goal.type_at-requires

@@ -1,6 +1,5 @@
 -- `instructions::push` meets its contract.
 use Rattle.instructions.proofs.Stack.{push_full, push_go}
-use borrow.Author.Rules.{rules}
 use Rattle.instructions.proofs.push.Goals as goal
 
 pub returns-then-h-ge-STACK : goal.returns-then-h-ge-STACK

@@ -2,7 +2,6 @@
 use mir.Facts.{to_z-of_z}
 use mir.Val.{SFits}
 use mir.Syntax.{w32}
-use borrow.Author.Rules.{rules}
 use Rattle.instructions.proofs.push_number.Goals as goal
 
 pub returns : goal.returns

@@ -1,5 +1,4 @@
 -- `instructions::push_truth` meets its contract.
-use borrow.Author.Rules.{rules}
 use Rattle.instructions.proofs.push_truth.Goals as goal
 
 pub returns : goal.returns

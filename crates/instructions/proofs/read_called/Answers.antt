@@ -1,7 +1,6 @@
 -- `instructions::read_called` meets its contract.
 use Rattle.instructions.specs.Views.{entries, opened}
 use Rattle.instructions.proofs.Memory.{read_waiting, read_entered}
-use borrow.Author.Rules.{rules}
 use Rattle.instructions.proofs.read_called.Goals as goal
 
 pub returns-then-frame-k-eq0 : goal.returns-then-frame-k-eq0

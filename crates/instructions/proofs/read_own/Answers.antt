@@ -1,7 +1,6 @@
 -- `instructions::read_own` meets its contract.
 use Rattle.instructions.proofs.Memory.{read_unset, read_set}
 use Rattle.instructions.specs.Views.{entries, opened}
-use borrow.Author.Rules.{rules}
 use Rattle.instructions.proofs.read_own.Goals as goal
 
 pub returns-then-c-eq-NOTHING : goal.returns-then-c-eq-NOTHING

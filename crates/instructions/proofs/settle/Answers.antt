@@ -1,7 +1,6 @@
 -- `instructions::settle` meets its contract.
 use native.Mathlib.Omega.{arith}
 use Rattle.instructions.proofs.Stack.{settle_empty, settle_nothing, settle_value, settle_many}
-use borrow.Author.Rules.{rules}
 use Rattle.instructions.proofs.settle.Goals as goal
 
 pub returns-then-h-eq0 : goal.returns-then-h-eq0

@@ -7,7 +7,6 @@ use Rattle.cells.specs.Joining.{joined_of}
 use Rattle.instructions.specs.Effects.{rest_at}
 use Rattle.instructions.proofs.Steps.{own_named, called_named, given_named, own_fits, called_fits, store_fits, override_fits}
 use Rattle.instructions.proofs.Steps.{does_own, does_called, does_given, does_store, does_override, pass_at, pass_try, pass_binary, pass_stuck, none_below, none_above, past_unary}
-use borrow.Author.Rules.{rules}
 use Rattle.instructions.proofs.step.Goals as goal
 
 pub read_own-requires : goal.read_own-requires

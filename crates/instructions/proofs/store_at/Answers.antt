@@ -1,5 +1,4 @@
 -- `instructions::store_at` meets its contract.
-use borrow.Author.Rules.{rules}
 use Rattle.instructions.proofs.store_at.Goals as goal
 
 pub returns : goal.returns

@@ -1,7 +1,6 @@
 -- `instructions::top_value` meets its contract.
 use Rattle.instructions.proofs.Stack.{take_empty, take_nothing, take_many, take_value}
 use native.Mathlib.Omega.{arith}
-use borrow.Author.Rules.{rules}
 use Rattle.instructions.proofs.top_value.Goals as goal
 
 pub returns-then-h-eq0 : goal.returns-then-h-eq0

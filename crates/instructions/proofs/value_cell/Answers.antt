@@ -1,6 +1,5 @@
 -- `instructions::value_cell` meets its contract.
 use Rattle.instructions.proofs.Memory.{cell_zero, cell_value, cell_high}
-use borrow.Author.Rules.{rules}
 use Rattle.instructions.proofs.value_cell.Goals as goal
 
 pub returns-then-c-eq-NOTHING : goal.returns-then-c-eq-NOTHING

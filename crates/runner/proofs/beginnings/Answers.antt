@@ -1,10 +1,7 @@
 -- `runner::beginnings` meets its contract.
-use Prim.Native.Nat.{◌+◌, ◌-◌, ◌≤◌}
-use mathlib.Core.Path.{◌≡◌, sym, ◌∙◌}
-use mathlib.Core.Logic.{⊎_elim}
+use mathlib.Core.Path.{sym, ◌∙◌}
+use Rattle.runner.proofs.beginnings.Goals.{then-may_begin, else-may_begin}
 use native.Mathlib.Omega.{arith}
-use lib.ListN.{length, drop}
-use Rattle.runner.specs.Rows.{beginnings_in}
 use Rattle.runner.proofs.Rows.{count_one, count_none, count_end}
 use Rattle.runner.proofs.beginnings.Goals as goal
 
@@ -15,13 +12,10 @@ pub may_begin-requires : goal.may_begin-requires
 may_begin-requires c = omega (arith, c.loop-at-test.true)
 
 pub loop-at-preserved : goal.loop-at-preserved
-loop-at-preserved c = (
-  ⊎_elim
-      (λ a. rw a.1 (count_one _ _ _ c.loop-at.invariant.0 c.loop-at-test.true (sym c.may_begin.ensures ∙ a.0.taken)))
-      (λ a. rw a.1 (count_none _ _ _ c.loop-at.invariant.0 c.loop-at-test.true (sym c.may_begin.ensures ∙ a.0.left)))
-      c.if-may_begin.branch,
-  ⊎_elim (λ a. omega arith) (λ a. omega arith) c.if-may_begin.branch,
-)
+loop-at-preserved c = elim c.if-may_begin.branch [
+  | then-may_begin w ↦ (rw w.count-is (count_one _ _ _ c.loop-at.invariant.0 c.loop-at-test.true (sym c.may_begin.ensures ∙ w.if-may_begin.true)), omega arith)
+  | else-may_begin w ↦ (rw w.count-is (count_none _ _ _ c.loop-at.invariant.0 c.loop-at-test.true (sym c.may_begin.ensures ∙ w.if-may_begin.false)), omega arith)
+]
 
 pub returns : goal.returns
 returns c = count_end _ _ _ c.loop-at.invariant.0 c.loop-at-test.false

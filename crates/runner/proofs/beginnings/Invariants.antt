@@ -1,11 +1,8 @@
 -- `runner::beginnings` meets its contract.
 use Prim.Native.Nat.{◌+◌, ◌-◌, ◌≤◌}
-use mathlib.Core.Path.{◌≡◌, sym, ◌∙◌}
-use mathlib.Core.Logic.{⊎_elim}
-use native.Mathlib.Omega.{arith}
+use mathlib.Core.Path.{◌≡◌}
 use lib.ListN.{length, drop}
 use Rattle.runner.specs.Rows.{beginnings_in}
-use Rattle.runner.proofs.Rows.{count_one, count_none, count_end}
 use Rattle.runner.proofs.beginnings.Given as goal
 
 abbrev pub invariant-loop-at : goal.invariant-loop-at

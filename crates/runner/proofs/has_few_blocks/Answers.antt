@@ -1,6 +1,5 @@
 -- `runner::has_few_blocks` meets its contract.
 use Rattle.runner.proofs.Rows.{not_seen, seen}
-use borrow.Author.Rules.{rules}
 use Rattle.runner.proofs.has_few_blocks.Goals as goal
 
 pub returns-then-code-ge128 : goal.returns-then-code-ge128

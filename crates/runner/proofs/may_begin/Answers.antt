@@ -1,7 +1,6 @@
 -- `runner::may_begin` meets its contract.
 use mathlib.Core.Path.{sym, ◌∙◌}
 use Rattle.runner.proofs.Rows.{begun_not, begun_so}
-use borrow.Author.Rules.{rules}
 use Rattle.runner.proofs.may_begin.Goals as goal
 
 pub returns-then-byte_at-ne-KIND_SCOPE : goal.returns-then-byte_at-ne-KIND_SCOPE

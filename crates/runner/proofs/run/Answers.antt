@@ -1,6 +1,5 @@
 -- `runner::run` meets its contract.
 use Rattle.runner.proofs.Rows.{room_for_few, room_for_all}
-use borrow.Author.Rules.{rules}
 use Rattle.runner.proofs.run.Goals as goal
 
 pub run_in-requires : goal.run_in-requires

@@ -7,7 +7,7 @@ pub run_cells-requires : goal.run_cells-requires
 run_cells-requires c = (entry c.requires (search rules), c.requires.size)
 
 pub write_by-requires : goal.write_by-requires
-write_by-requires c = (types_short c.requires, has_room c.requires c.run_cells.ensures c.in-Values.is)
+write_by-requires c = record { n_bound = types_short c.requires; n_in_bounds = has_room c.requires c.run_cells.ensures c.in-Values.is }
 
 pub length_by-requires : goal.length_by-requires
 length_by-requires c = types_short c.requires

@@ -1,6 +1,5 @@
 -- `runner::run_in` meets its contract.
 use Rattle.runner.proofs.Service.{ready, refused_code}
-use borrow.Author.Rules.{rules}
 use Rattle.runner.proofs.run_in.Goals as goal
 
 pub run_accepted-requires : goal.run_accepted-requires

@@ -1,12 +1,8 @@
 -- `verifier::judge_long` meets its contract. The measure is how often it calls itself.
-use Prim.Native.Nat.{ℕ, ◌<◌}
 use native.Mathlib.Omega.{arith}
 use Rattle.verifier.proofs.Opens.{makes_empty}
 use borrow.Author.Rules.{rules}
 use Rattle.verifier.proofs.+judge_long.Goals as goal
-
-abbrev R : ℕ → judge-long-lts.Claims
-R t = (judge-long-below t, judge-long.Post, judge-code-reads.Asked, judge-code-reads.Learnt)
 
 pub judge_long-requires : goal.judge_long-requires
 judge_long-requires t c = (omega (arith, c.decreases), search rules)

@@ -1,6 +1,5 @@
 -- `verifier::begin_block` meets its contract.
 use Rattle.verifier.proofs.Opens.{begin_leaves, begin_stepped, left_refused, left_closed}
-use borrow.Author.Rules.{rules}
 use Rattle.verifier.proofs.begin_block.Goals as goal
 
 pub leave-requires : goal.leave-requires

@@ -1,7 +1,6 @@
 -- `verifier::body_passes` meets its contract.
 use Rattle.verifier.proofs.Landings.{body_short, body_looked}
 use native.Mathlib.Omega.{arith}
-use borrow.Author.Rules.{rules}
 use Rattle.verifier.proofs.body_passes.Goals as goal
 
 pub returns-then-code-at : goal.returns-then-code-at

@@ -4,7 +4,6 @@ use native.Mathlib.Omega.{arith}
 use mathlib.Core.Path.{◌∙◌, sym}
 use Rattle.verifier.proofs.Turns.{faulty_refused}
 use Rattle.verifier.proofs.Ways.{next_within, makes_beginning, makes_variable_room, variable_stepped, makes_sub_room, sub_stepped, is_sub}
-use borrow.Author.Rules.{rules}
 use Rattle.verifier.proofs.heading_at.Goals as goal
 
 pub is_faulty-requires : goal.is_faulty-requires

@@ -1,7 +1,6 @@
 -- `verifier::instruction` meets its contract.
 use borrow.Author.Tests.{eq-eqb, ne_eqb}
 use Rattle.verifier.specs.Instructions.{reach_after, ring_after}
-use borrow.Author.Rules.{rules}
 use Rattle.verifier.proofs.instruction.Goals as goal
 
 pub returns-then-d-eq0 : goal.returns-then-d-eq0

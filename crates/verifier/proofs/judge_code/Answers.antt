@@ -1,10 +1,7 @@
 -- `verifier::judge_code` meets its contract.
 use borrow.Author.Rules.{rules}
-use Prim.Native.Nat.{◌-◌}
-use mathlib.Core.Path.{◌≡◌, refl}
+use mathlib.Core.Path.{refl}
 use native.Mathlib.Omega.{arith}
-use lib.ListN.{length}
-use Rattle.verifier.specs.Pass.{Reading}
 use Rattle.verifier.proofs.Opens.{empty_start, stepped_refused, stepped_next, end_leaves, left_refused, left_closed, end_judged}
 use Rattle.verifier.proofs.judge_code.Goals as goal
 

@@ -1,11 +1,8 @@
 -- `verifier::judge_code` meets its contract.
-use borrow.Author.Rules.{rules}
 use Prim.Native.Nat.{◌-◌}
-use mathlib.Core.Path.{◌≡◌, refl}
-use native.Mathlib.Omega.{arith}
+use mathlib.Core.Path.{◌≡◌}
 use lib.ListN.{length}
 use Rattle.verifier.specs.Pass.{Reading}
-use Rattle.verifier.proofs.Opens.{empty_start, stepped_refused, stepped_next, end_leaves, left_refused, left_closed, end_judged}
 use Rattle.verifier.proofs.judge_code.Given as goal
 
 abbrev pub invariant-loop-at : goal.invariant-loop-at

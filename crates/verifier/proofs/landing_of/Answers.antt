@@ -4,7 +4,6 @@ use native.Mathlib.Omega.{arith}
 use Rattle.record.specs.declared.Shape.{Shape}
 use Rattle.verifier.specs.Pass.{Landed}
 use Rattle.verifier.proofs.Landings.{body_room, called_room_lem, bare, no_stage, landed_none, landed_one, landed_names, landed_jump, landed_given, landed_number}
-use borrow.Author.Rules.{rules}
 use Rattle.verifier.proofs.landing_of.Goals as goal
 
 pub returns-then-shape-ne4 : goal.returns-then-shape-ne4

@@ -3,7 +3,6 @@ use mathlib.Core.Path.{refl}
 use native.Mathlib.Omega.{arith}
 use lib.ListN.{length-set}
 use Rattle.verifier.proofs.Ends.{leave_idle, leave_bounds, reach_refused, weight_refused, leave_closed}
-use borrow.Author.Rules.{rules}
 use Rattle.verifier.proofs.leave.Goals as goal
 
 pub returns-then-u-eq0 : goal.returns-then-u-eq0
@@ -74,9 +73,6 @@ bounds-directory-scope c = simp length-set (let h = leave_bounds _ _ _ _ _ c.req
 
 pub bounds-ring-at : goal.bounds-ring-at
 bounds-ring-at c = let h = leave_bounds _ _ _ _ _ c.requires c.if-u-eq0.false in omega arith
-
--- ??? add-t11 : tie.Need-overflow-add-t11
-add-t11 c = let h = leave_bounds _ _ _ _ _ c.before.before.before.before.before.before.requires c.before.before.before.before.if1.false in omega arith
 
 pub shape_of-directory : goal.shape_of-directory
 shape_of-directory c = simp length-set refl

@@ -3,7 +3,6 @@ use Rattle.verifier.proofs.Landings.{stops, lands_at}
 use mathlib.Core.Bool.{true}
 use mathlib.Core.Path.{refl}
 use native.Mathlib.Omega.{arith}
-use borrow.Author.Rules.{rules}
 use Rattle.verifier.proofs.no_name.Goals as goal
 
 pub returns-then-body_passes : goal.returns-then-body_passes

@@ -1,19 +1,18 @@
 -- `verifier::one_name` meets its contract.
 use Rattle.verifier.proofs.Landings.{stops, lands_at, nameless}
-use borrow.Author.Tests.{lt-ltb, le-ltb, not-true, not-false}
+use borrow.Author.Tests.{lt-ltb, le-ltb}
 use mathlib.Core.Path.{refl}
 use native.Mathlib.Omega.{arith}
-use borrow.Author.Rules.{rules}
 use Rattle.verifier.proofs.one_name.Goals as goal
 
 pub returns-then-not-body_passes : goal.returns-then-not-body_passes
-returns-then-not-body_passes c = stops _ _ _ _ _ c.body_passes.ensures _ _ (not-true _ c.if-not-body_passes.true)
+returns-then-not-body_passes c = stops _ _ _ _ _ c.body_passes.ensures _ _ c.if-not-body_passes.true
 
 pub bounds-code-at : goal.bounds-code-at
-bounds-code-at c = let w = c.body_passes.ensures.whole (not-false _ c.if-not-body_passes.false) in omega arith
+bounds-code-at c = let w = c.body_passes.ensures.whole c.if-not-body_passes.false in omega arith
 
 pub returns-then-wide-count : goal.returns-then-wide-count
-returns-then-wide-count c = let w = c.body_passes.ensures.whole (not-false _ c.if-not-body_passes.false) in lands_at _ _ _ _ _ c.body_passes.ensures _ 0 (not-false _ c.if-not-body_passes.false) (lt-ltb _ _ (rw c.wide.ensures at c.if-wide-count.true)) _ refl (omega arith) (omega arith)
+returns-then-wide-count c = let w = c.body_passes.ensures.whole c.if-not-body_passes.false in lands_at _ _ _ _ _ c.body_passes.ensures _ 0 c.if-not-body_passes.false (lt-ltb _ _ (rw c.wide.ensures at c.if-wide-count.true)) _ refl (omega arith) (omega arith)
 
 pub returns : goal.returns
 returns c = nameless _ _ _ _ _ _ (le-ltb _ _ (rw c.wide.ensures at c.if-wide-count.false))

@@ -1,7 +1,6 @@
 -- `verifier::open_block` meets its contract.
 use borrow.Author.Tests.{lt-ltb, le-ltb, eq-eqb, ne_eqb}
 use Rattle.verifier.specs.Pass.{opening}
-use borrow.Author.Rules.{rules}
 use Rattle.verifier.proofs.open_block.Goals as goal
 
 pub returns-then-i-gt31 : goal.returns-then-i-gt31

@@ -3,7 +3,6 @@ use mathlib.Core.Path.{ap}
 use native.Mathlib.Omega.{arith}
 use Rattle.record.specs.declared.Shape.{Shape}
 use Rattle.verifier.proofs.Steps.{next_room, makes_instructing, instruction_stepped, landed_refused, landed_heading}
-use borrow.Author.Rules.{rules}
 use Rattle.verifier.proofs.step_at.Goals as goal
 
 pub landing_of-requires : goal.landing_of-requires

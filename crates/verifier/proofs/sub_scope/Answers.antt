@@ -1,7 +1,6 @@
 -- `verifier::sub_scope` meets its contract.
 use native.Mathlib.Omega.{arith}
 use Rattle.verifier.proofs.Heads.{sub_missing, sub_block_below, weight_room_lem, sub_read}
-use borrow.Author.Rules.{rules}
 use Rattle.verifier.proofs.sub_scope.Goals as goal
 
 pub returns-then-place-eq0 : goal.returns-then-place-eq0

@@ -1,7 +1,6 @@
 -- `verifier::variable` meets its contract.
 use mathlib.Core.Path.{refl}
 use native.Mathlib.Omega.{arith}
-use borrow.Author.Rules.{rules}
 use Rattle.verifier.proofs.variable.Goals as goal
 
 pub returns : goal.returns

@@ -1,7 +1,6 @@
 -- `verifier::verify` meets its contract.
 use native.Mathlib.Omega.{arith}
 use Rattle.verifier.proofs.Opens.{makes_empty}
-use borrow.Author.Rules.{rules}
 use Rattle.verifier.proofs.verify.Goals as goal
 
 pub judge_code-requires : goal.judge_code-requires
