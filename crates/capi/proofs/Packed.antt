@@ -9,9 +9,8 @@ use lib.ListN.{length}
 use Rattle.answers.specs.Response.{Response, Responds}
 use Rattle.answers.specs.Numbers.{Numbers, produced_numbers, answer_numbers}
 use Rattle.answers.specs.declared.Answer.{Answer}
-use Rattle.answers.specs.Production.{Production}
 use Rattle.answers.specs.declared.Produced.{Produced}
-use Rattle.evaluation.specs.Evaluate.{Reply, evaluate}
+use Rattle.evaluation.specs.Evaluate.{evaluate}
 use Rattle.tabulation.specs.Tabulate.{tabulate}
 use Rattle.compiler.specs.Compile.{compile}
 use Rattle.machine.specs.Service.{run}

@@ -1,5 +1,6 @@
 // The services as functions that C and Rust can call. A slice is passed as a pointer and a length.
 #![tactic(auto)]
+
 ghost use Rattle.std.specs.Prelude.{◌≡◌, length};
 ghost use Rattle.book.specs.Judge.{judge as Judge·judge};
 ghost use Rattle.answers.specs.Numbers.{judged_numbers};

@@ -1,37 +1,33 @@
 // Judges the book on standard input: prints `accepted N`, the number of its scopes, or `refused R`, the number of the first fault.
 #![tactic(auto)]
+
 use answers::Judged;
 use judge::judge;
-use libc::{STDERR_FILENO, STDIN_FILENO, STDOUT_FILENO};
 use numbers::fault_number;
+use std::env::{Env, FillError};
+use std::io::{self, Read};
 
-// A word, a number and the line's end: whether all was written.
-fn write_line(word: &[u8], n: u64) -> bool {
-    io::write_all(STDOUT_FILENO, word)
-        & io::print_decimal(STDOUT_FILENO, n)
-        & io::write_all(STDOUT_FILENO, b"\n")
+// One byte more than a book may have is read: a longer one is refused whatever follows.
+const MOST: u64 = 32769;
+
+fn has_arguments(rt: &impl Env) -> bool {
+    let mut first = [0u8; 1];
+    !matches!(rt.arg(1, &mut first), Err(FillError::NotPresent))
 }
 
-fn write_judged(j: Judged) -> bool {
+fn print_judged(rt: &impl Print, j: Judged) -> io::Result<()> {
     match j {
-        Judged::Accepted(n) => write_line(b"accepted ", n as u64),
-        Judged::Refused(f) => write_line(b"refused ", fault_number(f) as u64),
+        Judged::Accepted(n) => println!(rt; "accepted {n}"),
+        Judged::Refused(f) => println!(rt; "refused {}", fault_number(f)),
     }
 }
 
-// One byte more than a book may have is read: a longer one is refused whatever follows. A program cannot choose its exit status, so what goes
-// wrong is told on standard error.
-fn main() {
-    if 1 < os::arg_count() {
-        io::write_all(
-            STDERR_FILENO,
-            b"judgebook takes no arguments: it reads a book from standard input\n",
-        );
-        return;
+// With arguments it says on standard error what it reads, and ends well. A read or a write that fails ends it with an error.
+fn main(rt: HostRuntime) -> io::Result<()> {
+    if has_arguments(&rt) {
+        return eprintln!(rt; "judgebook takes no arguments: it reads a book from standard input");
     }
-    let mut buffer = [0u8; 32769];
-    let n = io::read_full(STDIN_FILENO, &mut buffer);
-    if !write_judged(judge(&buffer[..n])) {
-        os::fail(b"standard output");
-    }
+    let mut book = Vec::new(rt.alloc());
+    rt.stdin().take(MOST).read_to_end(&mut book)?;
+    print_judged(&rt, judge(&book))
 }

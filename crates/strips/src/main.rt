@@ -1,9 +1,9 @@
 // The trial strips a to m, each a book of one scope that the engine evaluates: a line each, its letter and what it gives.
 #![tactic(auto)]
+
 use engine::{Answer, Cause, Side, evaluate, refusal_number};
 use integers::number_at;
-use libc::STDOUT_FILENO;
-use operators::magnitude;
+use std::io;
 
 // Each book: a scope with one number variable; the nodes of the strip, a line each; the variable's definition, by the last node. "big is
 // 2,147,483,647".
@@ -124,84 +124,69 @@ const M: [u8; 11] = *b"\x01\x02\x02\
 // The variable is 9.
 const GIVEN: [u8; 6] = *b"\x02\x00\x00\x00\x00\x09";
 
-fn write(text: &[u8]) {
-    io::write_all(STDOUT_FILENO, text);
-}
-
-// In decimal, with a sign where it is negative.
-fn write_number(n: i32) {
-    if n < 0 {
-        write(b"-");
-    }
-    io::print_decimal(STDOUT_FILENO, magnitude(n));
-}
-
-fn write_cause(c: Cause) {
+fn word_of(c: Cause) -> &'static str {
     match c {
-        Cause::Empty => write(b"empty"),
-        Cause::Conflict => write(b"conflict"),
+        Cause::Empty => "empty",
+        Cause::Conflict => "conflict",
         Cause::OutOfRange(s) => match s {
-            Side::Above => write(b"above"),
-            Side::Below => write(b"below"),
+            Side::Above => "above",
+            Side::Below => "below",
         },
     }
 }
 
 // A space, and the variable's value or why it has none.
-fn write_answer(a: Answer, results: &[u8]) {
-    write(b" ");
+fn print_answer(rt: &impl Print, a: Answer, results: &[u8]) -> io::Result<()> {
     match a {
-        Answer::Values(_, _) => write_number(number_at(results, 2)),
-        Answer::Ended(c, _) => write_cause(c),
+        Answer::Values(_, _) => print!(rt; " {}", number_at(results, 2)),
+        Answer::Ended(c, _) => print!(rt; " {}", word_of(c)),
         // Never met: each book is accepted.
-        Answer::Refused(r) => {
-            write(b"refused ");
-            io::print_decimal(STDOUT_FILENO, refusal_number(r) as u64);
-        }
+        Answer::Refused(r) => print!(rt; " refused {}", refusal_number(r)),
     }
 }
 
 // Scope 0 of a book, with inputs.
-fn evaluated(book: &[u8], inputs: &[u8]) {
+fn print_evaluated(rt: &impl Print, book: &[u8], inputs: &[u8]) -> io::Result<()> {
     let mut results = [0u8; 6];
     let answer = evaluate(book, 0, inputs, &mut results);
-    write_answer(answer, &results);
+    print_answer(rt, answer, &results)
 }
 
 // A line: the letter, and what its book gives with nothing given.
-fn strip(letter: &[u8], book: &[u8]) {
-    write(letter);
-    evaluated(book, b"");
-    write(b"\n");
+fn print_strip(rt: &impl Print, letter: &str, book: &[u8]) -> io::Result<()> {
+    print!(rt; "{letter}")?;
+    print_evaluated(rt, book, b"")?;
+    println!(rt)
 }
 
 // Strips a to i: defaults.
-fn defaults() {
-    strip(b"a", &A);
-    strip(b"b", &B);
-    strip(b"c", &C);
-    strip(b"d", &D);
-    strip(b"e", &E);
-    strip(b"f", &F);
-    strip(b"g", &G);
-    strip(b"h", &H);
-    strip(b"i", &I);
+fn print_defaults(rt: &impl Print) -> io::Result<()> {
+    print_strip(rt, "a", &A)?;
+    print_strip(rt, "b", &B)?;
+    print_strip(rt, "c", &C)?;
+    print_strip(rt, "d", &D)?;
+    print_strip(rt, "e", &E)?;
+    print_strip(rt, "f", &F)?;
+    print_strip(rt, "g", &G)?;
+    print_strip(rt, "h", &H)?;
+    print_strip(rt, "i", &I)
 }
 
 // Strips j to m: operators, and a given variable.
-fn operators() {
-    strip(b"j", &J);
-    strip(b"k", &K);
-    write(b"l");
-    evaluated(&L, b"");
-    evaluated(&L_TOO, b"");
-    write(b"\n");
-    write(b"m");
-    evaluated(&M, &GIVEN);
-    write(b"\n");
+fn print_operators(rt: &impl Print) -> io::Result<()> {
+    print_strip(rt, "j", &J)?;
+    print_strip(rt, "k", &K)?;
+    print!(rt; "l")?;
+    print_evaluated(rt, &L, b"")?;
+    print_evaluated(rt, &L_TOO, b"")?;
+    println!(rt)?;
+    print!(rt; "m")?;
+    print_evaluated(rt, &M, &GIVEN)?;
+    println!(rt)
 }
 
-fn main() {
-    defaults();
-    operators();
+// A write that fails ends it with an error.
+fn main(rt: HostRuntime) -> io::Result<()> {
+    print_defaults(&rt)?;
+    print_operators(&rt)
 }

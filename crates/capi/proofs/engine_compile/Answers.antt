@@ -1,5 +1,4 @@
 -- `capi::engine_compile` meets its contract.
-use borrow.Author.Rules.{rules}
 use Rattle.capi.proofs.Packed.{compiled}
 use Rattle.capi.proofs.engine_compile.Goals as goal
 

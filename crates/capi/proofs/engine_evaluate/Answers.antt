@@ -1,5 +1,4 @@
 -- `capi::engine_evaluate` meets its contract.
-use borrow.Author.Rules.{rules}
 use Rattle.capi.proofs.Packed.{evaluated}
 use Rattle.capi.proofs.engine_evaluate.Goals as goal
 

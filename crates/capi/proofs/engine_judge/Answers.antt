@@ -1,5 +1,4 @@
 -- `capi::engine_judge` meets its contract.
-use borrow.Author.Rules.{rules}
 use Rattle.answers.specs.Numbers.{judged_numbers}
 use Rattle.engine.proofs.Placed.{judge_placed}
 use Rattle.capi.proofs.Packed.{said}

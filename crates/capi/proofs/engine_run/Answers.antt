@@ -1,5 +1,4 @@
 -- `capi::engine_run` meets its contract.
-use borrow.Author.Rules.{rules}
 use Rattle.capi.proofs.Packed.{ran}
 use Rattle.capi.proofs.engine_run.Goals as goal
 

@@ -1,5 +1,4 @@
 -- `capi::engine_tabulate` meets its contract.
-use borrow.Author.Rules.{rules}
 use Rattle.capi.proofs.Packed.{tabulated}
 use Rattle.capi.proofs.engine_tabulate.Goals as goal
 
