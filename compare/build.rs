@@ -1,4 +1,4 @@
-//! Links the static library that `rt staticlib capi` wrote; and, for the benchmark, four
+//! Links the static library that `tools/build.sh` wrote; and, for the benchmark, four
 //! copies of it at other places, and of a former one where `FORMER` names its file.
 
 use std::env;

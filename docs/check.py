@@ -25,9 +25,9 @@ def read(path):
 
 
 def files():
-    """The files that documents name and that are not there. Files of crates are named from crates/ on."""
+    """The files that documents name and that are not there. Files of crates are named from crates/ on. docs/PORT.md speaks of former files, too."""
     missing = ""
-    for document in ["README.md"] + sorted(glob.glob("docs/*.md")):
+    for document in ["README.md"] + sorted(set(glob.glob("docs/*.md")) - {"docs/PORT.md"}):
         for name in re.findall(r"`(\w+/[\w./+]+)`", read(document)):
             places = [name, f"crates/{name}", f"crates/{name}.edit", "crates/" + name.replace("/", "/must-fail/", 1) + ".edit"]
             if not name.startswith(("target/", "src/")) and not any(map(os.path.exists, places)):
@@ -44,7 +44,7 @@ def theorems():
             path = f"crates/{place}" if "/" in place else f"{folder}/{place}"
             folder = os.path.dirname(path)
             text += "".join(map(read, glob.glob(f"{path}/*.antt") if os.path.isdir(path) else [path]))
-        for name in re.findall(r"`([\w-]+)`", names):
+        for name in re.findall(r"`([\w']+)`", names):
             if not re.search(rf"^\s*(?:pub )?{name} :", text, re.M):
                 missing += f"{name}: not in {places}\n"
     return missing
@@ -52,20 +52,34 @@ def theorems():
 
 def declared(folder):
     """The public names that the files of every crate's folder declare."""
-    found = [re.findall(r"^\s*(?:\w+ )*pub ([\w-]+) :", read(path), re.M) for path in glob.glob(f"crates/*/{folder}/*.antt")]
+    found = [re.findall(r"^\s*(?:\w+ )*pub ([\w']+) :", read(path), re.M) for path in glob.glob(f"crates/*/{folder}/*.antt")]
     return set(sum(found, []))
+
+
+def written():
+    """The words of definitions and code, and the names of edits."""
+    words = [re.findall(r"[\w']+", read(path)) for path in glob.glob("crates/*/specs/*.antt") + glob.glob("crates/*/src/*.rt")]
+    return set(sum(words, [os.path.basename(path)[:-5] for path in glob.glob("crates/*/must-fail/*.edit")]))
+
+
+def cited(text):
+    """The rows of a document, without the last column under the two headings where it names edits."""
+    for section in re.split(r"^## ", text, flags=re.M):
+        has_edits = section.startswith(("Public promises\n", "Definitions\n"))
+        for row in re.findall(r"^\|.*", section, re.M):
+            yield row.strip("| ").rpartition(" | ")[0] if has_edits else row
 
 
 def citations():
     """The theorems that a row of docs/CLAIMS.md or docs/READING.md cites and the table of theorems does not list. A theorem is declared in proofs
-    and is no definition's name, or has a hyphen."""
+    and is no definition's name; so is a name with an underscore that no definition, code or edit has."""
     claims, table = read("docs/CLAIMS.md").split("\n## Theorems\n")
-    listed = set(re.findall(r"`([\w-]+)`", " ".join(re.findall(r"^\| (`.*?`) \|", table, re.M))))
-    laws = declared("proofs") - declared("specs")
+    listed = set(re.findall(r"`([\w']+)`", " ".join(re.findall(r"^\| (`.*?`) \|", table, re.M))))
+    laws, names = declared("proofs") - declared("specs"), written()
     missing = ""
     for document, text in [("docs/CLAIMS.md", claims), ("docs/READING.md", read("docs/READING.md"))]:
-        for name in sorted(set(re.findall(r"`([a-z][\w-]*)`", " ".join(re.findall(r"^\|.*", text, re.M)))) - listed):
-            if name in laws or "-" in name:
+        for name in sorted(set(re.findall(r"`([a-z][\w']*)`", " ".join(cited(text)))) - listed):
+            if name in laws or "_" in name and name not in names:
                 missing += f"{document}: {name} is not in the table of theorems\n"
     return missing
 

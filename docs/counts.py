@@ -26,7 +26,7 @@ class File:
         self.lines = text.count("\n")
         self.imports, self.modules, self.blocks = {}, {}, []
         for crate, module, names, alias in re.findall(
-            r"^use Rattle·(\w+)(?:·specs)?\.specs\.([\w.-]+?)(?:\.\{(.*)\}| as (\w+))$", text, re.M
+            r"^use Rattle\.(\w+)\.specs\.([\w.-]+?)(?:\.\{(.*)\}| as (\w+))$", text, re.M
         ):
             target = f"crates/{crate}/specs/{module}.antt"
             if not os.path.exists(target):
@@ -75,7 +75,7 @@ def roots():
         for path in glob.glob(f"crates/{crate}/src/*.rt"):
             text = open(path, encoding="utf-8").read()
             contracts = " ".join(re.findall(r"^pub [^{]*?fn[^{]*?(ensures \{.*?\})\n\{", text, re.M | re.S))
-            for owner, module, names in re.findall(r"^ghost use Rattle·(\w+)(?:·specs)?\.specs\.(\w+)\.\{(.*)\};$", text, re.M):
+            for owner, module, names in re.findall(r"^ghost use Rattle\.(\w+)\.specs\.(\w+)\.\{(.*)\};$", text, re.M):
                 for name in names.split(", "):
                     if re.search(rf"(?<![\w·]){re.escape(name.split(' as ')[-1])}(?![\w·])", contracts):
                         found.append((f"crates/{owner}/specs/{module}.antt", name.split(" as ")[0]))

@@ -26,6 +26,7 @@ def read(path):
             groups.append((line[1:].strip(), []))
         elif line:
             crate, names = line.split(":")
+            crate = crate.split()[0]
             rests[crate] = names.split()
             groups[-1][1].append(crate)
     for crate in rests:

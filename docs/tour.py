@@ -10,7 +10,7 @@ import re
 import subprocess
 import sys
 
-COMMANDS = ("rt", "cargo", "export", "cat", "text", "sed", "cc", "scanner")
+COMMANDS = ("bash", "cargo", "export", "cat", "text", "sed", "cc", "scanner")
 FAILS = ("text judge target/wrong.book\n", "text judge target/wrong.rules\n", "text check target/speed.rules\n")
 CONFLICT = "text evaluate target/speed.rules film shrunken=yes nitrate=yes\n"
 

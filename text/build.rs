@@ -1,4 +1,4 @@
-//! Links the engine's library where `rt staticlib capi` wrote it and it makes tables; the
+//! Links the engine's library where `tools/build.sh` wrote it and it makes tables; the
 //! cfg `library` says so. Without it the program starts rulerun instead.
 
 use std::path::Path;

@@ -37,7 +37,7 @@ pub fn compare(count: u64) -> Tally {
     let (mut evaluations, mut rows) = (Evaluations::default(), Met::default());
     let library = TABULATE.map(Evaluator::Library);
     if library.is_none() {
-        let remedy = "run 'rt staticlib capi', then build text again";
+        let remedy = "run 'bash tools/build.sh', then build text again";
         let wrong = format!("tables: the engine's library is not linked: {remedy}");
         tally.count(Err(wrong));
     }

@@ -18,8 +18,8 @@ pub fn find(name: &str) -> Result<PathBuf, String> {
     let found = found.into_iter().find(|path| path.is_file());
     found.ok_or_else(|| {
         format!(
-            "the proved program '{name}' is not there: run 'rt check judgebook rulerun' in the \
-             project's folder, or name the folder that holds it in {FOLDER}"
+            "the proved program '{name}' is not there: run 'bash tools/build.sh' in the project's \
+             folder, or name the folder that holds it in {FOLDER}"
         )
     })
 }

@@ -217,7 +217,7 @@ fn a_program_that_is_missing_is_named_with_what_to_build() {
     assert_eq!(output.status.code(), Some(1));
     let said = String::from_utf8_lossy(&output.stderr).into_owned();
     assert!(
-        said.contains("'judgebook' is not there: run 'rt check judgebook rulerun'"),
+        said.contains("'judgebook' is not there: run 'bash tools/build.sh'"),
         "{said}"
     );
 }
