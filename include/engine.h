@@ -1,6 +1,6 @@
 /*
  * The proved rule engine, for programs in C. The functions are those of the static library target/staticlib/libcapi.a, which
- * `rt staticlib capi` proves and writes; their contracts stand in crates/capi/src/lib.rt, the bytes of books, inputs, results, code and
+ * `bash tools/build.sh capi` proves and writes; their contracts stand in crates/capi/src/lib.rt, the bytes of books, inputs, results, code and
  * tables in docs/FORMAT.md. docs/SEALING.md is a page for those who build the library into a device: stack, times, and how each figure was found.
  *
  * Bytes are lent as a pointer and a length. No caller has to check them: whatever they hold, each call ends and answers. With length 0 a
@@ -23,18 +23,18 @@
 extern "C" {
 #endif
 
-#define ENGINE_VERSION "3.0.1"
+#define ENGINE_VERSION "3.0.2"
 
 /*
  * The most bytes of a book that is not refused, of its code and of the results of a scope: memory of such a length is never too short. The code of a
- * book is never more than seven times as long as the book (code-max and code-bound in crates/translation/proofs/Lengths.antt).
+ * book is never more than seven times as long as the book (code_max and code_bound in crates/translation/proofs/Lengths.antt).
  */
 #define ENGINE_BOOK_MAX 32768
 #define ENGINE_CODE_MAX 201435
 #define ENGINE_RESULTS_MAX 192
 
 /*
- * The most variables that may be chosen for a table, and the most bytes of a row and of a table (table-most in
+ * The most variables that may be chosen for a table, and the most bytes of a row and of a table (table_most in
  * crates/tabulation/proofs/Rows.antt). Where k variables are chosen, a table has 2^k rows of one length, so ENGINE_ROW_MAX << k bytes of memory
  * are enough for every scope; ENGINE_TABLE_MAX is less than that for 12, since chosen variables are yes/no, which are short.
  */
