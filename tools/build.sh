@@ -9,6 +9,15 @@
 set -euo pipefail
 cd "$(dirname "$0")/.."
 [ $# -gt 0 ] || set -- judgebook rulerun capi
+for name in "$@"; do
+  case $name in
+    judgebook | rulerun | strips | capi) ;;
+    *)
+      echo "tools/build.sh: '$name' is none of judgebook, rulerun, strips, capi" >&2
+      exit 2
+      ;;
+  esac
+done
 jobs=$(awk -v n="$(nproc)" '/^MemAvailable/ { m = int($2 / 4000000); print m < 1 ? 1 : m < n ? m : n }' /proc/meminfo)
 rt all check --jobs "$jobs"
 for name in "$@"; do
