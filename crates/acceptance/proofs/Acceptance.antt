@@ -12,6 +12,7 @@ use mathlib.Core.List.{List}
 use mathlib.Core.Logic.{⊎_elim, ◌↔◌}
 use native.Mathlib.Omega.{arith}
 use lib.ListN.{length}
+use Rattle.std.specs.Prelude.{Option, None, Some, Result, ℕ, Ok, Err}
 use Rattle.laws.proofs.Booleans.{decide, neither}
 use Rattle.book.specs.Lists.{any}
 use Rattle.book.specs.Records.{records, unknown_kind, truncated, out_of_order, limit_exceeded, invalid_byte, too_long}
@@ -25,31 +26,27 @@ use Rattle.book.specs.Steps.{dependency_cycle}
 use Rattle.book.specs.Judge.{InBook, scan, whole_book, after_records, judge}
 use Rattle.answers.specs.declared.Fault.{Fault}
 use Rattle.answers.specs.declared.Fault.TheVariants.{Truncated, UnknownKind, OutOfOrder, LimitExceeded, InvalidByte, DanglingReference, SharedNode, TypeMismatch, MixedClauses, ScopeCycle, WeightExceeded, DependencyCycle}
-use Rattle.book.specs.declared.Scanned.{Scanned}
-use Rattle.book.specs.declared.Scanned.TheVariants.{Sound, Faulty}
-use Rattle.answers.specs.declared.Judged.{Judged}
-use Rattle.answers.specs.declared.Judged.TheVariants.{Accepted, Refused}
 use Rattle.acceptance.specs.Verdicts.{Faultless}
 use Rattle.acceptance.proofs.Cycles.{no_scope_cycle, no_dependency_cycle}
 use Rattle.acceptance.proofs.Scanning.{scan_sound, sound_free}
 
-abbrev is_accepted : Judged → Bool
-is_accepted (Accepted n) = true
-is_accepted (Refused f) = false
+abbrev is_accepted : Result ℕ Fault → Bool
+is_accepted (Ok n) = true
+is_accepted (Err f) = false
 
-abbrev count_in : Judged → ℕ
-count_in (Accepted n) = n
-count_in (Refused f) = 0
+abbrev count_in : Result ℕ Fault → ℕ
+count_in (Ok n) = n
+count_in (Err f) = 0
 
-passed : (b : Bool) (f : Fault) (rest : Judged) (n : ℕ) → cond b (Refused f) rest ≡ Accepted n → (b ≡ false) × (rest ≡ Accepted n)
+passed : (b : Bool) (f : Fault) (rest : Result ℕ Fault) (n : ℕ) → cond b (Err f) rest ≡ Ok n → (b ≡ false) × (rest ≡ Ok n)
 passed true f rest n e = absurd (false≢true (ap is_accepted e))
 passed false f rest n e = (refl, e)
 
-scanned : (r : Scanned) (whole : Judged) (n : ℕ) → after_records r whole ≡ Accepted n → (r ≡ Sound) × (whole ≡ Accepted n)
-scanned Sound whole n e = (refl, e)
-scanned (Faulty f) whole n e = absurd (false≢true (ap is_accepted e))
+scanned : (r : Option Fault) (whole : Result ℕ Fault) (n : ℕ) → after_records r whole ≡ Ok n → (r ≡ None) × (whole ≡ Ok n)
+scanned None whole n e = (refl, e)
+scanned (Some f) whole n e = absurd (false≢true (ap is_accepted e))
 
-accepted_all : (bytes : List ℕ) (n : ℕ) → judge bytes ≡ Accepted n → Faultless bytes × (n ≡ length (scopes_of bytes))
+accepted_all : (bytes : List ℕ) (n : ℕ) → judge bytes ≡ Ok n → Faultless bytes × (n ≡ length (scopes_of bytes))
 unfolding judge whole_book
 accepted_all bytes n e =
     let a = passed (too_long bytes) LimitExceeded _ n e in
@@ -75,13 +72,13 @@ accepted_all bytes n e =
       sym (ap count_in j.1),
     )
 
-pub accepted_faultless : (bytes : List ℕ) (n : ℕ) → judge bytes ≡ Accepted n → Faultless bytes
+pub accepted_faultless : (bytes : List ℕ) (n : ℕ) → judge bytes ≡ Ok n → Faultless bytes
 accepted_faultless bytes n e = (accepted_all bytes n e).0
 
-pub accepted_count : (bytes : List ℕ) (n : ℕ) → judge bytes ≡ Accepted n → n ≡ length (scopes_of bytes)
+pub accepted_count : (bytes : List ℕ) (n : ℕ) → judge bytes ≡ Ok n → n ≡ length (scopes_of bytes)
 accepted_count bytes n e = (accepted_all bytes n e).1
 
-pub faultless_accepted : (bytes : List ℕ) → Faultless bytes → judge bytes ≡ Accepted (length (scopes_of bytes))
+pub faultless_accepted : (bytes : List ℕ) → Faultless bytes → judge bytes ≡ Ok (length (scopes_of bytes))
 unfolding judge whole_book
 faultless_accepted bytes c =
     rw (
@@ -136,7 +133,7 @@ free_faultless bytes free =
       doable = (no_dependency_cycle (scopes_of bytes)).1 (free DependencyCycle);
     }
 
-pub accepted_iff : (bytes : List ℕ) → (judge bytes ≡ Accepted (length (scopes_of bytes))) ↔ ((f : Fault) → InBook f bytes → ⊥)
+pub accepted_iff : (bytes : List ℕ) → (judge bytes ≡ Ok (length (scopes_of bytes))) ↔ ((f : Fault) → InBook f bytes → ⊥)
 accepted_iff bytes = (
   λ e. faultless_free bytes (accepted_faultless bytes (length (scopes_of bytes)) e),
   λ free. faultless_accepted bytes (free_faultless bytes free),

@@ -10,12 +10,12 @@ use mathlib.Core.List.{List}
 use native.Mathlib.Omega.{arith}
 use lib.ListN.{length}
 use borrow.Author.Tests.{ltb-false}
+use Rattle.std.specs.Prelude.{Ok}
 use Rattle.book.specs.Records.{records, too_long}
 use Rattle.book.specs.Decode.{scopes_of}
 use Rattle.book.specs.References.{scope_at}
 use Rattle.book.specs.Limits.{Within}
 use Rattle.book.specs.Judge.{judge}
-use Rattle.answers.specs.declared.Judged.TheVariants.{Accepted}
 use Rattle.book.proofs.Limits.{within}
 use Rattle.acceptance.specs.Verdicts.{Faultless}
 use Rattle.acceptance.specs.Accepted.{WithinLimits}
@@ -38,7 +38,7 @@ module _ (bytes : List ℕ) (f : Faultless bytes) where
   unfolding too_long
   faultless_size = ltb-false 32768 (length bytes) f.short
 
-module _ (bytes : List ℕ) (n : ℕ) (e : judge bytes ≡ Accepted n) where
+module _ (bytes : List ℕ) (n : ℕ) (e : judge bytes ≡ Ok n) where
   pub accepted_within : (i : ℕ) → WithinLimits (scope_at (scopes_of bytes) i)
   accepted_within = faultless_within bytes (accepted_faultless bytes n e)
 

@@ -16,6 +16,7 @@ use lib.ListN.{length, get_or, take}
 use lib.Seq.{get_or-take, length-take-le}
 use lib.Dec.{ltb}
 use borrow.Author.Tests.{eqb-true, ltb-true, ltb-false, not-false}
+use Rattle.std.specs.Prelude.{Ok}
 use Rattle.order.specs.Order.{order, among}
 use Rattle.laws.proofs.Booleans.{decide}
 use Rattle.order.proofs.Order.{order_all, order_no_repeats, order_after_dependencies}
@@ -25,7 +26,6 @@ use Rattle.book.specs.References.{scope_at}
 use Rattle.book.specs.Scopes.{calls, blocks, scope_cycle}
 use Rattle.book.specs.Steps.{depends_on, step_count, step_order, dependency_cycle_in, dependency_cycle}
 use Rattle.book.specs.Judge.{judge}
-use Rattle.answers.specs.declared.Judged.TheVariants.{Accepted}
 use Rattle.acceptance.specs.Accepted.{WellFormed, CompleteOrder, AcceptedBook}
 use Rattle.order.proofs.Among.{among_at}
 use Rattle.book.proofs.Searches.{any_false}
@@ -86,7 +86,7 @@ blocks_after book c w j l k h =
     let known : b < length book = c.below j in_blocks in
     c.after j in_blocks (get_or (scope_at book b).sub_scopes k 0) ((w b known).sub_scopes_named k h) (among_at (scope_at book b).sub_scopes k h)
 
-pub accepted_book : (bytes : List ℕ) (n : ℕ) → judge bytes ≡ Accepted n → AcceptedBook bytes n
+pub accepted_book : (bytes : List ℕ) (n : ℕ) → judge bytes ≡ Ok n → AcceptedBook bytes n
 unfolding dependency_cycle
 accepted_book bytes n e =
     let f = accepted_faultless bytes n e in

@@ -13,6 +13,7 @@ use mathlib.Core.Bool.{Bool, true, false, cond, ◌||◌, false≢true, or-true}
 use mathlib.Core.List.{List, [], ◌∷◌, ◌++◌}
 use mathlib.Core.Logic.{◌⊎◌, inl, inr, ⊎_elim, ◌↔◌}
 use native.Mathlib.Omega.{arith}
+use Rattle.std.specs.Prelude.{Option, None, Some}
 use Rattle.laws.proofs.Booleans.{decide, neither}
 use Rattle.book.specs.Lists.{any}
 use Rattle.book.specs.Records.{Met, records, unknown_kind, truncated, out_of_order, limit_exceeded, invalid_byte, too_long}
@@ -20,23 +21,21 @@ use Rattle.book.specs.Judge.{InBook, scan}
 use Rattle.answers.specs.Numbers.{fault_number}
 use Rattle.answers.specs.declared.Fault.{Fault}
 use Rattle.answers.specs.declared.Fault.TheVariants.{Truncated, UnknownKind, OutOfOrder, LimitExceeded, InvalidByte, DanglingReference, SharedNode, TypeMismatch, MixedClauses, ScopeCycle, WeightExceeded, DependencyCycle}
-use Rattle.book.specs.declared.Scanned.{Scanned}
-use Rattle.book.specs.declared.Scanned.TheVariants.{Sound, Faulty}
 use Rattle.acceptance.specs.Verdicts.{NoneFaulty, FirstOf, FirstFaulty, FreeBelow}
 use Rattle.book.proofs.Searches.{any_append}
 
-abbrev is_sound : Scanned → Bool
-is_sound Sound = true
-is_sound (Faulty f) = false
+abbrev is_sound : Option Fault → Bool
+is_sound None = true
+is_sound (Some f) = false
 
-abbrev fault_in : Scanned → Fault
-fault_in Sound = Truncated
-fault_in (Faulty f) = f
+abbrev fault_in : Option Fault → Fault
+fault_in None = Truncated
+fault_in (Some f) = f
 
-skip : {b : Bool} (x y : Scanned) → b ≡ false → cond b x y ≡ y
+skip : {b : Bool} (x y : Option Fault) → b ≡ false → cond b x y ≡ y
 skip x y e = rw e
 
-meet : {b : Bool} (x y : Scanned) → b ≡ true → cond b x y ≡ x
+meet : {b : Bool} (x y : Option Fault) → b ≡ true → cond b x y ≡ x
 meet x y e = rw e
 
 or_false : (a b : Bool) → a ≡ false → b ≡ false → (a || b) ≡ false
@@ -92,7 +91,7 @@ module _ (m : Met) (ms : List Met) where
   unfolding scan
   scan_clear c = skip _ _ c.known ∙ skip _ _ c.complete ∙ skip _ _ c.in_order ∙ skip _ _ c.within ∙ skip _ _ c.valid
 
-  scan_first : (f : Fault) → FirstOf m f → scan (m ∷ ms) ≡ Faulty f
+  scan_first : (f : Fault) → FirstOf m f → scan (m ∷ ms) ≡ Some f
   unfolding scan
   scan_first UnknownKind (FirstOf.second a) = meet _ _ a
   scan_first Truncated (FirstOf.first a b) = skip _ _ a ∙ meet _ _ b
@@ -147,21 +146,21 @@ none_or_first (m ∷ ms) =
     ))
     (clear_or_first m)
 
-none_sound : (ms : List Met) → NoneFaulty ms → scan ms ≡ Sound
+none_sound : (ms : List Met) → NoneFaulty ms → scan ms ≡ None
 unfolding scan
 none_sound [] n = refl
 none_sound (m ∷ ms) n = scan_clear m ms (none_head m ms n) ∙ none_sound ms (none_tail m ms n)
 
 first_faulty : (earlier : List Met) (m : Met) (later : List Met) (f : Fault) → NoneFaulty earlier → FirstOf m f
-    → scan (earlier ++ m ∷ later) ≡ Faulty f
+    → scan (earlier ++ m ∷ later) ≡ Some f
 first_faulty [] m later f n h = scan_first m later f h
 first_faulty (e ∷ earlier) m later f n h =
     scan_clear e (earlier ++ m ∷ later) (none_head e earlier n) ∙ first_faulty earlier m later f (none_tail e earlier n) h
 
-first_scanned : (ms : List Met) (f : Fault) → FirstFaulty ms f → scan ms ≡ Faulty f
+first_scanned : (ms : List Met) (f : Fault) → FirstFaulty ms f → scan ms ≡ Some f
 first_scanned ms f r = ap scan r.split ∙ first_faulty r.earlier r.faulty r.later f r.sound r.fault
 
-pub scan_sound : (ms : List Met) → (scan ms ≡ Sound) ↔ NoneFaulty ms
+pub scan_sound : (ms : List Met) → (scan ms ≡ None) ↔ NoneFaulty ms
 scan_sound ms = (
   λ e.
       ⊎_elim
@@ -171,7 +170,7 @@ scan_sound ms = (
   none_sound ms,
 )
 
-pub scan_faulty : (ms : List Met) (f : Fault) → (scan ms ≡ Faulty f) ↔ FirstFaulty ms f
+pub scan_faulty : (ms : List Met) (f : Fault) → (scan ms ≡ Some f) ↔ FirstFaulty ms f
 scan_faulty ms f = (
   λ e.
       ⊎_elim

@@ -15,6 +15,7 @@ use lib.ListN.{length, get_or, take}
 use lib.Seq.{take-suc, take_all}
 use lib.Dec.{eqb}
 use borrow.Author.Tests.{eqb-true, eq-eqb, lt-ltb, le-leb}
+use Rattle.std.specs.Prelude.{Ok}
 use Rattle.order.specs.Order.{among}
 use Rattle.laws.proofs.Booleans.{decide, eqb_swap}
 use Rattle.order.proofs.Among.{among_at}
@@ -27,7 +28,6 @@ use Rattle.book.specs.Typing.{target_type}
 use Rattle.book.specs.Scopes.{blocks, weight}
 use Rattle.book.specs.Steps.{step_order}
 use Rattle.book.specs.Judge.{judge}
-use Rattle.answers.specs.declared.Judged.TheVariants.{Accepted}
 use Rattle.book.specs.declared.Target.{Target}
 use Rattle.book.proofs.Searches.{any_none}
 use Rattle.book.proofs.Sums.{sum_same}
@@ -149,7 +149,7 @@ module _ (book : List Scope) where
       unfolding compiled
       compiled_well_formed = all_well_formed_lem (reverse (blocks book)) blocks_ordered
 
-pub code_accepted_lem : (bytes : List ℕ) (n : ℕ) → judge bytes ≡ Accepted n → accepted (code_of (scopes_of bytes)) ≡ true
+pub code_accepted_lem : (bytes : List ℕ) (n : ℕ) → judge bytes ≡ Ok n → accepted (code_of (scopes_of bytes)) ≡ true
 unfolding accepted
 code_accepted_lem bytes n e =
     let book = scopes_of bytes in

@@ -14,6 +14,7 @@ use mathlib.Core.Logic.{⊎_elim}
 use lib.ListN.{length}
 use lib.Dec.{ltb}
 use borrow.Author.Tests.{ltb-true}
+use Rattle.std.specs.Prelude.{Ok, Result, Err}
 use Rattle.laws.proofs.Booleans.{decide}
 use Rattle.book.specs.Syntax.{Scope}
 use Rattle.book.specs.Decode.{scopes_of}
@@ -21,7 +22,6 @@ use Rattle.book.specs.References.{scope_at}
 use Rattle.book.specs.Scopes.{weight}
 use Rattle.book.specs.Judge.{judge}
 use Rattle.answers.specs.Response.{memory_after}
-use Rattle.answers.specs.declared.Judged.TheVariants.{Accepted}
 use Rattle.lists.specs.Inputs.{Inputs, bad, good, inputs}
 use Rattle.acceptance.proofs.Acceptance.{accepted_count}
 use Rattle.evaluation.specs.Evaluate as evaluation
@@ -30,7 +30,7 @@ use Rattle.evaluation.specs.Answers.{Replied}
 use Rattle.answers.specs.declared.Refusal.{Refusal}
 use Rattle.answers.specs.declared.Refusal.TheVariants.{Book, NoSuchScope, BadInput, BufferTooSmall, BadCode, Stuck, BadChoice}
 use Rattle.answers.specs.declared.Answer.{Answer}
-use Rattle.answers.specs.declared.Answer.TheVariants.{Values, Ended, Refused}
+use Rattle.answers.specs.declared.Answer.TheVariants.{Values, Ended}
 use Rattle.evaluation.proofs.Counts.{values_count, ended_count}
 use Rattle.evaluation.proofs.Types.{inputs_fitting}
 use Rattle.evaluation.proofs.Answers.{replied}
@@ -52,12 +52,12 @@ refuses_code BadCode = true
 refuses_code Stuck = true
 refuses_code BadChoice = false
 
-abbrev of_code : Answer → Bool
-of_code (Values c l) = false
-of_code (Ended d c) = false
-of_code (Refused r) = refuses_code r
+abbrev of_code : Result Answer Refusal → Bool
+of_code (Ok (Values c l)) = false
+of_code (Ok (Ended d c)) = false
+of_code (Err r) = refuses_code r
 
-module _ (bytes : List ℕ) (n : ℕ) (accepted : judge bytes ≡ Accepted n) where
+module _ (bytes : List ℕ) (n : ℕ) (accepted : judge bytes ≡ Ok n) where
   abbrev book : List Scope
   book = scopes_of bytes
 
@@ -108,7 +108,7 @@ module _ (bytes : List ℕ) (n : ℕ) (accepted : judge bytes ≡ Accepted n) wh
     not_of_code r (Replied.stopped e d c h) = refl
     not_of_code r (Replied.finished e vs c h) = refl
 
-    never : (a : Answer) → of_code a ≡ true → (run (code_of book) i list room).answer ≡ a → ⊥
+    never : (a : Result Answer Refusal) → of_code a ≡ true → (run (code_of book) i list room).answer ≡ a → ⊥
     never a q e =
         false≢true
         (sym (not_of_code (evaluate bytes i list room) (replied bytes i list room))
@@ -116,11 +116,11 @@ module _ (bytes : List ℕ) (n : ℕ) (accepted : judge bytes ≡ Accepted n) wh
         ∙ ap of_code e
         ∙ q)
 
-    pub never_bad_code_lem : (run (code_of (scopes_of bytes)) i list room).answer ≡ Refused BadCode → ⊥
-    never_bad_code_lem = never (Refused BadCode) refl
+    pub never_bad_code_lem : (run (code_of (scopes_of bytes)) i list room).answer ≡ Err BadCode → ⊥
+    never_bad_code_lem = never (Err BadCode) refl
 
-    pub never_stuck_lem : (run (code_of (scopes_of bytes)) i list room).answer ≡ Refused Stuck → ⊥
-    never_stuck_lem = never (Refused Stuck) refl
+    pub never_stuck_lem : (run (code_of (scopes_of bytes)) i list room).answer ≡ Err Stuck → ⊥
+    never_stuck_lem = never (Err Stuck) refl
 
   pub run_memory : (i : ℕ) (list memory : List ℕ)
       → memory_after (run (code_of (scopes_of bytes)) i list (length memory)) memory ≡ memory_after (evaluate bytes i list (length memory)) memory

@@ -12,7 +12,7 @@ use native.Mathlib.Omega.{arith}
 use lib.ListN.{length, get_or}
 use lib.Dec.{eqb, ltb}
 use borrow.Author.Tests.{eqb-true, ltb-true, ltb-false}
-use Rattle.calculus.specs.declared.Given.{Given}
+use Rattle.std.specs.Prelude.{Option, Ok}
 use Rattle.order.specs.Order.{among}
 use Rattle.laws.proofs.Booleans.{decide, eqb_swap}
 use Rattle.order.proofs.Among.{among_at, among_place}
@@ -23,7 +23,6 @@ use Rattle.book.specs.Scopes.{blocks}
 use Rattle.book.specs.Steps.{step_order}
 use Rattle.book.specs.Judge.{judge}
 use Rattle.book.specs.declared.Variable.{Variable}
-use Rattle.answers.specs.declared.Judged.TheVariants.{Accepted}
 use Rattle.acceptance.proofs.Acceptance.{accepted_faultless}
 use Rattle.acceptance.proofs.Orders.{accepted_book}
 use Rattle.evaluation.specs.Run as evaluation
@@ -40,18 +39,19 @@ use Rattle.agreement.specs.Related.{SameSurroundings}
 use Rattle.agreement.proofs.Accepting.{among_reverse, has_block_lem, variables_of_lem, Ordered, blocks_ordered}
 use Rattle.agreement.proofs.Memory.{related_begin}
 use Rattle.agreement.proofs.Steps.{steps_run}
+use Rattle.calculus.specs.declared.Value.{Value}
 
-module _ (bytes : List ℕ) (n : ℕ) (accepted : judge bytes ≡ Accepted n) where
+module _ (bytes : List ℕ) (n : ℕ) (accepted : judge bytes ≡ Ok n) where
   abbrev book : List Scope
   book = scopes_of bytes
 
   -- entering the block of a scope comes to what entering the scope comes to, with the blocks of these scopes
   abbrev Enters : List ℕ → Type 0
-  Enters is = (i : ℕ) → among is i ≡ true → (gs : List Given) → Fitting (scope_at book i).variables gs
+  Enters is = (i : ℕ) → among is i ≡ true → (gs : List (Option Value)) → Fitting (scope_at book i).variables gs
       → run_in (compiled_in book is) i gs ≡ ran (run_scope book i gs)
 
   -- the last of the blocks
-  last_run : (b : ℕ) (is : List ℕ) → Ordered book (b ∷ is) → Enters is → (gs : List Given) → Fitting (scope_at book b).variables gs
+  last_run : (b : ℕ) (is : List ℕ) → Ordered book (b ∷ is) → Enters is → (gs : List (Option Value)) → Fitting (scope_at book b).variables gs
       → exec (surroundings (compiled_in book is) (compiled_block book b) (λ j hs. run_in (compiled_in book is) j hs))
       (compiled_block book b).body 0 [] [] (begin (compiled_in book is) (compiled_block book b) gs)
       ≡ ran (run_scope book b gs)
@@ -92,7 +92,7 @@ module _ (bytes : List ℕ) (n : ℕ) (accepted : judge bytes ≡ Accepted n) wh
   every_scope : (i : ℕ) → i < n → among (reverse (blocks book)) i ≡ true
   every_scope i l = among_reverse (blocks book) i ∙ (accepted_book bytes n accepted).block_order.every i l
 
-  pub code_run : (i : ℕ) → i < n → (gs : List Given) → Fitting (scope_at (scopes_of bytes) i).variables gs
+  pub code_run : (i : ℕ) → i < n → (gs : List (Option Value)) → Fitting (scope_at (scopes_of bytes) i).variables gs
       → run_in (compiled (scopes_of bytes)) i gs ≡ ran (run_scope (scopes_of bytes) i gs)
   unfolding compiled
   code_run i l =

@@ -7,6 +7,7 @@ use mathlib.Core.Path.{◌≡◌, refl, sym, ◌∙◌}
 use mathlib.Core.Bool.{false}
 use mathlib.Core.List.{List, [], ◌∷◌, map}
 use lib.IntN.{pos}
+use Rattle.std.specs.Prelude.{Ok}
 use Rattle.record.specs.Kinds.{shape_in, shapes_of, kinds}
 use Rattle.slices.specs.Bytes.{big_endian, number_at}
 use Rattle.calculus.specs.Evaluation.{eval, exceptions}
@@ -22,7 +23,6 @@ use Rattle.book.specs.Decode.{in_front, parse, scopes_of}
 use Rattle.book.specs.Trees.{term_below, term_of, select, clause_terms, bases, has_rule, tree}
 use Rattle.book.specs.Scopes.{calls, blocks}
 use Rattle.book.specs.Judge.{judge}
-use Rattle.answers.specs.declared.Judged.TheVariants.{Accepted}
 use Rattle.book.specs.Steps.{step_count, reads, reads_any, step_of, clause_reads, depends_on, step_order}
 use Rattle.evaluation.specs.Handing.{handing_by}
 use Rattle.evaluation.specs.Run.{Entered, values, ended, run_steps_by, enter_by, run_scope}
@@ -32,7 +32,7 @@ use Rattle.translation.specs.Blocks.{code_of}
 use Rattle.machine.specs.Service.{run}
 use Rattle.agreement.proofs.Agreement.{run_agrees}
 
-pub code_kept : (bytes : List ℕ) (n : ℕ) → judge bytes ≡ Accepted n → (i : ℕ) (list : List ℕ) (room : ℕ) → (EvaluationMeets bytes i list room → ⊥)
+pub code_kept : (bytes : List ℕ) (n : ℕ) → judge bytes ≡ Ok n → (i : ℕ) (list : List ℕ) (room : ℕ) → (EvaluationMeets bytes i list room → ⊥)
     → run (code_of (scopes_of bytes)) i list room ≡ former_evaluate bytes i list room
 code_kept bytes n accepted i list room never = run_agrees bytes n accepted i list room ∙ sym (answers_kept bytes i list room never)
 

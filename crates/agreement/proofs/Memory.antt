@@ -16,11 +16,10 @@ use lib.ListN.{length, get_or, set, length-set, length-map, get_or-eq_default, g
 use lib.Seq.{get_or-set_same, get_or-set_other}
 use lib.Dec.{eqb, ltb}
 use borrow.Author.Tests.{eqb-true, eqb-false, ltb-true, ltb-false}
+use Rattle.std.specs.Prelude.{Option, None, Some}
 use Rattle.calculus.specs.Terms.{Term}
 use Rattle.calculus.specs.declared.Value.{Value}
 use Rattle.calculus.specs.declared.Value.TheVariants.{Truth}
-use Rattle.calculus.specs.declared.Given.{Given}
-use Rattle.calculus.specs.declared.Given.TheVariants.{Absent, Present}
 use Rattle.cells.specs.Cells.{held}
 use Rattle.order.specs.Order.{among}
 use Rattle.laws.proofs.Booleans.{decide, or_cases, neither}
@@ -62,7 +61,7 @@ left_more steps x w e =
 
 -- The first step
 
-same_length : (xs : List Variable) (gs : List Given) → Fitting xs gs → length gs ≡ length xs
+same_length : (xs : List Variable) (gs : List (Option Value)) → Fitting xs gs → length gs ≡ length xs
 same_length [] [] h = refl
 same_length [] (g ∷ gs) h = absurd h
 same_length (x ∷ xs) [] h = absurd h
@@ -73,7 +72,7 @@ map_at f [] k d l = absurd (omega arith)
 map_at f (i ∷ is) zero d l = refl
 map_at f (i ∷ is) (suc k) d l = map_at f is k d (omega arith)
 
-pub related_begin : (book : List Scope) (i : ℕ) (earlier : List Block) (gs : List Given) → Fitting (scope_at book i).variables gs
+pub related_begin : (book : List Scope) (i : ℕ) (earlier : List Block) (gs : List (Option Value)) → Fitting (scope_at book i).variables gs
     → ((k : ℕ) → k < length (scope_at book i).sub_scopes
     → variables_of earlier (get_or (scope_at book i).sub_scopes k 0) ≡ (scope_at book (get_or (scope_at book i).sub_scopes k 0)).variables)
     → Related book (scope_at book i) gs [] (evaluation.begin (scope_at book i)) (begin earlier (compiled_block book i) gs)
@@ -85,16 +84,16 @@ related_begin book i earlier gs fitting known =
       own_length = length-map gs cell_of ∙ same_length s.variables gs fitting;
       callees_length = length-map s.sub_scopes (begins earlier);
       stored = λ w l m. absurd (false≢true m);
-      unset = λ w l m. get_or-map cell_of gs w Absent;
+      unset = λ w l m. get_or-map cell_of gs w None;
       entered = λ k l m. absurd (false≢true m);
       waiting = λ k l m.
           map_at (begins earlier) s.sub_scopes k (machine.waiting []) l
-          ∙ ap (λ (xs : List Variable). machine.waiting (map (λ x. Absent) xs)) (known k l);
+          ∙ ap (λ (xs : List Variable). machine.waiting (map (λ x. None) xs)) (known k l);
     }
 
 -- One step more
 
-module _ (book : List Scope) (s : Scope) (gs : List Given) (steps : List ℕ) (st : State) (m : Memory)
+module _ (book : List Scope) (s : Scope) (gs : List (Option Value)) (steps : List ℕ) (st : State) (m : Memory)
     (related : Related book s gs steps st m) where
   module _ (x : ℕ) (l : x < length s.variables) (inside : x < length st.own) where
     -- the sub-scopes are as before
@@ -107,7 +106,7 @@ module _ (book : List Scope) (s : Scope) (gs : List Given) (steps : List ℕ) (s
         → callee_at m k ≡ machine.waiting (nothing_handed book s k)
     other_waiting k h e = related.waiting k h (left_more steps x (length s.variables + k) e).1
 
-    pub related_given : (v : Value) → get_or gs x Absent ≡ Present v → among steps x ≡ false
+    pub related_given : (v : Value) → get_or gs x None ≡ Some v → among steps x ≡ false
         → Related book s gs (steps ++ x ∷ []) (with_variable st x v) m
     related_given v g new =
         record {
@@ -117,9 +116,9 @@ module _ (book : List Scope) (s : Scope) (gs : List Given) (steps : List ℕ) (s
           stored = λ w h e.
               ⊎_elim
               (λ (q : w ≡ x).
-              subst (λ (z : ℕ). HoldsValue (own_at m z) (held (get_or (set st.own x (Present v)) z Absent))) (sym q)
-              (rw (get_or-set_same st.own x (Present v) Absent inside, related.unset x l new, g) refl))
-              (λ q. rw (get_or-set_other st.own x w (Present v) Absent q.0) (related.stored w h q.1))
+              subst (λ (z : ℕ). HoldsValue (own_at m z) (held (get_or (set st.own x (Some v)) z None))) (sym q)
+              (rw (get_or-set_same st.own x (Some v) None inside, related.unset x l new, g) refl))
+              (λ q. rw (get_or-set_other st.own x w (Some v) None q.0) (related.stored w h q.1))
               (done_more steps x w e);
           unset = λ w h e. related.unset w h (left_more steps x w e).1;
           entered = other_entered;
@@ -136,13 +135,13 @@ module _ (book : List Scope) (s : Scope) (gs : List Given) (steps : List ℕ) (s
               ⊎_elim
               (λ (q : w ≡ x).
               subst
-              (λ (z : ℕ). HoldsValue (get_or (set m.own x (stored v)) z machine.unset) (held (get_or (set st.own x (Present v)) z Absent)))
+              (λ (z : ℕ). HoldsValue (get_or (set m.own x (stored v)) z machine.unset) (held (get_or (set st.own x (Some v)) z None)))
               (sym q)
               (rw (
-                get_or-set_same st.own x (Present v) Absent inside,
+                get_or-set_same st.own x (Some v) None inside,
                 get_or-set_same m.own x (stored v) machine.unset (omega (arith, related.own_length)),
               ) refl))
-              (λ q. rw (get_or-set_other st.own x w (Present v) Absent q.0, get_or-set_other m.own x w (stored v) machine.unset q.0)
+              (λ q. rw (get_or-set_other st.own x w (Some v) None q.0, get_or-set_other m.own x w (stored v) machine.unset q.0)
               (related.stored w h q.1))
               (done_more steps x w e);
           unset = λ w h e.
@@ -193,8 +192,8 @@ finals_front machine.unset cs v vs h e = absurd h
 finals_front (given w) cs v vs h e = ap (in_front w) e ∙ ap (λ (y : Value). finals (y ∷ vs)) h
 finals_front (stored w) cs v vs h e = ap (in_front w) e ∙ ap (λ (y : Value). finals (y ∷ vs)) h
 
-finals_held : (cs : List Cell) (gs : List Given) → length cs ≡ length gs
-    → ((w : ℕ) → w < length gs → HoldsValue (get_or cs w machine.unset) (held (get_or gs w Absent))) → finals_of cs ≡ finals (map held gs)
+finals_held : (cs : List Cell) (gs : List (Option Value)) → length cs ≡ length gs
+    → ((w : ℕ) → w < length gs → HoldsValue (get_or cs w machine.unset) (held (get_or gs w None))) → finals_of cs ≡ finals (map held gs)
 finals_held [] [] e h = refl
 finals_held [] (g ∷ gs) e h = absurd (omega arith)
 finals_held (c ∷ cs) [] e h = absurd (omega arith)
@@ -211,7 +210,7 @@ all_entered_lem (machine.waiting gs ∷ cs) h = absurd (false≢true (ap is_ente
     is_entered (machine.entered vs) = true
 all_entered_lem (machine.entered vs ∷ cs) h = all_entered_lem cs (λ k l. h (suc k) (omega arith))
 
-pub related_end : (book : List Scope) (s : Scope) (gs : List Given) (steps : List ℕ) (st : State) (m : Memory)
+pub related_end : (book : List Scope) (s : Scope) (gs : List (Option Value)) (steps : List ℕ) (st : State) (m : Memory)
     → Related book s gs steps st m → length st.own ≡ length s.variables → ((w : ℕ) → w < step_count s → among steps w ≡ true)
     → at_end m ≡ ran (values (map held st.own) st.count)
 unfolding step_count
@@ -248,15 +247,15 @@ not_false : (b : Bool) → (b ≡ false → ⊥) → b ≡ true
 not_false true h = refl
 not_false false h = absurd (h refl)
 
-module _ (book : List Scope) (s : Scope) (gs : List Given) (steps : List ℕ) (st : State) (m : Memory)
+module _ (book : List Scope) (s : Scope) (gs : List (Option Value)) (steps : List ℕ) (st : State) (m : Memory)
     (related : Related book s gs steps st m) (done : Done book s steps st)
     -- the sub-scopes that are entered are as in the memory
     (cs : List Callee) (same : (k : ℕ) → among steps (length s.variables + k) ≡ true → get_or cs k (machine.waiting []) ≡ callee_at m k) where
-  own_meets : (x : ℕ) (t : ValueType) → Holds t (get_or st.own x Absent) → OwnMeets (env_of st) (with_callees m cs) x t
+  own_meets : (x : ℕ) (t : ValueType) → Holds t (get_or st.own x None) → OwnMeets (env_of st) (with_callees m cs) x t
   own_meets x t h =
-      let low : x < length s.variables = omega (arith, there (Holds t) st.own Absent x (λ a. a) h, done.own_length) in
+      let low : x < length s.variables = omega (arith, there (Holds t) st.own None x (λ a. a) h, done.own_length) in
       let is : among steps x ≡ true = not_false (among steps x) (λ q. subst (Holds t) (done.unset x low q) h) in
-      (related.stored x low is, held_type t (get_or st.own x Absent) h)
+      (related.stored x low is, held_type t (get_or st.own x None) h)
 
   called_meets : (k x : ℕ) (t : ValueType) → HoldsAt t (get_or st.called k []) x → CalledMeets (env_of st) (with_callees m cs) k x t
   called_meets k x t h =
@@ -269,6 +268,6 @@ module _ (book : List Scope) (s : Scope) (gs : List Given) (steps : List ℕ) (s
   pub term_meets : (t : Term) (u : ValueType) → TermReady st t u
       → Typed (OwnMeets (env_of st) (with_callees m cs)) (CalledMeets (env_of st) (with_callees m cs)) t u
   term_meets t u =
-      typed_map 0 (λ x t₁. Holds t₁ (get_or st.own x Absent)) (OwnMeets (env_of st) (with_callees m cs))
+      typed_map 0 (λ x t₁. Holds t₁ (get_or st.own x None)) (OwnMeets (env_of st) (with_callees m cs))
       (λ k x t₁. HoldsAt t₁ (get_or st.called k []) x) (CalledMeets (env_of st) (with_callees m cs)) t u
       (record { own = λ x t₁ r. own_meets x t₁; calls = λ k x t₁ r. called_meets k x t₁ })

@@ -13,7 +13,7 @@ use Rattle.calculus.specs.Terms.{Term, Terms, literal, own, called, error, unary
 use Rattle.calculus.specs.declared.Value.{Value}
 use Rattle.calculus.specs.declared.Value.TheVariants.{Truth, Number}
 use Rattle.answers.specs.declared.Cause.TheVariants.{Empty}
-use Rattle.book.specs.Syntax.{Scope, variable_of}
+use Rattle.book.specs.Syntax.{Scope, variable_of, type_byte}
 use Rattle.book.specs.References.{scope_at}
 use Rattle.book.specs.Trees.{tree, has_clause, own_target, called_target}
 use Rattle.book.specs.Scopes.{blocks}
@@ -22,7 +22,7 @@ use Rattle.book.specs.declared.ValueType.{ValueType}
 use Rattle.book.specs.declared.ValueType.TheVariants.{YesNo, Numeric}
 use Rattle.book.specs.declared.Variable.{Variable}
 use Rattle.translation.specs.Code.{far, size, code, codes}
-use Rattle.translation.specs.Blocks.{variable_code, overrides_code, call_code, step_code, steps_code, type_byte, variables_code, sub_scopes_code, block_code, blocks_code, code_of}
+use Rattle.translation.specs.Blocks.{variable_code, overrides_code, call_code, step_code, steps_code, variables_code, sub_scopes_code, block_code, blocks_code, code_of}
 use Rattle.translation.proofs.Sizes.{tail, tail_size}
 use Rattle.machine.specs.Blocks.{Block, Parsed, in_front, parse, blocks_of}
 use Rattle.agreement.specs.Compiled.{compiled_block, compiled_in, compiled}

@@ -11,7 +11,7 @@ use lib.ListN.{length, length-append}
 use lib.Dec.{eqb}
 use borrow.Author.Tests.{ne_eqb, le-ltb, le-leb}
 use Rattle.record.specs.Kinds.{shape_in, shapes_of, kinds}
-use Rattle.book.specs.Syntax.{Scope}
+use Rattle.book.specs.Syntax.{Scope, type_byte}
 use Rattle.book.specs.References.{scope_at}
 use Rattle.book.specs.Records.{follows, invalid}
 use Rattle.book.specs.Scopes.{blocks}
@@ -20,7 +20,7 @@ use Rattle.book.specs.declared.ValueType.{ValueType}
 use Rattle.book.specs.declared.ValueType.TheVariants.{YesNo, Numeric}
 use Rattle.book.specs.declared.Variable.{Variable}
 use Rattle.acceptance.specs.Accepted.{WithinLimits}
-use Rattle.translation.specs.Blocks.{steps_code, type_byte, variables_code, sub_scopes_code, block_code, blocks_code, code_of}
+use Rattle.translation.specs.Blocks.{steps_code, variables_code, sub_scopes_code, block_code, blocks_code, code_of}
 use Rattle.machine.specs.Acceptance.{Count, start, counted, faulty, sound}
 use Rattle.agreement.proofs.Sequences.{Whole, Sequence, nothing, more, written_whole}
 use Rattle.agreement.proofs.Parsing.{steps_sequence}

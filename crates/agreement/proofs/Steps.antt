@@ -11,15 +11,12 @@ use lib.ListN.{length, get_or, set, length-append}
 use lib.Seq.{get_or-set_same, get_or-set_other, set-get_or, set-set, set_at, get_or_at, append_snoc}
 use lib.Dec.{ltb}
 use borrow.Author.Tests.{ltb-true, ltb-false}
+use Rattle.std.specs.Prelude.{Result, Ok, Err, Option, None, Some}
 use Rattle.calculus.specs.Evaluation.{eval, step}
 use Rattle.calculus.specs.Terms.{Term}
 use Rattle.calculus.specs.declared.Value.{Value}
-use Rattle.calculus.specs.declared.Outcome.{Outcome}
-use Rattle.calculus.specs.declared.Outcome.TheVariants.{Gives, Ends}
 use Rattle.calculus.specs.declared.Joined.TheVariants.{One}
 use Rattle.answers.specs.declared.Cause.TheVariants.{Empty, Conflict, OutOfRange}
-use Rattle.calculus.specs.declared.Given.{Given}
-use Rattle.calculus.specs.declared.Given.TheVariants.{Absent, Present}
 use Rattle.order.specs.Order.{among}
 use Rattle.laws.proofs.Booleans.{decide}
 use Rattle.book.specs.Syntax.{Scope}
@@ -31,7 +28,6 @@ use Rattle.book.specs.Steps.{step_count, step_order}
 use Rattle.book.specs.Judge.{judge}
 use Rattle.book.specs.declared.Variable.{Variable}
 use Rattle.book.specs.declared.Target.{Target}
-use Rattle.answers.specs.declared.Judged.TheVariants.{Accepted}
 use Rattle.acceptance.proofs.Orders.{accepted_book}
 use Rattle.evaluation.specs.Handing.{hands, falls_back, Handing, handed, failed, in_front, handing_by, handing}
 use Rattle.evaluation.specs.Run.{Entered, values, ended, State, env_of, run_steps_by, run_steps, run_scope}
@@ -50,10 +46,11 @@ use Rattle.machine.proofs.Steps.{exec_past, step_store, step_override, step_ente
 use Rattle.agreement.specs.Related.{nothing_handed, Related, SameSurroundings}
 use Rattle.agreement.proofs.Memory.{with_callees, related_given, related_stored, related_entered, related_end, term_meets}
 use Rattle.agreement.proofs.Terms.{after, run_tree, after_override, run_override}
+use Rattle.answers.specs.declared.Cause.{Cause}
 
 -- One step, where the memory is related to the state
 
-module _ (book : List Scope) (enter : ℕ → List Given → Entered) (s : Scope) (gs : List Given) (env : Surroundings)
+module _ (book : List Scope) (enter : ℕ → List (Option Value) → Entered) (s : Scope) (gs : List (Option Value)) (env : Surroundings)
     (same : SameSurroundings book enter s env) (runnable : (t : Target) → Runnable (tree s t))
     (steps : List ℕ) (st : State) (m : Memory) (related : Related book s gs steps st m) (done : Done book s steps st) (k : List ℕ) where
   module _ (x : ℕ) (l : x < length s.variables) (new : among steps x ≡ false)
@@ -66,28 +63,28 @@ module _ (book : List Scope) (enter : ℕ → List Given → Entered) (s : Scope
     unfolding variable_code
     by_given = step_jump_if_given env [] [] m x (size t + 2) (code t (41 ∷ x ∷ k)) (omega (arith, (runnable (own_target x)).near))
 
-    given_run : (v : Value) → get_or gs x Absent ≡ Present v → exec env (variable_code s x k) 0 [] [] m ≡ exec env k 0 [] [] m
+    given_run : (v : Value) → get_or gs x None ≡ Some v → exec env (variable_code s x k) 0 [] [] m ≡ exec env k 0 [] [] m
     unfolding exec
     given_run v g =
         by_given
         ∙ rw (related.unset x l new, g)
         (exec_past env (code t (41 ∷ x ∷ k)) (size t) 2 [] [] m ∙ ap (λ (r : List ℕ). exec env r 2 [] [] m) (code_behind t (41 ∷ x ∷ k)).rest)
 
-    open_run : get_or gs x Absent ≡ Absent → exec env (variable_code s x k) 0 [] [] m ≡ after env (eval (env_of st) t) (41 ∷ x ∷ k) m
+    open_run : get_or gs x None ≡ None → exec env (variable_code s x k) 0 [] [] m ≡ after env (eval (env_of st) t) (41 ∷ x ∷ k) m
     open_run g =
         by_given
         ∙ rw (related.unset x l new, g)
         (run_tree env (env_of st) m t (type_at s x) (41 ∷ x ∷ k)
         (term_meets book s gs steps st m related done m.callees (λ j e. refl) t (type_at s x) ready) (runnable (own_target x)))
 
-    store_run : get_or gs x Absent ≡ Absent → (v : Value) → HasType (type_at s x) v
+    store_run : get_or gs x None ≡ None → (v : Value) → HasType (type_at s x) v
         → exec env (41 ∷ x ∷ k) 0 (One v ∷ []) [] m ≡ exec env k 0 [] [] (with_own m x v)
     store_run g v h = step_store env [] [] m x v k (h ∙ sym (same.own_types x)) ∙ rw (related.unset x l new, g)
 
   module _ (c : ℕ) (low : c < length s.sub_scopes) (new : among steps (length s.variables + c) ≡ false)
       (ready : (v : ℕ) → TermReady st (tree s (called_target c v)) (called_type_at book s c v)) where
     -- the memory while values are handed over to sub-scope c
-    abbrev handing_over : List Given → Memory
+    abbrev handing_over : List (Option Value) → Memory
     handing_over hs = with_callees m (set m.callees c (waiting hs))
 
     at_first : m ≡ handing_over (nothing_handed book s c)
@@ -96,44 +93,44 @@ module _ (book : List Scope) (enter : ℕ → List Given → Entered) (s : Scope
         (sym (ap (λ (d : Callee). set m.callees c d) (sym (related.waiting c low new)) ∙ set-get_or m.callees c (waiting [])))
 
     -- what is held of sub-scope c, and of the others
-    held_here : (hs : List Given) → callee_at (handing_over hs) c ≡ waiting hs
+    held_here : (hs : List (Option Value)) → callee_at (handing_over hs) c ≡ waiting hs
     held_here hs = get_or-set_same m.callees c (waiting hs) (waiting []) (omega (arith, related.callees_length))
 
-    held_others : (hs : List Given) (j : ℕ) → among steps (length s.variables + j) ≡ true → callee_at (handing_over hs) j ≡ callee_at m j
+    held_others : (hs : List (Option Value)) (j : ℕ) → among steps (length s.variables + j) ≡ true → callee_at (handing_over hs) j ≡ callee_at m j
     held_others hs j e =
         get_or-set_other m.callees c j (waiting hs) (waiting [])
         (λ q. false≢true (sym new ∙ ap (λ (i : ℕ). among steps (length s.variables + i)) (sym q) ∙ e))
 
     -- another list handed over, or the sub-scope entered
-    put_here : (hs : List Given) (d : Callee) (n : ℕ) → with_callee (handing_over hs) c d n ≡ with_callee m c d n
+    put_here : (hs : List (Option Value)) (d : Callee) (n : ℕ) → with_callee (handing_over hs) c d n ≡ with_callee m c d n
     put_here hs d n = ap (λ (cs : List Callee). record { own = m.own; callees = cs; count = m.count + n }) (set-set m.callees c (waiting hs) d)
 
-    put_handed : (hs : List Given) → with_callee m c (waiting hs) 0 ≡ handing_over hs
+    put_handed : (hs : List (Option Value)) → with_callee m c (waiting hs) 0 ≡ handing_over hs
     put_handed hs =
         let z : m.count + 0 ≡ m.count = omega arith in
         ap (λ (n : ℕ). record { own = m.own; callees = set m.callees c (waiting hs); count = n }) z
 
     -- after the overrides, those before them having handed over a list
-    abbrev after_handing : Handing → List Given → Ran
+    abbrev after_handing : Handing → List (Option Value) → Ran
     after_handing (handed hs) front = exec env (43 ∷ c ∷ k) 0 [] [] (handing_over (front ++ hs))
     after_handing (failed d) front = ran (ended d m.count)
 
-    one_more : (g : Given) (h : Handing) (front : List Given) → after_handing h (front ++ g ∷ []) ≡ after_handing (in_front (hands g) h) front
-    one_more g (handed hs) front = ap (λ (gs₁ : List Given). exec env (43 ∷ c ∷ k) 0 [] [] (handing_over gs₁)) (append_snoc front g hs)
+    one_more : (g : Option Value) (h : Handing) (front : List (Option Value)) → after_handing h (front ++ g ∷ []) ≡ after_handing (in_front (hands g) h) front
+    one_more g (handed hs) front = ap (λ (gs₁ : List (Option Value)). exec env (43 ∷ c ∷ k) 0 [] [] (handing_over gs₁)) (append_snoc front g hs)
     one_more g (failed d) front = refl
 
-    override_run : (v : ℕ) (y : Value) (front rest : List Given) (r : List ℕ) → length front ≡ v → HasType (called_type_at book s c v) y
-        → exec env (42 ∷ c ∷ v ∷ r) 0 (One y ∷ []) [] (handing_over (front ++ Absent ∷ rest))
-        ≡ exec env r 0 [] [] (handing_over (front ++ Present y ∷ rest))
+    override_run : (v : ℕ) (y : Value) (front rest : List (Option Value)) (r : List ℕ) → length front ≡ v → HasType (called_type_at book s c v) y
+        → exec env (42 ∷ c ∷ v ∷ r) 0 (One y ∷ []) [] (handing_over (front ++ None ∷ rest))
+        ≡ exec env r 0 [] [] (handing_over (front ++ Some y ∷ rest))
     override_run v y front rest r e h =
-        step_override env [] [] (handing_over (front ++ Absent ∷ rest)) c v y r (h ∙ sym (same.called_types c low v))
-        ∙ rw (held_here (front ++ Absent ∷ rest), get_or_at front Absent rest Absent v e)
+        step_override env [] [] (handing_over (front ++ None ∷ rest)) c v y r (h ∙ sym (same.called_types c low v))
+        ∙ rw (held_here (front ++ None ∷ rest), get_or_at front None rest None v e)
         (ap (λ (m₁ : Memory). exec env r 0 [] [] m₁)
-        (put_here (front ++ Absent ∷ rest) (waiting (set (front ++ Absent ∷ rest) v (Present y))) 0
-        ∙ put_handed (set (front ++ Absent ∷ rest) v (Present y))
-        ∙ ap handing_over (set_at front Absent rest (Present y) v e)))
+        (put_here (front ++ None ∷ rest) (waiting (set (front ++ None ∷ rest) v (Some y))) 0
+        ∙ put_handed (set (front ++ None ∷ rest) v (Some y))
+        ∙ ap handing_over (set_at front None rest (Some y) v e)))
 
-    tree_run : (v : ℕ) (r : List ℕ) (hs : List Given)
+    tree_run : (v : ℕ) (r : List ℕ) (hs : List (Option Value))
         → exec env (override_code (tree s (called_target c v)) c v r) 0 [] [] (handing_over hs)
         ≡ after_override env (falls_back (eval (env_of st) (tree s (called_target c v)))) c v r (handing_over hs)
     tree_run v r hs =
@@ -142,32 +139,32 @@ module _ (book : List Scope) (enter : ℕ → List Given → Entered) (s : Scope
         (tree s (called_target c v)) (called_type_at book s c v) (ready v))
         (runnable (called_target c v))
 
-    abbrev absent : List Variable → List Given
-    absent xs = map (λ x. Absent) xs
+    abbrev absent : List Variable → List (Option Value)
+    absent xs = map (λ x. None) xs
 
-    absent_run : (xs : List Variable) (front : List Given) (r : List ℕ) (h : Handing)
-        → ((g : Given) → exec env r 0 [] [] (handing_over ((front ++ g ∷ []) ++ absent xs)) ≡ after_handing h (front ++ g ∷ []))
-        → exec env r 0 [] [] (handing_over (front ++ Absent ∷ absent xs)) ≡ after_handing (in_front (hands Absent) h) front
+    absent_run : (xs : List Variable) (front : List (Option Value)) (r : List ℕ) (h : Handing)
+        → ((g : Option Value) → exec env r 0 [] [] (handing_over ((front ++ g ∷ []) ++ absent xs)) ≡ after_handing h (front ++ g ∷ []))
+        → exec env r 0 [] [] (handing_over (front ++ None ∷ absent xs)) ≡ after_handing (in_front (hands None) h) front
     absent_run xs front r h more =
-        ap (λ (hs : List Given). exec env r 0 [] [] (handing_over hs)) (sym (append_snoc front Absent (absent xs)))
-        ∙ more Absent
-        ∙ one_more Absent h front
+        ap (λ (hs : List (Option Value)). exec env r 0 [] [] (handing_over hs)) (sym (append_snoc front None (absent xs)))
+        ∙ more None
+        ∙ one_more None h front
 
     -- what an override's tree hands over, or its end
-    evaluated_run : (v : ℕ) (xs : List Variable) (front : List Given) (r : List ℕ) (h : Handing) → length front ≡ v
-        → ((g : Given) → exec env r 0 [] [] (handing_over ((front ++ g ∷ []) ++ absent xs)) ≡ after_handing h (front ++ g ∷ []))
-        → (o : Outcome) → OutcomeFits (called_type_at book s c v) o
-        → after_override env (falls_back o) c v r (handing_over (front ++ Absent ∷ absent xs)) ≡ after_handing (in_front (falls_back o) h) front
-    evaluated_run v xs front r h e more (Gives y) fits =
+    evaluated_run : (v : ℕ) (xs : List Variable) (front : List (Option Value)) (r : List ℕ) (h : Handing) → length front ≡ v
+        → ((g : Option Value) → exec env r 0 [] [] (handing_over ((front ++ g ∷ []) ++ absent xs)) ≡ after_handing h (front ++ g ∷ []))
+        → (o : Result Value Cause) → OutcomeFits (called_type_at book s c v) o
+        → after_override env (falls_back o) c v r (handing_over (front ++ None ∷ absent xs)) ≡ after_handing (in_front (falls_back o) h) front
+    evaluated_run v xs front r h e more (Ok y) fits =
         override_run v y front (absent xs) r e fits
-        ∙ ap (λ (hs : List Given). exec env r 0 [] [] (handing_over hs)) (sym (append_snoc front (Present y) (absent xs)))
-        ∙ more (Present y)
-        ∙ one_more (Present y) h front
-    evaluated_run v xs front r h e more (Ends Empty) fits = absent_run xs front r h more
-    evaluated_run v xs front r h e more (Ends Conflict) fits = refl
-    evaluated_run v xs front r h e more (Ends (OutOfRange o)) fits = refl
+        ∙ ap (λ (hs : List (Option Value)). exec env r 0 [] [] (handing_over hs)) (sym (append_snoc front (Some y) (absent xs)))
+        ∙ more (Some y)
+        ∙ one_more (Some y) h front
+    evaluated_run v xs front r h e more (Err Empty) fits = absent_run xs front r h more
+    evaluated_run v xs front r h e more (Err Conflict) fits = refl
+    evaluated_run v xs front r h e more (Err (OutOfRange o)) fits = refl
 
-    overrides_run : (v : ℕ) (xs : List Variable) (front : List Given) → length front ≡ v
+    overrides_run : (v : ℕ) (xs : List Variable) (front : List (Option Value)) → length front ≡ v
         → exec env (overrides_code s c v xs (43 ∷ c ∷ k)) 0 [] [] (handing_over (front ++ absent xs)) ≡ after_handing (handing (env_of st) s c v xs) front
     unfolding overrides_code handing_by
     overrides_run v [] front e = refl
@@ -175,12 +172,12 @@ module _ (book : List Scope) (enter : ℕ → List Given → Entered) (s : Scope
         let o = eval (env_of st) (tree s (called_target c v)) in
         let h = handing (env_of st) s c (suc v) xs in
         let r = overrides_code s c (suc v) xs (43 ∷ c ∷ k) in
-        let more : (g : Given) → exec env r 0 [] [] (handing_over ((front ++ g ∷ []) ++ absent xs)) ≡ after_handing h (front ++ g ∷ []) =
+        let more : (g : Option Value) → exec env r 0 [] [] (handing_over ((front ++ g ∷ []) ++ absent xs)) ≡ after_handing h (front ++ g ∷ []) =
         λ g. overrides_run (suc v) xs (front ++ g ∷ []) (omega (arith, length-append front (g ∷ []))) in
         ⊎_elim
         (λ (q : has_clause s (called_target c v) ≡ true).
         rw q
-        (tree_run v r (front ++ Absent ∷ absent xs)
+        (tree_run v r (front ++ None ∷ absent xs)
         ∙ evaluated_run v xs front r h e more o (ready_typed st (tree s (called_target c v)) (called_type_at book s c v) (ready v))))
         (λ (q : has_clause s (called_target c v) ≡ false).
         rw q (absent_run xs front r h more))
@@ -191,7 +188,7 @@ module _ (book : List Scope) (enter : ℕ → List Given → Entered) (s : Scope
     after_entry (values vs n) = exec env k 0 [] [] (with_callee m c (entered vs) n)
     after_entry (ended d n) = ran (ended d (m.count + n))
 
-    enter_run : (hs : List Given) (e : Entered) → env.enters c hs ≡ ran e
+    enter_run : (hs : List (Option Value)) (e : Entered) → env.enters c hs ≡ ran e
         → exec env (43 ∷ c ∷ k) 0 [] [] (handing_over hs) ≡ after_entry e
     enter_run hs (values vs n) e =
         step_enter env [] [] (handing_over hs) c k
@@ -207,7 +204,7 @@ module _ (book : List Scope) (enter : ℕ → List Given → Entered) (s : Scope
 
 -- All steps, of a scope of an accepted book
 
-module _ (bytes : List ℕ) (n : ℕ) (accepted : judge bytes ≡ Accepted n) (i : ℕ) (low : i < n) (gs : List Given)
+module _ (bytes : List ℕ) (n : ℕ) (accepted : judge bytes ≡ Ok n) (i : ℕ) (low : i < n) (gs : List (Option Value))
     (fitting : Fitting (scope_at (scopes_of bytes) i).variables gs) (env : Surroundings)
     (same : SameSurroundings (scopes_of bytes) (run_scope (scopes_of bytes)) (scope_at (scopes_of bytes) i) env)
     (runnable : (t : Target) → Runnable (tree (scope_at (scopes_of bytes) i) t)) where
@@ -217,7 +214,7 @@ module _ (bytes : List ℕ) (n : ℕ) (accepted : judge bytes ≡ Accepted n) (i
   abbrev s : Scope
   s = scope_at book i
 
-  abbrev enter : ℕ → List Given → Entered
+  abbrev enter : ℕ → List (Option Value) → Entered
   enter = run_scope book
 
   -- the code of the steps left comes to what the steps come to
@@ -261,27 +258,27 @@ module _ (bytes : List ℕ) (n : ℕ) (accepted : judge bytes ≡ Accepted n) (i
       inside : x < length st.own
       inside = omega (arith, done.own_length)
 
-      by_outcome : get_or gs x Absent ≡ Absent → (o : Outcome) → eval (env_of st) tree_here ≡ o
+      by_outcome : get_or gs x None ≡ None → (o : Result Value Cause) → eval (env_of st) tree_here ≡ o
           → after env o (41 ∷ x ∷ rest) m ≡ ran (run_steps book enter s gs (x ∷ xs) st)
-      by_outcome g (Gives y) e =
-          let gives : step (get_or gs x Absent) (env_of st) tree_here ≡ Gives y = rw g e in
+      by_outcome g (Ok y) e =
+          let gives : step (get_or gs x None) (env_of st) tree_here ≡ Ok y = rw g e in
           let typed : HasType (type_at s x) y = subst (OutcomeFits (type_at s x)) e (ready_typed st tree_here (type_at s x) (trees.own l)) in
           store_run book enter s gs env same runnable steps st m related done rest x l new (trees.own l) g y typed
           ∙ later (steps ++ x ∷ []) (with_variable st x y) (with_own m x y) more (Reached.variable y reached l gives)
           (related_stored book s gs steps st m related x l inside y)
           ∙ ap ran (sym (variable_turn book enter s gs x xs st l y gives))
-      by_outcome g (Ends c) e =
-          let stops : step (get_or gs x Absent) (env_of st) tree_here ≡ Ends c = rw g e in
+      by_outcome g (Err c) e =
+          let stops : step (get_or gs x None) (env_of st) tree_here ≡ Err c = rw g e in
           ap (λ (j : ℕ). ran (ended c j)) related.count ∙ ap ran (sym (variable_end book enter s gs x xs st l c stops))
 
-      variable_run : (g : Given) → get_or gs x Absent ≡ g → exec env (variable_code s x rest) 0 [] [] m ≡ ran (run_steps book enter s gs (x ∷ xs) st)
-      variable_run (Present y) g =
-          let gives : step (get_or gs x Absent) (env_of st) tree_here ≡ Gives y = rw g refl in
+      variable_run : (g : Option Value) → get_or gs x None ≡ g → exec env (variable_code s x rest) 0 [] [] m ≡ ran (run_steps book enter s gs (x ∷ xs) st)
+      variable_run (Some y) g =
+          let gives : step (get_or gs x None) (env_of st) tree_here ≡ Ok y = rw g refl in
           given_run book enter s gs env same runnable steps st m related done rest x l new (trees.own l) y g
           ∙ later (steps ++ x ∷ []) (with_variable st x y) m more (Reached.variable y reached l gives)
           (related_given book s gs steps st m related x l inside y g new)
           ∙ ap ran (sym (variable_turn book enter s gs x xs st l y gives))
-      variable_run Absent g =
+      variable_run None g =
           open_run book enter s gs env same runnable steps st m related done rest x l new (trees.own l) g
           ∙ by_outcome g (eval (env_of st) tree_here) refl
 
@@ -301,7 +298,7 @@ module _ (bytes : List ℕ) (n : ℕ) (accepted : judge bytes ≡ Accepted n) (i
       waits : among steps (length s.variables + c) ≡ false
       waits = ap (among steps) (sym here) ∙ new
 
-      by_entry : (hs : List Given) → hands_over book s st x ≡ handed hs → (e : Entered) → enter (callee_of s x) hs ≡ e
+      by_entry : (hs : List (Option Value)) → hands_over book s st x ≡ handed hs → (e : Entered) → enter (callee_of s x) hs ≡ e
           → after_entry book enter s gs env same runnable steps st m related done rest c there waits ready e
           ≡ ran (run_steps book enter s gs (x ∷ xs) st)
       by_entry hs h (values vs j) e =
@@ -330,7 +327,7 @@ module _ (bytes : List ℕ) (n : ℕ) (accepted : judge bytes ≡ Accepted n) (i
     unfolding step_code
     step_run =
         ⊎_elim
-        (λ (q : ltb x (length s.variables) ≡ true). rw q (variable_run (ltb-true x (length s.variables) q) (get_or gs x Absent) refl))
+        (λ (q : ltb x (length s.variables) ≡ true). rw q (variable_run (ltb-true x (length s.variables) q) (get_or gs x None) refl))
         (λ (q : ltb x (length s.variables) ≡ false). rw q (whole_call (ltb-false x (length s.variables) q)))
         (decide (ltb x (length s.variables)))
 

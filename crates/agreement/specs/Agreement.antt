@@ -1,11 +1,10 @@
 -- Compiling and running agree with evaluating: "a single claim about the four services together".
-use Rattle.std.specs.Prelude.{ℕ, ◌≤◌, ◌≡◌, true, List, length}
+use Rattle.std.specs.Prelude.{ℕ, ◌≤◌, ◌≡◌, true, List, length, Err}
 use Rattle.book.specs.Decode.{scopes_of}
 use Rattle.book.specs.Scopes.{weight}
 use Rattle.evaluation.specs.Evaluate.{count_in, evaluate}
 use Rattle.answers.specs.Response.{memory_after}
 use Rattle.answers.specs.declared.Refusal.TheVariants.{BadCode, Stuck}
-use Rattle.answers.specs.declared.Answer.TheVariants.{Refused}
 use Rattle.translation.specs.Blocks.{code_of}
 use Rattle.machine.specs.Acceptance.{accepted}
 use Rattle.machine.specs.Service.{run}
@@ -23,5 +22,5 @@ pub record Agreement (bytes : List ℕ) : Type 0 where
   -- no run enters more scopes than the weight of the scope asked for
   pub counts : (i : ℕ) (list : List ℕ) (room : ℕ) → count_in (run (code_of (scopes_of bytes)) i list room).answer ≤ weight (scopes_of bytes) i
   -- and none is refused with 16 or 17
-  pub never_bad_code : (i : ℕ) (list : List ℕ) (room : ℕ) → (run (code_of (scopes_of bytes)) i list room).answer ≡ Refused BadCode → ⊥
-  pub never_stuck : (i : ℕ) (list : List ℕ) (room : ℕ) → (run (code_of (scopes_of bytes)) i list room).answer ≡ Refused Stuck → ⊥
+  pub never_bad_code : (i : ℕ) (list : List ℕ) (room : ℕ) → (run (code_of (scopes_of bytes)) i list room).answer ≡ Err BadCode → ⊥
+  pub never_stuck : (i : ℕ) (list : List ℕ) (room : ℕ) → (run (code_of (scopes_of bytes)) i list room).answer ≡ Err Stuck → ⊥

@@ -13,39 +13,38 @@ use native.Mathlib.Omega.{arith}
 use lib.ListN.{length, drop, length-append, length-drop}
 use lib.Dec.{leb}
 use borrow.Author.Tests.{leb-true, leb-false}
+use Rattle.std.specs.Prelude.{Result, ℕ, Ok, Err}
 use Rattle.answers.specs.Numbers.{produced_numbers}
 use Rattle.answers.specs.Production.{Production, refuse, fitting}
 use Rattle.answers.specs.Response.{memory_after}
 use Rattle.answers.specs.declared.Refusal.{Refusal}
 use Rattle.answers.specs.declared.Refusal.TheVariants.{BufferTooSmall}
-use Rattle.answers.specs.declared.Produced.{Produced}
-use Rattle.answers.specs.declared.Produced.TheVariants.{Written, Refused}
 
 -- a refusal, or bytes that fit
 pub data Within (room : ℕ) : Production → Type 0 where
   refused : (r : Refusal) → Within room (refuse r)
-  whole : (bytes : List ℕ) → length bytes ≤ room → Within room (record { answer = Written (length bytes); written = bytes })
+  whole : (bytes : List ℕ) → length bytes ≤ room → Within room (record { answer = Ok (length bytes); written = bytes })
 
 pub fitting_cases : (P : Production → Type 0) (bytes : List ℕ) (room : ℕ)
-    → (length bytes ≤ room → P (record { answer = Written (length bytes); written = bytes })) → (room < length bytes → P (refuse BufferTooSmall))
+    → (length bytes ≤ room → P (record { answer = Ok (length bytes); written = bytes })) → (room < length bytes → P (refuse BufferTooSmall))
     → P (fitting bytes room)
 unfolding fitting
 fitting_cases P bytes room long short = by_test (leb (length bytes) room) refl
   where
-    by_test : (b : Bool) → leb (length bytes) room ≡ b → P (cond b (record { answer = Written (length bytes); written = bytes }) (refuse BufferTooSmall))
+    by_test : (b : Bool) → leb (length bytes) room ≡ b → P (cond b (record { answer = Ok (length bytes); written = bytes }) (refuse BufferTooSmall))
     by_test true e = long (leb-true (length bytes) room e)
     by_test false e = short (leb-false (length bytes) room e)
 
-abbrev pub is_written : Produced → Bool
-is_written (Written n) = true
-is_written (Refused r) = false
+abbrev pub is_written : Result ℕ Refusal → Bool
+is_written (Ok n) = true
+is_written (Err r) = false
 
-pub within_refused : {room : ℕ} {p : Production} → Within room p → (r : Refusal) → p.answer ≡ Refused r → (memory : List ℕ) → memory_after p memory ≡ memory
+pub within_refused : {room : ℕ} {p : Production} → Within room p → (r : Refusal) → p.answer ≡ Err r → (memory : List ℕ) → memory_after p memory ≡ memory
 unfolding memory_after
 within_refused (Within.refused s) r e memory = refl
 within_refused (Within.whole bytes l) r e memory = absurd (false≢true (sym (ap is_written e)))
 
-pub within_unchanged : {room : ℕ} {p : Production} → Within room p → ((size : ℕ) → p.answer ≡ Written size → ⊥) → (memory : List ℕ) → memory_after p memory ≡ memory
+pub within_unchanged : {room : ℕ} {p : Production} → Within room p → ((size : ℕ) → p.answer ≡ Ok size → ⊥) → (memory : List ℕ) → memory_after p memory ≡ memory
 unfolding memory_after
 within_unchanged (Within.refused s) other memory = refl
 within_unchanged (Within.whole bytes l) other memory = absurd (other (length bytes) refl)

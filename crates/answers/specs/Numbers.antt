@@ -1,5 +1,5 @@
 -- "Where an answer is an enum, a definition sets out this paper's number and values for each of its cases".
-use Rattle.std.specs.Prelude.{ℕ}
+use Rattle.std.specs.Prelude.{ℕ, Result, Ok, Err}
 use Rattle.answers.specs.declared.Side.TheVariants.{Above, Below}
 use Rattle.answers.specs.declared.Cause.{Cause}
 use Rattle.answers.specs.declared.Cause.TheVariants.{Empty, Conflict, OutOfRange}
@@ -7,10 +7,6 @@ use Rattle.answers.specs.declared.Fault.{Fault}
 use Rattle.answers.specs.declared.Fault.TheVariants.{Truncated, UnknownKind, OutOfOrder, LimitExceeded, InvalidByte, DanglingReference, SharedNode, TypeMismatch, MixedClauses, ScopeCycle, WeightExceeded, DependencyCycle}
 use Rattle.answers.specs.declared.Refusal.{Refusal}
 use Rattle.answers.specs.declared.Refusal.TheVariants.{Book, NoSuchScope, BadInput, BufferTooSmall, BadCode, Stuck, BadChoice}
-use Rattle.answers.specs.declared.Judged.{Judged}
-use Rattle.answers.specs.declared.Judged.TheVariants as judged
-use Rattle.answers.specs.declared.Produced.{Produced}
-use Rattle.answers.specs.declared.Produced.TheVariants as produced
 use Rattle.answers.specs.declared.Answer.{Answer}
 use Rattle.answers.specs.declared.Answer.TheVariants as answer
 
@@ -60,17 +56,17 @@ abbrev pub refused_numbers : Refusal → Numbers
 refused_numbers r = record { refusal = refusal_number r; outcome = 0; count = 0; length = 0 }
 
 -- "Judging hands back the number of scopes", which stands in the length's place
-abbrev pub judged_numbers : Judged → Numbers
-judged_numbers (judged.Accepted n) = record { refusal = 0; outcome = 0; count = 0; length = n }
-judged_numbers (judged.Refused f) = refused_numbers (Book f)
+abbrev pub judged_numbers : Result ℕ Fault → Numbers
+judged_numbers (Ok n) = record { refusal = 0; outcome = 0; count = 0; length = n }
+judged_numbers (Err f) = refused_numbers (Book f)
 
 -- "compiling, like each later writer, the length written"
-abbrev pub produced_numbers : Produced → Numbers
-produced_numbers (produced.Written n) = record { refusal = 0; outcome = 0; count = 0; length = n }
-produced_numbers (produced.Refused r) = refused_numbers r
+abbrev pub produced_numbers : Result ℕ Refusal → Numbers
+produced_numbers (Ok n) = record { refusal = 0; outcome = 0; count = 0; length = n }
+produced_numbers (Err r) = refused_numbers r
 
 -- "an evaluation or a run its outcome, its count and the length of the results (0 without values)"
-abbrev pub answer_numbers : Answer → Numbers
-answer_numbers (answer.Values n size) = record { refusal = 0; outcome = 0; count = n; length = size }
-answer_numbers (answer.Ended c n) = record { refusal = 0; outcome = cause_number c; count = n; length = 0 }
-answer_numbers (answer.Refused r) = refused_numbers r
+abbrev pub answer_numbers : Result Answer Refusal → Numbers
+answer_numbers (Ok (answer.Values n size)) = record { refusal = 0; outcome = 0; count = n; length = size }
+answer_numbers (Ok (answer.Ended c n)) = record { refusal = 0; outcome = cause_number c; count = n; length = 0 }
+answer_numbers (Err r) = refused_numbers r

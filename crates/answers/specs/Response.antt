@@ -1,9 +1,8 @@
 -- What a service that is lent memory responds, and what every byte of that memory holds afterwards.
-use Rattle.std.specs.Prelude.{ℕ, ◌≡◌, List, ◌++◌, length, drop}
+use Rattle.std.specs.Prelude.{ℕ, ◌≡◌, List, ◌++◌, length, drop, Result, Ok, Err}
 use Rattle.answers.specs.declared.Refusal.{Refusal}
 use Rattle.answers.specs.declared.Refusal.TheVariants.{Book}
-use Rattle.answers.specs.declared.Judged.{Judged}
-use Rattle.answers.specs.declared.Judged.TheVariants as judged
+use Rattle.answers.specs.declared.Fault.{Fault}
 
 -- an answer, and the bytes that it writes
 pub record Response (A : Type 0) : Type 0 where
@@ -11,9 +10,9 @@ pub record Response (A : Type 0) : Type 0 where
   pub written : List ℕ
 
 -- a fault of the book is refused before all else
-abbrev pub on_judged : {A : Type 0} → (Refusal → Response A) → Judged → Response A → Response A
-on_judged refuse (judged.Accepted n) r = r
-on_judged refuse (judged.Refused f) r = refuse (Book f)
+abbrev pub on_judged : {A : Type 0} → (Refusal → Response A) → Result ℕ Fault → Response A → Response A
+on_judged refuse (Ok n) r = r
+on_judged refuse (Err f) r = refuse (Book f)
 
 -- "Lent memory changes only where code or values are written, from its first byte, and nothing after them"
 unfoldable pub memory_after : {A : Type 0} → Response A → List ℕ → List ℕ

@@ -1,24 +1,40 @@
 // What the services answer.
 #![tactic(auto)]
 
+ghost use Rattle.std.specs.Prelude.{◌≡◌};
+ghost use Rattle.answers.specs.declared.Refusal.TheVariants.{Book};
+
+use std::fmt;
+
 // On which side of the range an exact result lies that leaves it, above 2,147,483,647 or below −2,147,483,648: "An operator who sees 'range' must know
 // if the speed ran high or low" (paper 02, No. 3).
-#[derive(Clone, Copy)]
+#[derive(Clone, Copy, Debug, PartialEq, Eq)]
 pub enum Side {
     Above,
     Below,
 }
 
 // Why a run ends without a value.
-#[derive(Clone, Copy)]
+#[derive(Clone, Copy, Debug, PartialEq, Eq)]
 pub enum Cause {
     Empty,
     Conflict,
     OutOfRange(Side),
 }
 
+impl fmt::Display for Cause {
+    fn fmt<W: fmt::Write>(&self, f: &mut fmt::Formatter<W>) -> fmt::Result {
+        f.write_str(match self {
+            Cause::Empty => "empty",
+            Cause::Conflict => "conflict",
+            Cause::OutOfRange(Side::Above) => "above",
+            Cause::OutOfRange(Side::Below) => "below",
+        })
+    }
+}
+
 // Why a book is refused.
-#[derive(Clone, Copy)]
+#[derive(Clone, Copy, Debug, PartialEq, Eq)]
 pub enum Fault {
     Truncated,
     UnknownKind,
@@ -34,15 +50,8 @@ pub enum Fault {
     DependencyCycle,
 }
 
-// What judging a book answers: the number of its scopes, or the first fault.
-#[derive(Clone, Copy)]
-pub enum Judged {
-    Accepted(usize),
-    Refused(Fault),
-}
-
 // Why a service refuses: the numbers 1 to 18.
-#[derive(Clone, Copy)]
+#[derive(Clone, Copy, Debug, PartialEq, Eq)]
 pub enum Refusal {
     Book(Fault),
     NoSuchScope,
@@ -53,17 +62,18 @@ pub enum Refusal {
     BadChoice,
 }
 
-// What evaluating and running answer: the count of scopes entered and, where the run ends in values, the length of the results.
-#[derive(Clone, Copy)]
+impl From<Fault> for Refusal {
+    ghost from_gives = { λ f r. r ≡ Book f };
+
+    fn from(f: Fault) -> Refusal {
+        Refusal::Book(f)
+    }
+}
+
+// What evaluating and running answer where nothing is refused: the count of scopes entered and, where the run ends in values, the length of
+// the results.
+#[derive(Clone, Copy, Debug, PartialEq, Eq)]
 pub enum Answer {
     Values(usize, usize),
     Ended(Cause, usize),
-    Refused(Refusal),
-}
-
-// What compiling and tabulating answer: the length written, or why nothing is.
-#[derive(Clone, Copy)]
-pub enum Produced {
-    Written(usize),
-    Refused(Refusal),
 }

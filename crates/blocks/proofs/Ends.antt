@@ -1,57 +1,68 @@
 -- A block's end.
---     hold, hold-not, hold-all      cells looked through
+--     looked_through                cells looked through
 --     end_values, ..                what the end of a block comes to
 -- Assumes nothing.
-use Prim.Native.Nat.{ℕ, zero, suc, ◌+◌, ◌-◌, ◌<◌, ◌≤◌}
-use mathlib.Core.Path.{◌≡◌, refl, ap, sym, ◌∙◌}
-use mathlib.Core.Bool.{Bool, true, false, not, cond}
+use Prim.Native.Nat.{ℕ, zero, suc, ◌+◌, ◌<◌, ◌≤◌}
+use mathlib.Core.Path.{◌≡◌, refl, ap, ◌∙◌}
+use mathlib.Core.Bool.{Bool, true, false, not}
 use mathlib.Core.List.{List, ◌∷◌}
 use mathlib.Core.Logic.{⊎_elim}
 use native.Mathlib.Omega.{arith}
-use lib.ListN.{length, get_or}
+use lib.ListN.{length, get_or, take, drop, length-take, length-drop}
+use lib.Seq.{get_or-take, get_or-drop}
+use Rattle.std.specs.Bool.{MatchBool}
+use Rattle.std.specs.List.{AllWithin, HoldsAt}
 use lib.Dec.{eqb}
 use borrow.Author.Tests.{ne_eqb, eqb-true, eqb-false, not-true, not-false}
+use Rattle.std.specs.Prelude.{Some, Ok, Err}
 use Rattle.laws.proofs.Booleans.{decide}
 use Rattle.calculus.specs.declared.Value.{Value}
-use Rattle.calculus.specs.declared.Given.TheVariants.{Present}
 use Rattle.cells.specs.Cells.{given_of, held}
 use Rattle.machine.specs.Machine.{Cell}
 use Rattle.machine.specs.Run.{Finals, missing, finals, finals_of, all_entered, whole, at_end}
-use Rattle.blocks.specs.declared.Ran.TheVariants as coded
+use Rattle.blocks.specs.declared.Halt.TheVariants as coded
 use Rattle.instructions.specs.Views.{tab, cell_with, own_cell, values_in, callee_at, memory}
 use Rattle.blocks.specs.Entries.{nonzero, Ending, Finished}
 use Rattle.directory.specs.Layout.{variables_in, sub_scopes_in}
 use Rattle.instructions.proofs.Memory.{present, absent, tab_same}
 
-pub record Held (cells : List ℕ) (from n v : ℕ) : Type 0 where
-  pub rest : nonzero cells (from + v) (n - v) ≡ nonzero cells from n
-  pub below : v ≤ n
+set_all : (cells : List ℕ) (v n : ℕ) → ((k : ℕ) → k < n → get_or cells (v + k) 0 ≡ 0 → ⊥) → true ≡ nonzero cells v n
+unfolding nonzero
+set_all cells v zero h = refl
+set_all cells v (suc n) h =
+    let z : v + 0 ≡ v = omega arith in
+    let here : get_or cells v 0 ≡ 0 → ⊥ = rw z at (h 0 (omega arith)) in
+    rw (ne_eqb (get_or cells v 0) 0 here)
+    (set_all cells (suc v) n (λ k l. let y : suc v + k ≡ v + suc k = omega arith in rw y (h (suc k) (omega arith))))
 
-pub hold_start : (cells : List ℕ) (from n : ℕ) → Held cells from n 0
-hold_start cells from n =
-    let z : n - 0 ≡ n = omega arith in
-    let e : from + 0 ≡ from = omega arith in
-    record { rest = rw (e, z); below = omega arith }
+set_not : (cells : List ℕ) (v n k : ℕ) → k < n → get_or cells (v + k) 0 ≡ 0 → false ≡ nonzero cells v n
+unfolding nonzero
+set_not cells v zero k l e = absurd (omega arith)
+set_not cells v (suc n) zero l e = let z : v + 0 ≡ v = omega arith in rw (rw z at e)
+set_not cells v (suc n) (suc k) l e =
+    let y : v + suc k ≡ suc v + k = omega arith in
+    ⊎_elim
+    (λ (q : eqb (get_or cells v 0) 0 ≡ true). rw q)
+    (λ (q : eqb (get_or cells v 0) 0 ≡ false). rw q (set_not cells (suc v) n k (omega arith) (rw y at e)))
+    (decide (eqb (get_or cells v 0) 0))
 
-module _ {cells : List ℕ} {from n v : ℕ} (h : Held cells from n v) where
-  step : v < n → nonzero cells (from + v) (n - v) ≡ cond (eqb (get_or cells (from + v) 0) 0) false (nonzero cells (suc (from + v)) (n - (v + 1)))
-  unfolding nonzero
-  step l = let e : n - v ≡ suc (n - (v + 1)) = omega arith in rw e
+-- a part of the cells looked through for one that is 0
+pub looked_through : (cells : List ℕ) (from n : ℕ) (r : Bool) → from + n ≤ length cells
+    → (xs : List ℕ) → xs ≡ take n (drop from cells)
+    → MatchBool r (AllWithin (λ (x : ℕ). x ≡ 0 → ⊥) xs 0 (length xs)) ((k : ℕ) × (k < length xs) × HoldsAt (λ (x : ℕ). x ≡ 0) xs k)
+    → r ≡ nonzero cells from n
+looked_through cells from n r room xs e h = by_answer r h
+  where
+    count : length xs ≡ n
+    count = let a = ap length e in let b = length-take n (drop from cells) in let d = length-drop from cells in omega arith
 
-  pub hold_not : v < n → get_or cells (from + v) 0 ≡ 0 → false ≡ nonzero cells from n
-  hold_not l e = sym (sym h.rest ∙ step l ∙ rw e)
+    cell : (k : ℕ) → k < n → get_or xs k 0 ≡ get_or cells (from + k) 0
+    cell k l = ap (λ (ys : List ℕ). get_or ys k 0) e ∙ get_or-take n (drop from cells) k 0 l ∙ get_or-drop from cells k 0
 
-  pub hold : v < n → (get_or cells (from + v) 0 ≡ 0 → ⊥) → Held cells from n (v + 1)
-  hold l e =
-      let z : from + (v + 1) ≡ suc (from + v) = omega arith in
-      record {
-        rest = rw z (sym (step l ∙ rw (ne_eqb (get_or cells (from + v) 0) 0 e)) ∙ h.rest);
-        below = omega arith;
-      }
-
-  pub hold_all : n ≤ v → true ≡ nonzero cells from n
-  unfolding nonzero
-  hold_all l = let z : n - v ≡ 0 = omega arith in rw z at h.rest
+    by_answer : (a : Bool) → MatchBool a (AllWithin (λ (x : ℕ). x ≡ 0 → ⊥) xs 0 (length xs)) ((k : ℕ) × (k < length xs) × HoldsAt (λ (x : ℕ). x ≡ 0) xs k)
+        → a ≡ nonzero cells from n
+    by_answer true f = set_all cells from n (λ k l. rw (cell k l) at (f k 0 (omega arith) (rw count l)))
+    by_answer false f = let l : f.0 < n = rw count at f.1 in set_not cells from n f.0 l (rw (cell f.0 l) at (f.2 0))
 
 -- The end of a block
 
@@ -59,7 +70,7 @@ abbrev finals_if : Bool → List Value → Finals
 finals_if true vs = finals vs
 finals_if false vs = missing
 
-front_set : (f b : Bool) (v : Value) (vs : List Value) (cs : List Cell) → finals_of cs ≡ finals_if b vs → finals_of (cell_with f (Present v) ∷ cs) ≡ finals_if b (v ∷ vs)
+front_set : (f b : Bool) (v : Value) (vs : List Value) (cs : List Cell) → finals_of cs ≡ finals_if b vs → finals_of (cell_with f (Some v) ∷ cs) ≡ finals_if b (v ∷ vs)
 front_set true true v vs cs e = rw e
 front_set true false v vs cs e = rw e
 front_set false true v vs cs e = rw e
@@ -100,7 +111,7 @@ unfolding memory
 end_is v s sizes own frame count = rw (finals_tab own frame 0 v, entered_tab frame sizes 0 s, values_tab own v)
 
 module _ (directory : List ℕ) (p : ℕ) (own frame : List ℕ) (v : ℕ) (variables_here : v ≡ variables_in directory p) where
-  pub end_unset : {count : ℕ} {r : Bool} → r ≡ nonzero own 0 v → not r ≡ true → Finished directory p own frame count coded.Stuck
+  pub end_unset : {count : ℕ} {r : Bool} → r ≡ nonzero own 0 v → not r ≡ true → Finished directory p own frame count (Err coded.Stuck)
   end_unset {count} {r} e n =
       record {
         shows = λ sizes.
@@ -118,8 +129,8 @@ module _ (directory : List ℕ) (p : ℕ) (own frame : List ℕ) (v : ℕ) (vari
           end_is (variables_in directory p) (sub_scopes_in directory p) sizes own frame count
           ∙ rw (← variables_here, ← subs_here, ← e, not-false r n, ← f)
 
-      pub end_waiting : not q ≡ true → Finished directory p own frame count coded.Stuck
+      pub end_waiting : not q ≡ true → Finished directory p own frame count (Err coded.Stuck)
       end_waiting m = record { shows = λ sizes. ends_so sizes ∙ rw (not-true q m) }
 
-      pub end_values : not q ≡ false → Finished directory p own frame count (coded.Values count)
+      pub end_values : not q ≡ false → Finished directory p own frame count (Ok count)
       end_values m = record { shows = λ sizes. ends_so sizes ∙ rw (not-false q m) }

@@ -14,6 +14,7 @@ use native.Mathlib.Omega.{arith}
 use native.Mathlib.Numerals.{add-one}
 use lib.ListN.{length, get_or, set, take, drop, length-drop, length-set}
 use lib.ListN.{length-take, get_or-append, replicate, length-replicate}
+use Rattle.std.specs.Prelude.{Option, None, Some, Ok, Err}
 use Rattle.laws.proofs.Zeros.{zeros}
 use lib.Seq.{get_or-set_same, get_or-set_other, get_or-take, get_or-drop, get_or-append-add}
 use lib.Dec.{eqb, ltb}
@@ -24,8 +25,6 @@ use Rattle.record.specs.Kinds.{kinds, shapes_of, shape_in}
 use Rattle.answers.specs.declared.Cause.{Cause}
 use Rattle.calculus.specs.declared.Value.{Value}
 use Rattle.calculus.specs.declared.Joined.{Joined}
-use Rattle.calculus.specs.declared.Given.{Given}
-use Rattle.calculus.specs.declared.Given.TheVariants.{Absent, Present}
 use Rattle.cells.specs.Cells.{given_of, held}
 use Rattle.book.specs.declared.ValueType.TheVariants.{YesNo}
 use Rattle.book.specs.declared.Variable.{Variable}
@@ -36,22 +35,19 @@ use Rattle.machine.specs.Acceptance.{fits, weight_in}
 use Rattle.machine.specs.Machine.{waiting, entered, Memory, Try, Ran, ran, stuck, Next, go, returned, entered_with, with_callee, effect}
 use Rattle.machine.specs.Run.{cell_of, begins, begin, follow, exec, run_in, at_end}
 use Rattle.directory.specs.Tabled.{block_at, block_count}
-use Rattle.instructions.specs.declared.Move.{Move}
-use Rattle.instructions.specs.declared.Move.TheVariants as move
-use Rattle.blocks.specs.declared.Ran as coded-type
-use Rattle.blocks.specs.declared.Ran.TheVariants as coded
+use Rattle.instructions.specs.declared.Stop.TheVariants as halts
+use Rattle.blocks.specs.declared.Halt.{Halt}
+use Rattle.blocks.specs.declared.Halt.TheVariants as coded
 use Rattle.instructions.specs.Views.{entries, opened, tab, cell_with, own_cell, givens_at, values_in, callee_at, memory}
 use Rattle.directory.specs.Layout.{begin_in, end_in, body_in, variables_in, sub_scopes_in, block_in, size_in}
-use Rattle.instructions.specs.Effects.{Moves, Framed, Stepping, Stepped, memory_in}
-use Rattle.blocks.specs.Entries.{back, run_at, variables_at, Enough, Shows, Ending, Finished, Entry, Fresh, Came, Advances}
+use Rattle.instructions.specs.Effects.{Move, Moves, Framed, Stepping, Stepped, memory_in}
+use Rattle.blocks.specs.Entries.{Outcome, back, run_at, variables_at, Enough, Shows, Ending, Finished, Entry, Fresh, Came, Advances}
 use Rattle.instructions.proofs.Memory.{tab_at, tab_same, tab_set, tab_map}
 use Rattle.machine.proofs.Landing.{lands_here}
 use Rattle.slices.proofs.Parts.{all_left, part_room, lent_length}
 use Rattle.instructions.specs.declared.Place.{Place}
 use Rattle.instructions.specs.declared.Onward.{Onward}
-use Rattle.blocks.specs.declared.Went as went-type
-use Rattle.blocks.specs.declared.Went.TheVariants as went
-use Rattle.blocks.specs.Running.{Aligned, TriesGood, block, before, env_at, weight_at, Held, run_from, Running, Standing, Acts, EntersAt, Follows, Followed, Steps, SteppedAt}
+use Rattle.blocks.specs.Running.{Went, Aligned, TriesGood, block, before, env_at, weight_at, Held, run_from, Running, Standing, Acts, EntersAt, Follows, Followed, Steps, SteppedAt}
 use Rattle.blocks.proofs.Positions.{exec_past, exec_at, exec_to, fits_at}
 use Rattle.blocks.proofs.Invariant.{MemGood, NextGood, step_good, begin_good, run_cons}
 use Rattle.blocks.proofs.Tables.{World, small, fit, heavy, below, variables_are, subs_are, bounded, typing, named, callee_below, callee_variables, callee_runs, size_is}
@@ -125,9 +121,9 @@ apart i k y z few n l =
 
 -- The beginning
 
-given_cell_is : (g : Given) → cell_with true g ≡ cell_of g
-given_cell_is Absent = refl
-given_cell_is (Present v) = refl
+given_cell_is : (g : Option Value) → cell_with true g ≡ cell_of g
+given_cell_is None = refl
+given_cell_is (Some v) = refl
 
 map_tab : {A B : Type 0} (f : A → B) (d : A) (xs : List A) (v : ℕ) (g : ℕ → B) → ((i : ℕ) → i < length xs → g (v + i) ≡ f (get_or xs i d)) → tab g v (length xs) ≡ map f xs
 unfolding tab
@@ -137,9 +133,9 @@ map_tab f d (x ∷ xs) v g k =
     let h : g v ≡ f x = rw z at (k 0 (omega arith)) in
     rw (h, map_tab f d xs (suc v) g (λ i l. let w : suc v + i ≡ v + suc i = omega arith in rw w (k (suc i) (omega arith))))
 
-absent_tab : (called : List ℕ) (at : ℕ) (vs : List Variable) → ((i : ℕ) → get_or called i 0 ≡ 0) → givens_at called at (length vs) ≡ map (λ x. Absent) vs
+absent_tab : (called : List ℕ) (at : ℕ) (vs : List Variable) → ((i : ℕ) → get_or called i 0 ≡ 0) → givens_at called at (length vs) ≡ map (λ x. None) vs
 unfolding givens_at given_of
-absent_tab called at vs k = map_tab (λ (x : Variable). Absent) (record { holds = YesNo }) vs 0 (λ x. given_of (get_or called (at + x) 0)) (λ i l. rw (k (at + (0 + i))))
+absent_tab called at vs k = map_tab (λ (x : Variable). None) (record { holds = YesNo }) vs 0 (λ x. given_of (get_or called (at + x) 0)) (λ i l. rw (k (at + (0 + i))))
 
 module _ {code directory : List ℕ} (o : World code directory) (p : ℕ) (l : p < block_count code) where
   pub variables_same : variables_in directory p ≡ variables_at code p
@@ -175,7 +171,7 @@ module _ {code directory : List ℕ} (o : World code directory) (p : ℕ) (l : p
     unfolding memory_in memory
     begin_is = rw (own_begins, callees_begin)
 
-    run_is : (gs : List Given) → run_at code p gs ≡ exec (env_at code p) (block code p).body 0 [] [] (begin (before code p) (block code p) gs)
+    run_is : (gs : List (Option Value)) → run_at code p gs ≡ exec (env_at code p) (block code p).body 0 [] [] (begin (before code p) (block code p) gs)
     unfolding run_at block_at back
     run_is gs = run_cons (block code p) (before code p) (block code p).scope gs ∙ rw (eq-eqb (block code p).scope (block code p).scope refl)
 
@@ -289,14 +285,14 @@ module _ {code directory : List ℕ} (o : World code directory) (p : ℕ) (l : p
           (entries st h) (opened tr t) (memory_in directory p own frame count))
       moves = rw (all_left (at + 1) body, r.is_body, add-one at) at (d.same (env_at code p) count (typing o p l))
 
-      pub turn : (n : ℕ) (x : Place) → m ≡ move.Go (record { passed = n; height = x.height; tries = x.tries }) → Advances (at + 1) n (length body) x.at → x.count ≡ count
+      pub turn : (n : ℕ) (x : Place) → m ≡ Ok (record { passed = n; height = x.height; tries = x.tries }) → Advances (at + 1) n (length body) x.at → x.count ≡ count
           → length st' ≡ length st → length tr' ≡ length tr → Framed directory p own' frame'
           → Running code directory p st₀ tr₀ whole body st' tr' own' frame' x
       turn n x g adv k ls lt sz =
           let at' = x.at in
           let h' = x.height in
           let t' = x.tries in
-          let v : Moves (move.Go (record { passed = n; height = h'; tries = t' })) (body_length kind) st' tr' (memory_in directory p own' frame' count)
+          let v : Moves (Ok (record { passed = n; height = h'; tries = t' })) (body_length kind) st' tr' (memory_in directory p own' frame' count)
           (effect (env_at code p) (instruction_of kind (drop (suc at) code_body)) (length (drop (body_length kind) (drop (suc at) code_body)))
           (entries st h) (opened tr t) (memory_in directory p own frame count)) = rw g at moves in
           let z : suc at + (body_length kind + (n - body_length kind)) ≡ at + 1 + n = omega (arith, v.1) in
@@ -321,14 +317,14 @@ module _ {code directory : List ℕ} (o : World code directory) (p : ℕ) (l : p
             open_room = lt ∙ r.open_room;
           }
 
-      pub ends : (c : Cause) → m ≡ move.Ended c → whole ≡ ran (ended c count)
+      pub ends : (c : Cause) → m ≡ Err (halts.Ended c) → whole ≡ ran (ended c count)
       unfolding memory_in memory
       ends c g = let v = rw g at moves in sym r.same ∙ runs_on ∙ rw v
 
-      pub sticks : m ≡ move.Stuck → whole ≡ stuck
+      pub sticks : m ≡ Err halts.Stuck → whole ≡ stuck
       sticks g = let v = rw g at moves in sym r.same ∙ runs_on ∙ rw v
 
-      pub short : m ≡ move.NoRoom → length st' ≡ length st → length tr' ≡ length tr → Enough p st₀ tr₀ → ⊥
+      pub short : m ≡ Err halts.NoRoom → length st' ≡ length st → length tr' ≡ length tr → Enough p st₀ tr₀ → ⊥
       short g ls lt q =
           let v = rw g at moves in
           let a = r.stack in
@@ -569,11 +565,11 @@ module _ {code directory : List ℕ} {p : ℕ} {own : List ℕ} (e : Entry code 
   ordered = (e.tabled.blocks p e.block).ordered
 
   -- what an end shows, it shows of any equal end
-  pub shown : (r : coded-type.Ran) {x y : Ran} (own' : List ℕ) {v w : ℕ} (A : Type 0) → x ≡ y → v ≡ w → Shows r x own' v ⊥ → Shows r y own' w A
-  shown (coded.Values n) own' A q z k = rw (← q, ← z) k
-  shown (coded.Ended c n) own' A q z k = rw (← q) k
-  shown coded.Stuck own' A q z k = rw (← q) k
-  shown coded.NoRoom own' A q z k = absurd k
+  pub shown : (r : Outcome) {x y : Ran} (own' : List ℕ) {v w : ℕ} (A : Type 0) → x ≡ y → v ≡ w → Shows r x own' v ⊥ → Shows r y own' w A
+  shown (Ok n) own' A q z k = rw (← q, ← z) k
+  shown (Err (coded.Ended c n)) own' A q z k = rw (← q) k
+  shown (Err coded.Stuck) own' A q z k = rw (← q) k
+  shown (Err coded.NoRoom) own' A q z k = absurd k
 
   module _ {st₀ tr₀ body st tr own' frame : List ℕ} {s : Place}
       (r : Running code directory p st₀ tr₀ (run_at code p (givens_at own 0 (variables_at code p))) body st tr own' frame s) where
@@ -594,7 +590,7 @@ module _ {code directory : List ℕ} {p : ℕ} {own : List ℕ} (e : Entry code 
         let y = r.framed.frame_size in
         record { block = b.block; variables = omega arith; sub_scopes = omega arith }
 
-    pub came_end : (a : coded-type.Ran) → length body ≤ s.at → Finished directory p own' frame s.count a → Came code p own a own' st₀ tr₀
+    pub came_end : (a : Outcome) → length body ≤ s.at → Finished directory p own' frame s.count a → Came code p own a own' st₀ tr₀
     came_end a q f =
         record {
           size = r.framed.own_size;
@@ -649,12 +645,12 @@ module _ {code directory : List ℕ} {p : ℕ} {st₀ tr₀ : List ℕ} {whole :
 module _ {code directory : List ℕ} (o : World code directory) (p : ℕ) (l : p < block_count code)
     {body st tr own frame : List ℕ} {s : Place} (r : Standing code directory p body st tr own frame s) (in_Body : s.at < length body)
     (st' tr' own' frame' : List ℕ) (ls : length st' ≡ length st) (lt : length tr' ≡ length tr) (sz : Framed directory p own' frame') where
-  pub acts : (a : went-type.Went) → Steps directory p body s st tr own frame st' tr' own' frame' a
+  pub acts : (a : Went) → Steps directory p body s st tr own frame st' tr' own' frame' a
       → Acts code directory p st tr (run_from code directory p st tr own frame s) body s.at st' tr' own' frame' a
-  acts (went.On x) (n, d, adv, k) = let b = adv.on in (turn o p l r in_Body d n x refl adv k ls lt sz, omega arith)
-  acts (went.Ended c n) (d, k) = rw k (ends o p l r in_Body d c refl)
-  acts went.Stuck d = sticks o p l r in_Body d refl
-  acts went.NoRoom d = short o p l r in_Body d refl ls lt
+  acts (Ok x) (n, d, adv, k) = let b = adv.on in (turn o p l r in_Body d n x refl adv k ls lt sz, omega arith)
+  acts (Err (coded.Ended c n)) (d, k) = rw k (ends o p l r in_Body d c refl)
+  acts (Err coded.Stuck) d = sticks o p l r in_Body d refl
+  acts (Err coded.NoRoom) d = short o p l r in_Body d refl ls lt
 
 -- a part to the end of a slice, lent and written
 pub lent_rest : (xs part : List ℕ) (a : ℕ) → a ≤ length xs → length part ≡ length (take (length xs - a) (drop a xs))
@@ -673,18 +669,18 @@ pub callee_entry : {code directory : List ℕ} {p q : ℕ} {own part : List ℕ}
     → Entry code directory q part
 callee_entry e l k = let b = e.block in record { accepts = e.accepts; tabled = e.tabled; block = omega arith; room = k }
 
-module _ {code : List ℕ} {q c : ℕ} {part : List ℕ} {a : coded-type.Ran} {own st tr : List ℕ} (e : q ≡ c) (k : Came code q part a own st tr) where
-  pub came_values : {m : ℕ} → a ≡ coded.Values m
+module _ {code : List ℕ} {q c : ℕ} {part : List ℕ} {a : Outcome} {own st tr : List ℕ} (e : q ≡ c) (k : Came code q part a own st tr) where
+  pub came_values : {m : ℕ} → a ≡ Ok m
       → run_at code c (givens_at part 0 (variables_at code c)) ≡ ran (values (values_in own 0 (variables_at code c)) m)
   came_values f = rw (← e) (rw f at k.shows)
 
-  pub came_ended : {x : Cause} {m : ℕ} → a ≡ coded.Ended x m → run_at code c (givens_at part 0 (variables_at code c)) ≡ ran (ended x m)
+  pub came_ended : {x : Cause} {m : ℕ} → a ≡ Err (coded.Ended x m) → run_at code c (givens_at part 0 (variables_at code c)) ≡ ran (ended x m)
   came_ended f = rw (← e) (rw f at k.shows)
 
-  pub came_stuck : a ≡ coded.Stuck → run_at code c (givens_at part 0 (variables_at code c)) ≡ stuck
+  pub came_stuck : a ≡ Err coded.Stuck → run_at code c (givens_at part 0 (variables_at code c)) ≡ stuck
   came_stuck f = rw (← e) (rw f at k.shows)
 
-  pub came_short : a ≡ coded.NoRoom → Enough c st tr → ⊥
+  pub came_short : a ≡ Err coded.NoRoom → Enough c st tr → ⊥
   came_short f = rw (← e) (rw f at k.shows)
 
 -- what an instruction came to
@@ -695,37 +691,52 @@ moved {next} {n} {end} e k = subst (λ (y : ℕ). Advances next n end y) (sym e)
 pub further : {at n end a : ℕ} → Advances (at + 1) n end a → at < a
 further k = let o = k.on in omega arith
 
-pub record Acted (code directory : List ℕ) (p : ℕ) (st₀ tr₀ : List ℕ) (whole : Ran) (body : List ℕ) (at : ℕ) (st tr own frame : List ℕ) (a : went-type.Went) : Type 0 where
+pub record Acted (code directory : List ℕ) (p : ℕ) (st₀ tr₀ : List ℕ) (whole : Ran) (body : List ℕ) (at : ℕ) (st tr own frame : List ℕ) (a : Went) : Type 0 where
   pub shows : Acts code directory p st₀ tr₀ whole body at st tr own frame a
 
-module _ {code directory : List ℕ} {p : ℕ} {st₀ tr₀ : List ℕ} {whole : Ran} {body : List ℕ} {at : ℕ} {st tr own frame : List ℕ} {a : went-type.Went}
+module _ {code directory : List ℕ} {p : ℕ} {st₀ tr₀ : List ℕ} {whole : Ran} {body : List ℕ} {at : ℕ} {st tr own frame : List ℕ} {a : Went}
     (k : Acted code directory p st₀ tr₀ whole body at st tr own frame a) where
-  pub went_on : {x : Place} → a ≡ went.On x → Running code directory p st₀ tr₀ whole body st tr own frame x × (at < x.at)
+  pub went_on : {x : Place} → a ≡ Ok x → Running code directory p st₀ tr₀ whole body st tr own frame x × (at < x.at)
   went_on e = rw e at k.shows
 
-  pub went_ended : {c : Cause} {n : ℕ} → a ≡ went.Ended c n → whole ≡ ran (ended c n)
+  pub went_ended : {c : Cause} {n : ℕ} → a ≡ Err (coded.Ended c n) → whole ≡ ran (ended c n)
   went_ended e = rw e at k.shows
 
-  pub went_stuck : a ≡ went.Stuck → whole ≡ stuck
+  pub went_stuck : a ≡ Err coded.Stuck → whole ≡ stuck
   went_stuck e = rw e at k.shows
 
-  pub went_short : a ≡ went.NoRoom → Enough p st₀ tr₀ → ⊥
+  pub went_short : a ≡ Err coded.NoRoom → Enough p st₀ tr₀ → ⊥
   went_short e = rw e at k.shows
+
+-- an instruction other than an entry keeps the lengths of the cells and of the frame
+pub framed_on : {directory : List ℕ} {p : ℕ} {own frame own' frame' : List ℕ} → Framed directory p own frame → length own' ≡ length own → length frame' ≡ length frame
+    → Framed directory p own' frame'
+framed_on f x y = let z = f.frame_size in record { own_size = x ∙ f.own_size; frame_size = omega arith }
+
+-- what stops an instruction stops the run of its block
+pub came_stopped : {code directory : List ℕ} {p : ℕ} {st₀ tr₀ : List ℕ} (given : List ℕ) {body st tr own frame : List ℕ} {s : Place}
+    → Running code directory p st₀ tr₀ (run_at code p (givens_at given 0 (variables_at code p))) body st tr own frame s
+    → {body' st' tr' own' frame' : List ℕ} {at : ℕ} {a : Went}
+    → Acted code directory p st tr (run_from code directory p st tr own frame s) body' at st' tr' own' frame' a
+    → (h : Halt) {own₁ : List ℕ} → a ≡ Err h → length own₁ ≡ 32 → Came code p given (Err h) own₁ st₀ tr₀
+came_stopped given r k (coded.Ended c n) e z = record { size = z; shows = ends_so r (went_ended k e) }
+came_stopped given r k coded.Stuck e z = record { size = z; shows = ends_so r (went_stuck k e) }
+came_stopped given r k coded.NoRoom e z = record { size = z; shows = too_short r (went_short k e) }
 
 module _ {directory : List ℕ} {p : ℕ} {body : List ℕ} {s : Place} {st tr own frame st' tr' own' frame' : List ℕ} {m : Move}
     (d : Stepped directory p body s st tr own frame m st' tr' own' frame') where
-  pub stepped : {r : went-type.Went} → Followed (s.at + 1) (length body) s.count m r → SteppedAt directory p body s st tr own frame r st' tr' own' frame'
+  pub stepped : {r : Went} → Followed (s.at + 1) (length body) s.count m r → SteppedAt directory p body s st tr own frame r st' tr' own' frame'
   stepped {r} f = record { shows = steps r f.shows }
     where
-      steps : (r : went-type.Went) → Follows (s.at + 1) (length body) s.count m r → Steps directory p body s st tr own frame st' tr' own' frame' r
-      steps (went.On x) (n, e, adv, kc) = (n, rw (← e) d, adv, kc)
-      steps (went.Ended c n) (e, kc) = (rw (← e) d, kc)
-      steps went.Stuck e = rw (← e) d
-      steps went.NoRoom e = rw (← e) d
+      steps : (r : Went) → Follows (s.at + 1) (length body) s.count m r → Steps directory p body s st tr own frame st' tr' own' frame' r
+      steps (Ok x) (n, e, adv, kc) = (n, rw (← e) d, adv, kc)
+      steps (Err (coded.Ended c n)) (e, kc) = (rw (← e) d, kc)
+      steps (Err coded.Stuck) e = rw (← e) d
+      steps (Err coded.NoRoom) e = rw (← e) d
 
 -- the next place, by where the parts of it come from
-pub followed_on : {next end count : ℕ} {y : Onward} {m : Move} (x : Place) → m ≡ move.Go y → x.height ≡ y.height → x.tries ≡ y.tries → x.count ≡ count
-    → Advances next y.passed end x.at → Followed next end count m (went.On x)
+pub followed_on : {next end count : ℕ} {y : Onward} {m : Move} (x : Place) → m ≡ Ok y → x.height ≡ y.height → x.tries ≡ y.tries → x.count ≡ count
+    → Advances next y.passed end x.at → Followed next end count m (Ok x)
 followed_on {y = y} x e kh kt kc adv = record { shows = (y.passed, rw (kh, kt) e, adv, kc) }
 
 -- The entry of a sub-scope: what it names, and its part of the frame

@@ -12,18 +12,15 @@ use native.Mathlib.Omega.{arith}
 use lib.ListN.{length, get_or, set, drop, length-drop, length-set, length-map}
 use lib.Dec.{eqb, leb, ltb}
 use borrow.Author.Tests.{ltb-true, ltb-false, leb-true}
+use Rattle.std.specs.Prelude.{Result, Ok, Err, Option, None, Some}
 use Rattle.laws.proofs.Booleans.{both, decide}
 use Rattle.calculus.specs.Values.{truth_of}
 use Rattle.calculus.specs.Operators.{unary_of, binary_of}
 use Rattle.calculus.specs.declared.Value.{Value}
 use Rattle.answers.specs.declared.Cause.{Cause}
 use Rattle.answers.specs.declared.Cause.TheVariants.{Empty, Conflict, OutOfRange}
-use Rattle.calculus.specs.declared.Outcome.{Outcome}
-use Rattle.calculus.specs.declared.Outcome.TheVariants.{Gives, Ends}
 use Rattle.calculus.specs.declared.Joined.{Joined}
 use Rattle.calculus.specs.declared.Joined.TheVariants.{Nothing, One, Many}
-use Rattle.calculus.specs.declared.Given.{Given}
-use Rattle.calculus.specs.declared.Given.TheVariants.{Absent, Present}
 use Rattle.book.specs.Syntax.{same_type}
 use Rattle.book.specs.Scopes.{sum}
 use Rattle.book.specs.Typing.{unary_type, operand_type}
@@ -86,10 +83,10 @@ abbrev is_entered : Callee → Bool
 is_entered (waiting gs) = false
 is_entered (entered vs) = true
 
-apart : {vs : List Value} {gs : List Given} → entered vs ≡ waiting gs → ⊥
+apart : {vs : List Value} {gs : List (Option Value)} → entered vs ≡ waiting gs → ⊥
 apart q = true≢false (ap is_entered q)
 
-pending_waits : (w : ℕ → ℕ) (is : List ℕ) (cs : List Callee) (k : ℕ) {gs : List Given} (hs : List Given) → get_or cs k (waiting []) ≡ waiting gs
+pending_waits : (w : ℕ → ℕ) (is : List ℕ) (cs : List Callee) (k : ℕ) {gs : List (Option Value)} (hs : List (Option Value)) → get_or cs k (waiting []) ≡ waiting gs
     → pending w is (set cs k (waiting hs)) ≡ pending w is cs
 pending_waits w [] cs k hs e = refl
 pending_waits w (i ∷ is) [] k hs e = refl
@@ -98,7 +95,7 @@ pending_waits w (i ∷ is) (entered vs ∷ cs) zero hs e = absurd (apart e)
 pending_waits w (i ∷ is) (waiting gs ∷ cs) (suc k) hs e = rw (pending_waits w is cs k hs e)
 pending_waits w (i ∷ is) (entered vs ∷ cs) (suc k) hs e = pending_waits w is cs k hs e
 
-pending_enters : (w : ℕ → ℕ) (is : List ℕ) (cs : List Callee) (k : ℕ) {gs : List Given} (vs : List Value) → get_or cs k (waiting []) ≡ waiting gs
+pending_enters : (w : ℕ → ℕ) (is : List ℕ) (cs : List Callee) (k : ℕ) {gs : List (Option Value)} (vs : List Value) → get_or cs k (waiting []) ≡ waiting gs
     → k < length is → length cs ≡ length is → w (get_or is k 0) + pending w is (set cs k (entered vs)) ≡ pending w is cs
 pending_enters w [] cs k vs e l s = absurd (omega arith)
 pending_enters w (i ∷ is) [] k vs e l s = absurd (omega arith)
@@ -107,7 +104,7 @@ pending_enters w (i ∷ is) (entered us ∷ cs) zero vs e l s = absurd (apart e)
 pending_enters w (i ∷ is) (waiting gs ∷ cs) (suc k) vs e l s = let r = pending_enters w is cs k vs e (omega arith) (omega arith) in omega arith
 pending_enters w (i ∷ is) (entered us ∷ cs) (suc k) vs e l s = pending_enters w is cs k vs e (omega arith) (omega arith)
 
-pub pending_all : (w : ℕ → ℕ) (f : ℕ → List Given) (is : List ℕ) → pending w is (map (λ i. waiting (f i)) is) ≡ sum w is
+pub pending_all : (w : ℕ → ℕ) (f : ℕ → List (Option Value)) (is : List ℕ) → pending w is (map (λ i. waiting (f i)) is) ≡ sum w is
 unfolding sum
 pending_all w f [] = refl
 pending_all w f (i ∷ is) = rw (pending_all w f is)
@@ -153,9 +150,9 @@ module _ (earlier : List Block) (b : Block) (env : Surroundings) (A : Type 0) (w
       pushed_good : (e : Joined) (st : List Joined) → NextGood (pushed e st ts m)
       pushed_good e st = ⊎_elim (λ q. rw q (stay, t, g)) (λ q. rw q tt) (decide (ltb (length st) 1024))
 
-      answered_good : (o : Outcome) (st : List Joined) → NextGood (answered o st ts m)
-      answered_good (Gives v) st = (stay, t, g)
-      answered_good (Ends c) st = few
+      answered_good : (o : Result Value Cause) (st : List Joined) → NextGood (answered o st ts m)
+      answered_good (Ok v) st = (stay, t, g)
+      answered_good (Err c) st = few
 
       read_good : (c : Cell) (st : List Joined) → NextGood (read_from c st ts m)
       read_good unset st = tt
@@ -184,15 +181,15 @@ module _ (earlier : List Block) (b : Block) (env : Surroundings) (A : Type 0) (w
       stored_good (given u) x v st e = tt
       stored_good (stored u) x v st e = tt
 
-      handed_good : (h : Given) (gs hs : List Given) (k x : ℕ) (v : Value) (st : List Joined) → callee_at m k ≡ waiting hs → NextGood (handed_to h gs k x v st ts m)
-      handed_good Absent gs hs k x v st e =
-          let p = pending_waits w b.sub_scopes m.callees k (set gs x (Present v)) e in
+      handed_good : (h : Option Value) (gs hs : List (Option Value)) (k x : ℕ) (v : Value) (st : List Joined) → callee_at m k ≡ waiting hs → NextGood (handed_to h gs k x v st ts m)
+      handed_good None gs hs k x v st e =
+          let p = pending_waits w b.sub_scopes m.callees k (set gs x (Some v)) e in
           let c = g.counted in
-          (stay, t, record { typed = g.typed; many = length-set m.callees k (waiting (set gs x (Present v))) ∙ g.many; counted = omega arith })
-      handed_good (Present u) gs hs k x v st e = tt
+          (stay, t, record { typed = g.typed; many = length-set m.callees k (waiting (set gs x (Some v))) ∙ g.many; counted = omega arith })
+      handed_good (Some u) gs hs k x v st e = tt
 
       overridden_good : (c : Callee) (k x : ℕ) (v : Value) (st : List Joined) → callee_at m k ≡ c → NextGood (overridden c k x v st ts m)
-      overridden_good (waiting gs) k x v st e = handed_good (get_or gs x Absent) gs gs k x v st e
+      overridden_good (waiting gs) k x v st e = handed_good (get_or gs x None) gs gs k x v st e
       overridden_good (entered vs) k x v st e = tt
 
       given_good : (c : Cell) (d : ℕ) (st : List Joined) → J d → NextGood (jumped_if_given c d st ts m)
@@ -200,7 +197,7 @@ module _ (earlier : List Block) (b : Block) (env : Surroundings) (A : Type 0) (w
       given_good (given v) d st j = (j, t, g)
       given_good (stored v) d st j = (stay, t, g)
 
-      returned_good : (r : Ran) (k : ℕ) (gs : List Given) (st : List Joined) → callee_at m k ≡ waiting gs → k < length b.sub_scopes
+      returned_good : (r : Ran) (k : ℕ) (gs : List (Option Value)) (st : List Joined) → callee_at m k ≡ waiting gs → k < length b.sub_scopes
           → Within r (w (get_or b.sub_scopes k 0)) → NextGood (returned r k st ts m)
       returned_good (ran (values vs n)) k gs st e l f =
           let p = pending_enters w b.sub_scopes m.callees k vs e l g.many in
@@ -212,8 +209,8 @@ module _ (earlier : List Block) (b : Block) (env : Surroundings) (A : Type 0) (w
           omega arith
       returned_good stuck k gs st e l f = tt
 
-      entered_good : (run : List Given → Ran) (c : Callee) (k : ℕ) (st : List Joined) → callee_at m k ≡ c → k < length b.sub_scopes
-          → ((gs : List Given) → Within (run gs) (w (get_or b.sub_scopes k 0))) → NextGood (entered_with run c k st ts m)
+      entered_good : (run : List (Option Value) → Ran) (c : Callee) (k : ℕ) (st : List Joined) → callee_at m k ≡ c → k < length b.sub_scopes
+          → ((gs : List (Option Value)) → Within (run gs) (w (get_or b.sub_scopes k 0))) → NextGood (entered_with run c k st ts m)
       entered_good run (waiting gs) k st e l f = returned_good (run gs) k gs st e l (f gs)
       entered_good run (entered vs) k st e l f = tt
 
@@ -240,7 +237,7 @@ module _ (earlier : List Block) (b : Block) (env : Surroundings) (A : Type 0) (w
         (decide (leb y.lands left))
 
     module _ (types : (x : ℕ) → env.own_type x ≡ type_in b.variables x)
-        (bound : (k : ℕ) → k < length b.sub_scopes → (gs : List Given) → Within (env.enters k gs) (w (get_or b.sub_scopes k 0)))
+        (bound : (k : ℕ) → k < length b.sub_scopes → (gs : List (Option Value)) → Within (env.enters k gs) (w (get_or b.sub_scopes k 0)))
         (after : List ℕ)
         (land : (d : ℕ) → lands after 0 d ≡ true → J d)
         (tries : (d : ℕ) → lands after 0 d ≡ true → Aligned b.body (length b.body - (length after - d)))
@@ -286,7 +283,7 @@ module _ (earlier : List Block) (b : Block) (env : Surroundings) (A : Type 0) (w
   -- At a position
 
   module _ (types : (x : ℕ) → env.own_type x ≡ type_in b.variables x)
-      (bound : (k : ℕ) → k < length b.sub_scopes → (gs : List Given) → Within (env.enters k gs) (w (get_or b.sub_scopes k 0)))
+      (bound : (k : ℕ) → k < length b.sub_scopes → (gs : List (Option Value)) → Within (env.enters k gs) (w (get_or b.sub_scopes k 0)))
       (fit : all_fit earlier b b.body 0 ≡ true) where
     -- behind the instruction at a position, and d bytes on
     abbrev pub Behind : ℕ → ℕ → Type 0
@@ -356,7 +353,7 @@ module _ (earlier : List Block) (b : Block) (env : Surroundings) (A : Type 0) (w
 
 -- Runs of blocks
 
-abbrev pub GivensFit : List Variable → List Given → Type 0
+abbrev pub GivensFit : List Variable → List (Option Value) → Type 0
 GivensFit xs gs = CellsFit xs (map cell_of gs)
 
 within_good : (earlier : List Block) (b : Block) (env : Surroundings) (w : ℕ → ℕ) (W : ℕ) (A : Type 0) (r : Ran) → RanGood earlier b env A w W r → Within r W
@@ -364,7 +361,7 @@ within_good earlier b env w W A (ran (values vs n)) g = g.0
 within_good earlier b env w W A (ran (ended c n)) g = g
 within_good earlier b env w W A stuck g = tt
 
-module _ (earlier : List Block) (b : Block) (A : Type 0) (gs : List Given) (typed : A → GivensFit b.variables gs) where
+module _ (earlier : List Block) (b : Block) (A : Type 0) (gs : List (Option Value)) (typed : A → GivensFit b.variables gs) where
   abbrev pub env : Surroundings
   env = surroundings earlier b (λ j handed. run_in earlier j handed)
 
@@ -373,10 +370,10 @@ module _ (earlier : List Block) (b : Block) (A : Type 0) (gs : List Given) (type
 
   pub begin_good : MemGood earlier b env A (weight_in earlier) weight (begin earlier b gs)
   begin_good =
-      let p = pending_all (weight_in earlier) (λ i. map (λ x. Absent) (variables_of earlier i)) b.sub_scopes in
+      let p = pending_all (weight_in earlier) (λ i. map (λ x. None) (variables_of earlier i)) b.sub_scopes in
       record { typed = typed; many = length-map b.sub_scopes (begins earlier); counted = omega arith }
 
-  module _ (below : (j : ℕ) (hs : List Given) → Within (run_in earlier j hs) (weight_in earlier j)) (fit : all_fit earlier b b.body 0 ≡ true) where
+  module _ (below : (j : ℕ) (hs : List (Option Value)) → Within (run_in earlier j hs) (weight_in earlier j)) (fit : all_fit earlier b b.body 0 ≡ true) where
     pub block_good : RanGood earlier b env A (weight_in earlier) weight (exec env b.body 0 [] [] (begin earlier b gs))
     block_good =
         exec_good earlier b env A (weight_in earlier) weight (λ x. refl) (λ k l hs. below (get_or b.sub_scopes k 0) hs) fit
@@ -390,7 +387,7 @@ fit_of earlier b e =
     let d = (both (not (any (λ i. not (has_block earlier i)) b.sub_scopes)) _ c).1 in
     (both (all_fit earlier b b.body 0) _ d).0
 
-pub run_cons : (b : Block) (earlier : List Block) (i : ℕ) (gs : List Given)
+pub run_cons : (b : Block) (earlier : List Block) (i : ℕ) (gs : List (Option Value))
     → run_in (b ∷ earlier) i gs
     ≡ cond (eqb b.scope i) (exec (surroundings earlier b (λ j handed. run_in earlier j handed)) b.body 0 [] [] (begin earlier b gs)) (run_in earlier i gs)
 unfolding run_in
@@ -401,11 +398,11 @@ pub weight_cons : (b : Block) (earlier : List Block) (i : ℕ)
 unfolding weight_in
 weight_cons b earlier i = refl
 
-run_none : (i : ℕ) (gs : List Given) → Within (run_in [] i gs) (weight_in [] i)
+run_none : (i : ℕ) (gs : List (Option Value)) → Within (run_in [] i gs) (weight_in [] i)
 unfolding run_in
 run_none i gs = tt
 
-pub run_within : (blocks : List Block) → all_well_formed blocks ≡ true → (i : ℕ) (gs : List Given) → Within (run_in blocks i gs) (weight_in blocks i)
+pub run_within : (blocks : List Block) → all_well_formed blocks ≡ true → (i : ℕ) (gs : List (Option Value)) → Within (run_in blocks i gs) (weight_in blocks i)
 unfolding all_well_formed
 run_within [] e i gs = run_none i gs
 run_within (b ∷ earlier) e i gs =

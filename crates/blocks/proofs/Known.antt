@@ -1,39 +1,34 @@
 -- What is known of blocks that were entered with nothing given.
 --     recalled, noted                  a row that is read, and one that is written
---     unrecalled, came_from, came-so   cells that are as they were
+--     came_from, came_so               cells that are as they were
 --     nothing_known                    before the first block
 -- Assumes nothing.
-use Prim.Native.Nat.{ℕ, ◌+◌, ◌<◌, ◌≤◌}
+use Prim.Native.Nat.{ℕ, ◌+◌, ◌<◌}
 use mathlib.Core.Path.{◌≡◌, sym, subst, ◌∙◌}
 use mathlib.Core.Bool.{Bool, true}
 use mathlib.Core.List.{List, []}
 use native.Mathlib.Omega.{arith}
 use lib.ListN.{length, get_or, replicate, length-replicate}
-use Rattle.calculus.specs.declared.Given.TheVariants.{Absent}
+use Rattle.std.specs.Prelude.{Option, None, Some, Ok}
 use Rattle.cells.specs.Cells.{given_of, given_at}
-use Rattle.memo.specs.Rows.{Ungiven, HasRow, RowRoom, Recalled, Remembered}
+use Rattle.memo.specs.Rows.{Ungiven, HasRow, RowRoom, Found, Recalled, Remembered}
 use Rattle.memo.proofs.Rows.{nothing_kept, kept_found, kept_noted}
 use Rattle.directory.specs.Layout.{variables_in}
 use Rattle.instructions.specs.Views.{givens_at}
 use Rattle.instructions.proofs.Memory.{tab_same}
-use Rattle.blocks.specs.declared.Ran.{Ran}
-use Rattle.blocks.specs.declared.Ran.TheVariants.{Values}
-use Rattle.blocks.specs.Entries.{variables_at, Entry, Came, CameTo, Known}
+use Rattle.blocks.specs.Entries.{Outcome, variables_at, Entry, Came, CameTo, Known}
 use Rattle.blocks.proofs.Tables.{small}
 use Rattle.blocks.proofs.Entering.{world, variables_same}
 
 -- where nothing is given, it does not matter in which cells
-givens_none : (own : List ℕ) (n : ℕ) → ((u : ℕ) → u < n → given_at own u ≡ Absent) → givens_at own 0 n ≡ givens_at [] 0 n
+givens_none : (own : List ℕ) (n : ℕ) → ((u : ℕ) → u < n → given_at own u ≡ None) → givens_at own 0 n ≡ givens_at [] 0 n
 unfolding givens_at given_at given_of
 givens_none own n h =
     tab_same (λ x. given_of (get_or own (0 + x) 0)) (λ x. given_of (get_or [] (0 + x) 0)) 0 n
     (λ i l. let z : 0 + (0 + i) ≡ i = omega arith in rw z (h i l))
 
 -- cells that are as they were
-pub unrecalled : {memo own own' : List ℕ} {p : ℕ} {b : Bool} {r : ℕ} → Recalled memo p b own r own' → r ≤ 0 → own' ≡ own
-unrecalled f l = f.kept (omega arith)
-
-pub came_from : {code : List ℕ} {p : ℕ} {own own' own'' st tr : List ℕ} {a : Ran} → own' ≡ own → Came code p own' a own'' st tr → Came code p own a own'' st tr
+pub came_from : {code : List ℕ} {p : ℕ} {own own' own'' st tr : List ℕ} {a : Outcome} → own' ≡ own → Came code p own' a own'' st tr → Came code p own a own'' st tr
 came_from {code} {p} {own} {own'} {own''} {st} {tr} {a} e k = subst (λ (xs : List ℕ). Came code p xs a own'' st tr) e k
 
 pub entry_from : {code directory : List ℕ} {p : ℕ} {own own' : List ℕ} → own' ≡ own → Entry code directory p own → Entry code directory p own'
@@ -43,8 +38,8 @@ pub entry_sized : {code directory : List ℕ} {p : ℕ} {own own' : List ℕ} �
     → Entry code directory p own'
 entry_sized e s = record { accepts = e.accepts; tabled = e.tabled; block = e.block; room = s }
 
-pub came_so : {code : List ℕ} {p : ℕ} {own own' st tr : List ℕ} {a r : Ran} → Came code p own a own' st tr → a ≡ r → Came code p own r own' st tr
-came_so {code} {p} {own} {own'} {st} {tr} k e = subst (λ (x : Ran). Came code p own x own' st tr) e k
+pub came_so : {code : List ℕ} {p : ℕ} {own own' st tr : List ℕ} {a r : Outcome} → Came code p own a own' st tr → a ≡ r → Came code p own r own' st tr
+came_so {code} {p} {own} {own'} {st} {tr} k e = subst (λ (x : Outcome). Came code p own x own' st tr) e k
 
 module _ {code directory : List ℕ} {p : ℕ} {own : List ℕ} (e : Entry code directory p own) where
   few : p < 32
@@ -63,14 +58,14 @@ module _ {code directory : List ℕ} {p : ℕ} {own : List ℕ} (e : Entry code 
     givens_are : b ≡ true → givens_at own 0 (variables_at code p) ≡ givens_at [] 0 (variables_at code p)
     givens_are t = givens_none own (variables_at code p) (λ x l. u.none t x (rw variables_are l))
 
-    pub recalled : {memo : List ℕ} {r : ℕ} {own' st tr : List ℕ} → Known code memo → Recalled memo p b own r own' → 0 < r
-        → Came code p own (Values r) own' st tr
-    recalled {memo} {r} {own'} k f l =
-        let ne : r ≡ 0 → ⊥ = λ z. omega arith in
-        let row = kept_found _ k.table (has_row k) f ne in
-        record { size = row.size; shows = rw (givens_are (f.found ne).0) row.shows }
+    pub recalled : {memo : List ℕ} {r : Option ℕ} {n : ℕ} {own' st tr : List ℕ} → Known code memo → Recalled memo p b own r own' → r ≡ Some n
+        → Came code p own (Ok n) own' st tr
+    recalled {memo} {r} {n} {own'} k f e =
+        let found : Found memo p b n own' = rw e at f in
+        let row = kept_found _ k.table (has_row k) found in
+        record { size = row.size; shows = rw (givens_are found.wanted) row.shows }
 
-    pub noted : {memo memo' own' : List ℕ} {count : ℕ} → Known code memo → CameTo code p own (Values count) own' → length memo' ≡ length memo
+    pub noted : {memo memo' own' : List ℕ} {count : ℕ} → Known code memo → CameTo code p own (Ok count) own' → length memo' ≡ length memo
         → Remembered own' count p b memo memo' → Known code memo'
     noted k c s m =
         record {

@@ -15,10 +15,9 @@ use native.Mathlib.Omega.{arith}
 use lib.ListN.{length, get_or}
 use lib.Dec.{eqb}
 use borrow.Author.Tests.{eq-eqb}
+use Rattle.std.specs.Prelude.{Option, None, Some}
 use Rattle.laws.proofs.Booleans.{decide}
 use Rattle.calculus.specs.declared.Value.{Value}
-use Rattle.calculus.specs.declared.Given.{Given}
-use Rattle.calculus.specs.declared.Given.TheVariants.{Absent, Present}
 use Rattle.cells.specs.Cells.{given_of, given_at, held}
 use Rattle.book.specs.Lists.{any}
 use Rattle.book.specs.Syntax.{same_type}
@@ -53,10 +52,10 @@ tab_list f v (y ∷ xs) d h =
     let here : f v ≡ y = ap f (sym e) ∙ h 0 in
     rw (here, tab_list f (suc v) xs d (λ x. let z : suc v + x ≡ v + suc x = omega arith in ap f z ∙ h (suc x)))
 
-pub givens_are : (cells : List ℕ) (gs : List Given) → ((x : ℕ) → given_at cells x ≡ get_or gs x Absent) → givens_at cells 0 (length gs) ≡ gs
+pub givens_are : (cells : List ℕ) (gs : List (Option Value)) → ((x : ℕ) → given_at cells x ≡ get_or gs x None) → givens_at cells 0 (length gs) ≡ gs
 unfolding givens_at given_at
 givens_are cells gs h =
-    tab_list (λ x. given_of (get_or cells (0 + x) 0)) 0 gs Absent (λ x. let z : 0 + (0 + x) ≡ x = omega arith in ap (λ (i : ℕ). given_of (get_or cells i 0)) z ∙ h x)
+    tab_list (λ x. given_of (get_or cells (0 + x) 0)) 0 gs None (λ x. let z : 0 + (0 + x) ≡ x = omega arith in ap (λ (i : ℕ). given_of (get_or cells i 0)) z ∙ h x)
 
 values_from_lem : (cells : List ℕ) (v n : ℕ) → tab (λ x. held (given_of (get_or cells (0 + x) 0))) v n ≡ values_from cells v n
 unfolding tab values_from given_at
@@ -72,11 +71,11 @@ same_refl : (t : ValueType) → same_type t t ≡ true
 same_refl YesNo = refl
 same_refl Numeric = refl
 
-cell_fits : (t : ValueType) (g : Given) → MayHold t g → CellFits t (cell_of g)
-cell_fits t Absent h = tt
-cell_fits t (Present v) h = ap (same_type t) h ∙ same_refl t
+cell_fits : (t : ValueType) (g : Option Value) → MayHold t g → CellFits t (cell_of g)
+cell_fits t None h = tt
+cell_fits t (Some v) h = ap (same_type t) h ∙ same_refl t
 
-pub givens_fit : (xs : List Variable) (gs : List Given) → Fitting xs gs → GivensFit xs gs
+pub givens_fit : (xs : List Variable) (gs : List (Option Value)) → Fitting xs gs → GivensFit xs gs
 givens_fit [] [] h = tt
 givens_fit [] (g ∷ gs) h = absurd h
 givens_fit (x ∷ xs) [] h = absurd h
@@ -89,7 +88,7 @@ unfolding block_at
 few_variables code e p = (limits code e p).0
 
 module _ {code directory : List ℕ} (e : accepted code ≡ true) (t : Tabled code directory (block_count code)) where
-  pub values_length : (p : ℕ) → p < block_count code → (gs : List Given) → Fitting (block_at code p).variables gs
+  pub values_length : (p : ℕ) → p < block_count code → (gs : List (Option Value)) → Fitting (block_at code p).variables gs
       → (vs : List Value) (n : ℕ) → run_at code p gs ≡ ran (values vs n) → length (results vs) ≡ result_length (block_at code p).variables
   unfolding block_at
   values_length p l gs f vs n r =
@@ -141,7 +140,7 @@ module _ {code directory : List ℕ} (e : accepted code ≡ true) (t : Tabled co
     unfolding block_at variables_of
     scope_variables_lem = rw as_back (found_at bs i (λ xs. variables_of xs i) (λ c xs. c.variables) (λ c xs. refl) p is_scope (block_count code) is_block one)
 
-    pub scope_runs : (gs : List Given) → run_in (blocks_of code) i gs ≡ run_at code p gs
+    pub scope_runs : (gs : List (Option Value)) → run_in (blocks_of code) i gs ≡ run_at code p gs
     unfolding run_at block_at back
     scope_runs gs =
         ap (λ (xs : List Block). run_in xs i gs) as_back

@@ -8,8 +8,8 @@ use native.Mathlib.Omega.{arith}
 use lib.ListN.{length, get_or}
 use lib.Dec.{eqb, ltb}
 use borrow.Author.Tests.{eq-eqb, ltb-true, leb-true}
+use Rattle.std.specs.Prelude.{Option}
 use Rattle.laws.proofs.Booleans.{both}
-use Rattle.calculus.specs.declared.Given.{Given}
 use Rattle.book.specs.Lists.{any}
 use Rattle.book.specs.Scopes.{sum}
 use Rattle.book.specs.declared.Variable.{Variable}
@@ -25,6 +25,7 @@ use Rattle.blocks.specs.Entries.{back, run_at}
 use Rattle.blocks.proofs.Invariant.{run_cons, run_within, Within, weight_cons}
 use Rattle.blocks.proofs.Blocks.{back_all, formed_below, formed_at, found_at}
 use Rattle.blocks.proofs.Limits.{limits}
+use Rattle.calculus.specs.declared.Value.{Value}
 
 variables_step : (c : Block) (xs : List Block) (i : ℕ) → variables_of (c ∷ xs) i ≡ cond (eqb c.scope i) c.variables (variables_of xs i)
 unfolding variables_of
@@ -78,7 +79,7 @@ module _ {code directory : List ℕ} (o : World code directory) where
     pub heavy : suc (sum (weight_in earlier) b.sub_scopes) ≤ 4096
     heavy = rw (weight_cons b earlier b.scope, eq-eqb b.scope b.scope refl) at parts.3
 
-    pub below : (j : ℕ) (gs : List Given) → Within (run_in earlier j gs) (weight_in earlier j)
+    pub below : (j : ℕ) (gs : List (Option Value)) → Within (run_in earlier j gs) (weight_in earlier j)
     below = run_within earlier (formed_below bs (block_count code) p (omega arith) formed)
 
     pub variables_are : variables_in directory p ≡ length b.variables
@@ -116,7 +117,7 @@ module _ {code directory : List ℕ} (o : World code directory) where
       pub callee_variables : variables_of earlier i ≡ (get_or bs (block_in directory p k) empty_block).variables
       callee_variables = found_at bs i (λ xs. variables_of xs i) (λ c xs. c.variables) (λ c xs. variables_step c xs i) (block_in directory p k) callee_scope p callee_below one
 
-      pub callee_runs : (gs : List Given) → run_in earlier i gs ≡ run_at code (block_in directory p k) gs
+      pub callee_runs : (gs : List (Option Value)) → run_in earlier i gs ≡ run_at code (block_in directory p k) gs
       unfolding run_at block_at back
       callee_runs gs =
           let q = block_in directory p k in

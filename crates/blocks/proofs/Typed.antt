@@ -4,8 +4,8 @@ use Prim.Native.Nat.{ℕ, ◌<◌}
 use mathlib.Core.Path.{◌≡◌, refl}
 use mathlib.Core.List.{List, map}
 use borrow.Author.Tests.{eq-eqb}
+use Rattle.std.specs.Prelude.{Option}
 use Rattle.calculus.specs.declared.Value.{Value}
-use Rattle.calculus.specs.declared.Given.{Given}
 use Rattle.lists.specs.Writing.{value_type}
 use Rattle.evaluation.specs.Run.{values}
 use Rattle.machine.specs.Acceptance.{weight_in}
@@ -16,7 +16,7 @@ use Rattle.blocks.proofs.Invariant.{GivensFit, RanGood, block_good, run_cons}
 use Rattle.blocks.proofs.Tables.{World, fit, below}
 use Rattle.blocks.specs.Running.{block, before, env_at, weight_at}
 
-module _ {code directory : List ℕ} (o : World code directory) (p : ℕ) (l : p < block_count code) (gs : List Given) (f : GivensFit (block code p).variables gs) where
+module _ {code directory : List ℕ} (o : World code directory) (p : ℕ) (l : p < block_count code) (gs : List (Option Value)) (f : GivensFit (block code p).variables gs) where
   run_good : RanGood (before code p) (block code p) (env_at code p) (GivensFit (block code p).variables gs) (weight_in (before code p)) (weight_at code p) (run_at code p gs)
   unfolding run_at block_at back
   run_good =

@@ -1,5 +1,5 @@
 -- The run of a block at a place of it, and what an instruction there does.
-use Rattle.std.specs.Prelude.{ℕ, suc, ◌+◌, ◌-◌, ◌<◌, ◌≤◌, ◌≡◌, true, List, [], ◌∷◌, length, get_or}
+use Rattle.std.specs.Prelude.{ℕ, suc, ◌+◌, ◌-◌, ◌<◌, ◌≤◌, ◌≡◌, true, List, [], ◌∷◌, length, get_or, Result, Ok, Err}
 use Rattle.book.specs.Scopes.{sum}
 use Rattle.evaluation.specs.Run.{ended}
 use Rattle.machine.specs.Blocks.{Block, empty_block, parse}
@@ -7,13 +7,12 @@ use Rattle.machine.specs.Acceptance.{lands, weight_in}
 use Rattle.machine.specs.Machine.{Callee, waiting, entered, Memory, Try, Surroundings}
 use Rattle.machine.specs.Machine as machine
 use Rattle.machine.specs.Run.{surroundings, exec, run_in}
-use Rattle.instructions.specs.declared.Move.{Move}
-use Rattle.instructions.specs.declared.Move.TheVariants as move
+use Rattle.instructions.specs.declared.Stop.TheVariants as stop
 use Rattle.instructions.specs.Views.{entries, opened}
-use Rattle.instructions.specs.Effects.{Room, Framed, Stepped, memory_in}
+use Rattle.instructions.specs.Effects.{Move, Room, Framed, Stepped, memory_in}
 use Rattle.instructions.specs.declared.Place.{Place}
-use Rattle.blocks.specs.declared.Went.{Went}
-use Rattle.blocks.specs.declared.Went.TheVariants.{On, Ended, Stuck, NoRoom}
+use Rattle.blocks.specs.declared.Halt.{Halt}
+use Rattle.blocks.specs.declared.Halt.TheVariants.{Ended, Stuck, NoRoom}
 use Rattle.blocks.specs.Entries.{back, Enough, Entry, Known, Advances}
 
 -- an instruction stands there, or the block's end is passed
@@ -71,13 +70,17 @@ abbrev pub Standing : List ℕ → List ℕ → ℕ → List ℕ → List ℕ �
 Standing code directory p body st tr own frame s =
     Running code directory p st tr (run_from code directory p st tr own frame s) body st tr own frame s
 
+-- the next place, or what stopped the run
+abbrev pub Went : Type 0
+Went = Result Place Halt
+
 -- after an instruction at byte `at`: the run stands further on, or has come to its end
 module _ (code directory : List ℕ) (p : ℕ) (st₀ tr₀ : List ℕ) (whole : machine.Ran) (body : List ℕ) (at : ℕ) (st tr own frame : List ℕ) where
   abbrev pub Acts : Went → Type 0
-  Acts (On s) = Running code directory p st₀ tr₀ whole body st tr own frame s × (at < s.at)
-  Acts (Ended c n) = whole ≡ machine.ran (ended c n)
-  Acts Stuck = whole ≡ machine.stuck
-  Acts NoRoom = Enough p st₀ tr₀ → ⊥
+  Acts (Ok s) = Running code directory p st₀ tr₀ whole body st tr own frame s × (at < s.at)
+  Acts (Err (Ended c n)) = whole ≡ machine.ran (ended c n)
+  Acts (Err Stuck) = whole ≡ machine.stuck
+  Acts (Err NoRoom) = Enough p st₀ tr₀ → ⊥
 
 -- the instruction at a place can be done, and is the entry of a sub-scope
 pub record EntersAt (code directory : List ℕ) (p : ℕ) (body : List ℕ) (s : Place) (st tr frame memo : List ℕ) : Type 0 where
@@ -95,10 +98,10 @@ pub record EnteredAt (code directory : List ℕ) (p : ℕ) (body : List ℕ) (s 
 -- what follows an instruction by its move, so many bytes having been read of a block of `end` bytes
 module _ (next end count : ℕ) (m : Move) where
   abbrev pub Follows : Went → Type 0
-  Follows (On x) = (n : ℕ) × (m ≡ move.Go (record { passed = n; height = x.height; tries = x.tries })) × Advances next n end x.at × (x.count ≡ count)
-  Follows (Ended c n) = (m ≡ move.Ended c) × (n ≡ count)
-  Follows Stuck = m ≡ move.Stuck
-  Follows NoRoom = m ≡ move.NoRoom
+  Follows (Ok x) = (n : ℕ) × (m ≡ Ok (record { passed = n; height = x.height; tries = x.tries })) × Advances next n end x.at × (x.count ≡ count)
+  Follows (Err (Ended c n)) = (m ≡ Err (stop.Ended c)) × (n ≡ count)
+  Follows (Err Stuck) = m ≡ Err stop.Stuck
+  Follows (Err NoRoom) = m ≡ Err stop.NoRoom
 
 pub record Followed (next end count : ℕ) (m : Move) (r : Went) : Type 0 where
   pub shows : Follows next end count m r
@@ -108,11 +111,11 @@ module _ (directory : List ℕ) (p : ℕ) (body : List ℕ) (s : Place) (st tr o
   Does m = Stepped directory p body s st tr own frame m st' tr' own' frame'
 
   abbrev pub Steps : Went → Type 0
-  Steps (On x) =
-      (n : ℕ) × Does (move.Go (record { passed = n; height = x.height; tries = x.tries })) × Advances (s.at + 1) n (length body) x.at × (x.count ≡ s.count)
-  Steps (Ended c n) = Does (move.Ended c) × (n ≡ s.count)
-  Steps Stuck = Does move.Stuck
-  Steps NoRoom = Does move.NoRoom
+  Steps (Ok x) =
+      (n : ℕ) × Does (Ok (record { passed = n; height = x.height; tries = x.tries })) × Advances (s.at + 1) n (length body) x.at × (x.count ≡ s.count)
+  Steps (Err (Ended c n)) = Does (Err (stop.Ended c)) × (n ≡ s.count)
+  Steps (Err Stuck) = Does (Err stop.Stuck)
+  Steps (Err NoRoom) = Does (Err stop.NoRoom)
 
 pub record SteppedAt (directory : List ℕ) (p : ℕ) (body : List ℕ) (s : Place) (st tr own frame : List ℕ) (r : Went) (st' tr' own' frame' : List ℕ) : Type 0 where
   pub shows : Steps directory p body s st tr own frame st' tr' own' frame' r

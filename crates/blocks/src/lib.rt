@@ -7,42 +7,19 @@ ghost use Rattle.blocks.specs.Entries.{nonzero, Ending, Finished, Entry, Fresh, 
 ghost use Rattle.blocks.specs.Running.{Followed, SteppedAt, EntersAt, EnteredAt};
 
 use answers::Cause;
+use cells::VARIABLES;
 use directory::{block_of, body_of, sub_scopes_in, variables_in};
-use instructions::{CALLED, MARKS, Move, Place, step};
+use instructions::{CALLED, MARKS, Onward, Place, Stop, step};
 use memo::{copy_cells, none_given, recall, remember};
 use record::{KIND_ENTER, LENGTH_SUB_SCOPE};
 use slices::byte_at;
 
-// The cells of a scope's variables.
-const VARIABLES: usize = 32;
-
-// How the run of a block ended, with the count of scopes entered; or the lent slices were too short.
-#[derive(Clone, Copy)]
-pub enum Ran {
-    Values(usize),
+// What stops a run other than the end of a block: an end with the count of scopes entered, or the lent slices were too short.
+#[derive(Clone, Copy, PartialEq, Eq)]
+pub enum Halt {
     Ended(Cause, usize),
     Stuck,
     NoRoom,
-}
-
-// After an instruction: the next place; or how the run ended.
-#[derive(Clone, Copy)]
-pub enum Went {
-    On(Place),
-    Ended(Cause, usize),
-    Stuck,
-    NoRoom,
-}
-
-fn stand(at: usize, height: usize, tries: usize, count: usize) -> Place
-    ensures { (result.at ≡ at) × (result.height ≡ height) × (result.tries ≡ tries) × (result.count ≡ count) }
-{
-    Place {
-        at,
-        height,
-        tries,
-        count,
-    }
 }
 
 // Whether n cells from a place on are not 0.
@@ -50,28 +27,27 @@ fn all_set(cells: &[u64], from: usize, n: usize) -> bool
     requires { from + n ≤ length cells.now }
     ensures { result ≡ nonzero cells.now from n }
 {
-    let mut v: usize = 0;
-    while v < n {
-        if cells[from + v] == 0 {
-            return false;
-        }
-        v += 1;
-    }
-    true
+    cells[from..from + n].iter().all(|c| *c != 0)
 }
 
 // The end of block p: every variable is set, every sub-scope entered.
-fn finish(directory: &[usize], p: usize, own: &[u64], frame: &[u64], count: usize) -> Ran
+fn finish(
+    directory: &[usize],
+    p: usize,
+    own: &[u64],
+    frame: &[u64],
+    count: usize,
+) -> Result<usize, Halt>
     requires { Ending directory.now p own.now frame.now }
     ensures { Finished directory.now p own.now frame.now count result }
 {
     if !all_set(own, 0, variables_in(directory, p)) {
-        return Ran::Stuck;
+        return Err(Halt::Stuck);
     }
     if !all_set(frame, MARKS, sub_scopes_in(directory, p)) {
-        return Ran::Stuck;
+        return Err(Halt::Stuck);
     }
-    Ran::Values(count)
+    Ok(count)
 }
 
 // n bytes on, or the end.
@@ -85,16 +61,21 @@ fn advance(next: usize, n: usize, end: usize) -> usize
     next + n
 }
 
-// What follows an instruction by its move: its kind ends before byte `next` of a block of `end` bytes.
-fn follow(moved: Move, next: usize, end: usize, count: usize) -> Went
+// What follows an instruction by how it goes on: its kind ends before byte `next` of a block of `end` bytes.
+fn follow(moved: Result<Onward, Stop>, next: usize, end: usize, count: usize) -> Result<Place, Halt>
     requires { next ≤ end }
     ensures { Followed next end count moved result }
 {
     match moved {
-        Move::Go(x) => Went::On(stand(advance(next, x.passed, end), x.height, x.tries, count)),
-        Move::Ended(c) => Went::Ended(c, count),
-        Move::Stuck => Went::Stuck,
-        Move::NoRoom => Went::NoRoom,
+        Ok(x) => Ok(Place {
+            at: advance(next, x.passed, end),
+            height: x.height,
+            tries: x.tries,
+            count,
+        }),
+        Err(Stop::Ended(c)) => Err(Halt::Ended(c, count)),
+        Err(Stop::Stuck) => Err(Halt::Stuck),
+        Err(Stop::NoRoom) => Err(Halt::NoRoom),
     }
 }
 
@@ -108,21 +89,17 @@ fn enter(
     tr: &mut [usize],
     own: &mut [u64],
     memo: &mut [u64],
-) -> Ran
+) -> Result<usize, Halt>
     requires { Entry code.now directory.now p own.old × Known code.now memo.old }
     ensures { Came code.now p own.old result own.new st.old tr.old × Known code.now memo.new }
 {
     let bare = none_given(own, variables_in(directory, p));
-    let known = recall(memo, p, bare, own);
-    if 0 < known {
-        return Ran::Values(known);
+    if let Some(known) = recall(memo, p, bare, own) {
+        return Ok(known);
     }
-    let ran = run_block(code, directory, p, st, tr, own, memo);
-    if let Ran::Values(n) = ran {
-        remember(own, n, p, bare, memo);
-        return ran;
-    }
-    ran
+    let n = run_block(code, directory, p, st, tr, own, memo)?;
+    remember(own, n, p, bare, memo);
+    Ok(n)
 }
 
 // Does the instruction at a place of block p, one other than the entry of a sub-scope.
@@ -135,7 +112,7 @@ fn one_step(
     tr: &mut [usize],
     own: &mut [u64],
     frame: &mut [u64],
-) -> Went
+) -> Result<Place, Halt>
     requires { Stepping directory.now p body.now s st.old tr.old own.old frame.old }
     ensures { SteppedAt directory.now p body.now s st.old tr.old own.old frame.old
         result st.new tr.new own.new frame.new }
@@ -156,7 +133,7 @@ fn enter_sub(
     tr: &mut [usize],
     frame: &mut [u64],
     memo: &mut [u64],
-) -> Went
+) -> Result<Place, Halt>
     requires { EntersAt code.now directory.now p body.now s st.old tr.old frame.old memo.old }
     ensures entered_at { EnteredAt code.now directory.now p body.now s st.old tr.old
         frame.old result st.new tr.new frame.new }
@@ -168,7 +145,7 @@ fn enter_sub(
     let count = s.count;
     let k = byte_at(body, next) as usize;
     if frame[MARKS + k] != 0 {
-        return Went::Stuck;
+        return Err(Halt::Stuck);
     }
     let q = block_of(directory, p, k);
     let part = CALLED + k * VARIABLES;
@@ -176,13 +153,17 @@ fn enter_sub(
     let open = &mut tr[t * 2..];
     let own = &mut frame[part..part + VARIABLES];
     match enter(code, directory, q, left, open, own, memo) {
-        Ran::Values(n) => {
+        Ok(n) => {
             frame[MARKS + k] = 1;
-            Went::On(stand(advance(next, LENGTH_SUB_SCOPE, body.len()), h, t, count + n))
+            Ok(Place {
+                at: advance(next, LENGTH_SUB_SCOPE, body.len()),
+                count: count + n,
+                ..s
+            })
         }
-        Ran::Ended(c, n) => Went::Ended(c, count + n),
-        Ran::Stuck => Went::Stuck,
-        Ran::NoRoom => Went::NoRoom,
+        Err(Halt::Ended(c, n)) => Err(Halt::Ended(c, count + n)),
+        Err(Halt::Stuck) => Err(Halt::Stuck),
+        Err(Halt::NoRoom) => Err(Halt::NoRoom),
     }
 }
 
@@ -197,28 +178,23 @@ fn run_frame(
     own: &mut [u64],
     frame: &mut [u64],
     memo: &mut [u64],
-) -> Ran
+) -> Result<usize, Halt>
     requires { Entry code.now directory.now p own.old × Known code.now memo.old × Fresh directory.now p frame.old }
     ensures { Came code.now p own.old result own.new st.old tr.old × Known code.now memo.new }
 {
     let body = body_of(code, directory, p);
-    let mut s = stand(0, 0, 0, 1);
+    let mut s = Place {
+        at: 0,
+        height: 0,
+        tries: 0,
+        count: 1,
+    };
     while s.at < body.len() {
         let at = s.at;
         if body[at] == KIND_ENTER {
-            match enter_sub(code, directory, p, body, s, st, tr, frame, memo) {
-                Went::On(x) => s = x,
-                Went::Ended(c, n) => return Ran::Ended(c, n),
-                Went::Stuck => return Ran::Stuck,
-                Went::NoRoom => return Ran::NoRoom,
-            }
+            s = enter_sub(code, directory, p, body, s, st, tr, frame, memo)?;
         } else {
-            match one_step(body, s, directory, p, st, tr, own, frame) {
-                Went::On(x) => s = x,
-                Went::Ended(c, n) => return Ran::Ended(c, n),
-                Went::Stuck => return Ran::Stuck,
-                Went::NoRoom => return Ran::NoRoom,
-            }
+            s = one_step(body, s, directory, p, st, tr, own, frame)?;
         }
     }
     finish(directory, p, own, frame, s.count)
@@ -234,7 +210,7 @@ fn run_block(
     tr: &mut [usize],
     own: &mut [u64],
     memo: &mut [u64],
-) -> Ran
+) -> Result<usize, Halt>
     requires { Entry code.now directory.now p own.old × Known code.now memo.old }
     ensures { Came code.now p own.old result own.new st.old tr.old × Known code.now memo.new }
 {
@@ -260,7 +236,7 @@ fn run_given(
     st: &mut [u64],
     tr: &mut [usize],
     own: &mut [u64],
-) -> Ran
+) -> Result<usize, Halt>
     requires { Entry code.now directory.now p own.old × (length given.now ≡ 32) }
     ensures { Came code.now p given.now result own.new st.old tr.old }
 {
@@ -279,7 +255,7 @@ fn run_large(
     given: &[u64],
     own: &mut [u64],
     again: usize,
-) -> Ran
+) -> Result<usize, Halt>
     requires { Entry code.now directory.now p own.old × (length given.now ≡ 32) }
     ensures { CameTo code.now p given.now result own.new }
 {
@@ -300,20 +276,25 @@ fn run_within(
     st: &mut [u64],
     tr: &mut [usize],
     own: &mut [u64],
-) -> Ran
+) -> Result<usize, Halt>
     requires { Entry code.now directory.now p own.old × (length given.now ≡ 32) }
     ensures { CameTo code.now p given.now result own.new }
 {
-    match run_given(code, directory, p, given, st, tr, own) {
-        Ran::Values(n) => Ran::Values(n),
-        Ran::Ended(c, n) => Ran::Ended(c, n),
-        Ran::Stuck => Ran::Stuck,
-        Ran::NoRoom => run_large(code, directory, p, given, own, p / 32),
+    let ran = run_given(code, directory, p, given, st, tr, own);
+    if ran == Err(Halt::NoRoom) {
+        return run_large(code, directory, p, given, own, p / 32);
     }
+    ran
 }
 
 // Runs block p, with a small stack and few tries at first: smaller still for code so short that it hardly fills them.
-pub fn run_cells(code: &[u8], directory: &[usize], p: usize, given: &[u64], own: &mut [u64]) -> Ran
+pub fn run_cells(
+    code: &[u8],
+    directory: &[usize],
+    p: usize,
+    given: &[u64],
+    own: &mut [u64],
+) -> Result<usize, Halt>
     requires { Entry code.now directory.now p own.old × (length given.now ≡ 32) }
     ensures { CameTo code.now p given.now result own.new }
 {

@@ -10,10 +10,10 @@ use native.Mathlib.Omega.{arith}
 use lib.ListN.{length}
 use lib.Dec.{eqb}
 use borrow.Author.Tests.{eqb-false}
+use Rattle.std.specs.Prelude.{None}
 use Rattle.record.specs.Kinds.{shape_in}
 use Rattle.record.specs.declared.Medium.TheVariants.{Book}
 use Rattle.book.specs.declared.Tally.{Tally}
-use Rattle.book.specs.declared.Scanned.TheVariants.{Sound}
 use Rattle.book.specs.Syntax.{empty_scope}
 use Rattle.book.specs.Records.{Met, stage_of, counted, start, records_from, records, unknown_kind}
 use Rattle.book.specs.Decode.{Parsed, in_front, parse, scopes_of}
@@ -70,18 +70,18 @@ fits_record : (m : Met) (p : Parsed) → InLimits m.before → Clean m → Stage
 fits_record m p l c (begins e) f = fits_new m.before m p l e (rw e at f)
 fits_record m p l c (has s e) f = fits_turn m.before m p s e (rw e at f)
 
-fits_met : (m : Met) (more : List Met) → InLimits m.before → scan (m ∷ cond (unknown_kind m) [] more) ≡ Sound
-    → (InLimits (counted (stage_of m) m.before) → scan more ≡ Sound → Fits (counted (stage_of m) m.before) (parse more))
+fits_met : (m : Met) (more : List Met) → InLimits m.before → scan (m ∷ cond (unknown_kind m) [] more) ≡ None
+    → (InLimits (counted (stage_of m) m.before) → scan more ≡ None → Fits (counted (stage_of m) m.before) (parse more))
     → Fits m.before (parse (m ∷ cond (unknown_kind m) [] more))
 unfolding parse
 fits_met m more l e f =
     let h = sounds m (cond (unknown_kind m) [] more) e in
     let u = in_limits (counted (stage_of m) m.before) h.clean.few in
-    let q : scan more ≡ Sound = rw h.clean.known at h.more in
+    let q : scan more ≡ None = rw h.clean.known at h.more in
     let d = staged (stage_of m) (eqb-false (stage_of m) 0 h.clean.known) (stage_below m.kind) in
     rw h.clean.known (fits_record m (parse more) l h.clean d (f u q))
 
-fits_records : (l : List ℕ) (n : ℕ) (t : Tally) → InLimits t → scan (records_from l n t) ≡ Sound → Fits t (parse (records_from l n t))
+fits_records : (l : List ℕ) (n : ℕ) (t : Tally) → InLimits t → scan (records_from l n t) ≡ None → Fits t (parse (records_from l n t))
 unfolding records_from parse
 fits_records [] n t l e = fits_end t l
 fits_records (k ∷ rest) zero t l e =
@@ -89,7 +89,7 @@ fits_records (k ∷ rest) zero t l e =
     (λ u q. fits_records rest (shape_in Book k).length (counted (shape_in Book k).stage t) u q)
 fits_records (b ∷ rest) (suc n) t l e = fits_records rest n t l e
 
-module _ (bytes : List ℕ) (sound : scan (records bytes) ≡ Sound) where
+module _ (bytes : List ℕ) (sound : scan (records bytes) ≡ None) where
   fits_book : Fits start (parse (records_from bytes 0 start))
   unfolding records
   fits_book = fits_records bytes 0 start (start_in_limits start refl) sound

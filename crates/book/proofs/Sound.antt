@@ -10,12 +10,11 @@ use mathlib.Core.List.{List, ◌∷◌}
 use native.Mathlib.Omega.{arith}
 use lib.Dec.{ltb}
 use borrow.Author.Tests.{le-ltb, ltb-false}
+use Rattle.std.specs.Prelude.{Option, None, Some}
 use Rattle.laws.proofs.Booleans.{neither}
 use Rattle.book.specs.declared.Tally.{Tally}
 use Rattle.answers.specs.declared.Fault.{Fault}
 use Rattle.answers.specs.declared.Fault.TheVariants.{Truncated, UnknownKind, OutOfOrder, LimitExceeded, InvalidByte}
-use Rattle.book.specs.declared.Scanned.{Scanned}
-use Rattle.book.specs.declared.Scanned.TheVariants.{Sound, Faulty}
 use Rattle.book.specs.Records.{Met, start, exceeds, unknown_kind, truncated, out_of_order, limit_exceeded, invalid_byte}
 use Rattle.book.specs.Judge.{scan}
 use Rattle.book.specs.Limits.{InLimits}
@@ -31,19 +30,19 @@ pub record Clean (m : Met) : Type 0 where
 -- a sound pass: its first record has no fault, and the pass over the others is sound
 pub record Sounds (m : Met) (ms : List Met) : Type 0 where
   pub clean : Clean m
-  pub more : scan ms ≡ Sound
+  pub more : scan ms ≡ None
 
-no_fault : (b : Bool) (f : Fault) (r : Scanned) → cond b (Faulty f) r ≡ Sound → (b ≡ false) × (r ≡ Sound)
+no_fault : (b : Bool) (f : Fault) (r : Option Fault) → cond b (Some f) r ≡ None → (b ≡ false) × (r ≡ None)
 no_fault true f r e = let z : ◌≡◌ {A = ℕ} 0 1 = cc in absurd (omega arith)
 no_fault false f r e = (refl, e)
 
-pub sounds : (m : Met) (ms : List Met) → scan (m ∷ ms) ≡ Sound → Sounds m ms
+pub sounds : (m : Met) (ms : List Met) → scan (m ∷ ms) ≡ None → Sounds m ms
 unfolding scan
 sounds m ms e =
-    let five = cond (invalid_byte m) (Faulty InvalidByte) (scan ms) in
-    let four = cond (limit_exceeded m) (Faulty LimitExceeded) five in
-    let three = cond (out_of_order m) (Faulty OutOfOrder) four in
-    let one = cond (truncated m) (Faulty Truncated) three in
+    let five = cond (invalid_byte m) (Some InvalidByte) (scan ms) in
+    let four = cond (limit_exceeded m) (Some LimitExceeded) five in
+    let three = cond (out_of_order m) (Some OutOfOrder) four in
+    let one = cond (truncated m) (Some Truncated) three in
     let a = no_fault (unknown_kind m) UnknownKind one e in
     let b = no_fault (truncated m) Truncated three a.1 in
     let d = no_fault (out_of_order m) OutOfOrder four b.1 in

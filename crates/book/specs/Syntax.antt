@@ -28,6 +28,11 @@ empty_scope = record { variables = []; sub_scopes = []; nodes = []; clauses = []
 abbrev pub type_of : ℕ → ValueType
 type_of b = cond (eqb b 1) YesNo Numeric
 
+-- "type: 1 yes/no, 2 number"
+abbrev pub type_byte : ValueType → ℕ
+type_byte YesNo = 1
+type_byte Numeric = 2
+
 abbrev pub variable_of : List ℕ → Variable
 variable_of body = record { holds = type_of (get_or body 0 0) }
 

@@ -1,14 +1,27 @@
 // The syntax of a book, decoded from its records. Its definitions stand in specs/, laws about them in proofs/.
 #![tactic(auto)]
 
-use answers::Fault;
+ghost use Rattle.std.specs.Prelude.{◌≡◌};
+ghost use Rattle.book.specs.Syntax.{type_byte};
+
 use calculus::{Binary, Unary};
 
 // "type: 1 yes/no, 2 number"
-#[derive(Clone, Copy)]
+#[derive(Clone, Copy, PartialEq, Eq)]
 pub enum ValueType {
     YesNo,
     Numeric,
+}
+
+impl From<ValueType> for u8 {
+    ghost from_gives = { λ t b. b ≡ type_byte t };
+
+    fn from(t: ValueType) -> u8 {
+        match t {
+            ValueType::YesNo => 1,
+            ValueType::Numeric => 2,
+        }
+    }
 }
 
 // A variable of a scope.
@@ -40,7 +53,7 @@ pub enum Consequence {
 }
 
 // What a clause is about: a variable of the scope itself (sub-scope 255) or of a sub-scope.
-#[derive(Clone, Copy)]
+#[derive(Clone, Copy, PartialEq, Eq)]
 pub struct Target {
     pub sub: u8,
     pub variable: u8,
@@ -64,11 +77,4 @@ pub struct Tally {
     pub subs: usize,
     pub nodes: usize,
     pub clauses: usize,
-}
-
-// What the records of a book show one by one: none is faulty, or the first faulty one's first fault.
-#[derive(Clone, Copy)]
-pub enum Scanned {
-    Sound,
-    Faulty(Fault),
 }

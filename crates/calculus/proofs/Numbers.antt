@@ -14,14 +14,14 @@ use mir.Val.{Val, SFits, of_z, to_z}
 use mir.Facts.{to_z-of_z}
 use denote.Enum.Declared.{row}
 use denote.Laws.{Is}
+use Rattle.std.specs.Prelude.{Result, Ok, Err}
 use Rattle.calculus.specs.Values.{number_of, lowest, highest, ranged, equal_numbers}
 use Rattle.calculus.specs.declared.Value.{Value}
 use Rattle.calculus.specs.declared.Value.TheVariants.{Truth, Number}
 use Rattle.answers.specs.declared.Side.TheVariants.{Above, Below}
 use Rattle.answers.specs.declared.Cause.TheVariants.{OutOfRange}
-use Rattle.calculus.specs.declared.Outcome.{Outcome}
-use Rattle.calculus.specs.declared.Outcome.TheVariants.{Gives, Ends}
 use Rattle.calculus.specs.contracts.Value.{the_type}
+use Rattle.answers.specs.declared.Cause.{Cause}
 
 pub zero_fits : SFits w32 (pos 0)
 zero_fits = record { sfits = lit< tt }
@@ -71,8 +71,8 @@ difference_fits {x} {y} p q =
     }
 
 -- `ranged`, by what its two tests said
-abbrev pub ranged_by : Bool → Bool → ℤ → Outcome
-ranged_by low high z = cond low (Ends (OutOfRange Below)) (cond high (Ends (OutOfRange Above)) (Gives (Number z)))
+abbrev pub ranged_by : Bool → Bool → ℤ → Result Value Cause
+ranged_by low high z = cond low (Err (OutOfRange Below)) (cond high (Err (OutOfRange Above)) (Ok (Number z)))
 
 -- what passes the two tests of the range fits 32 bits
 pub within_range : (z : ℤ) → lt_z z lowest ≡ false → lt_z highest z ≡ false → SFits w32 z

@@ -9,9 +9,8 @@
 use mathlib.Core.Path.{◌≡◌, refl, sym, ap, ◌∙◌}
 use mathlib.Core.Bool.{Bool, true, false, false≢true}
 use mathlib.Core.Logic.{◌↔◌}
-use mathlib.Core.Option.{Option, some}
-use mathlib.Core.Option as option
 use mathlib.Core.List.{List, [], ◌∷◌}
+use Rattle.std.specs.Prelude.{Result, Ok, Option, None, Some}
 use Rattle.calculus.specs.Joining.{join}
 use Rattle.calculus.specs.Defaults.{settle}
 use Rattle.calculus.specs.Terms.{Term, error, choice, default, none}
@@ -20,18 +19,17 @@ use Rattle.calculus.specs.Reduction.{behind}
 use Rattle.calculus.specs.ProcessExceptions.{Processed, returns, raises, figure10, following, fold_from, process_exceptions, afterwards, optional, as_joined}
 use Rattle.calculus.specs.declared.Value.{Value}
 use Rattle.answers.specs.declared.Cause.TheVariants.{Empty}
-use Rattle.calculus.specs.declared.Outcome.{Outcome}
 use Rattle.calculus.specs.declared.Joined.{Joined}
 use Rattle.calculus.specs.declared.Joined.TheVariants.{Nothing, One, Many}
-use Rattle.calculus.specs.declared.Gathered.TheVariants.{SoFar}
 use Rattle.calculus.proofs.Joining.{join_nothing_left, join_nothing_right, join_many_left, join_assoc}
 use Rattle.calculus.proofs.ReductionExceptions.{joined, exceptions_behind}
+use Rattle.answers.specs.declared.Cause.{Cause}
 
 pub join_figure10 : (a b : Option Value) → join (optional a) (optional b) ≡ as_joined (figure10 a b)
-join_figure10 option.none option.none = refl
-join_figure10 option.none (some v) = refl
-join_figure10 (some u) option.none = refl
-join_figure10 (some u) (some v) = refl
+join_figure10 None None = refl
+join_figure10 None (Some v) = refl
+join_figure10 (Some u) None = refl
+join_figure10 (Some u) (Some v) = refl
 
 -- the same after a raise: many stays, as what is raised does
 pub join_following : (p : Processed) (b : Option Value) → join (as_joined p) (optional b) ≡ as_joined (following p (λ a. figure10 a b))
@@ -40,13 +38,13 @@ join_following raises b = join_many_left (optional b)
 
 -- what figure 10 comes to is told from what is joined
 abbrev processed : Joined → Processed
-processed Nothing = returns option.none
-processed (One v) = returns (some v)
+processed Nothing = returns None
+processed (One v) = returns (Some v)
 processed Many = raises
 
 processed_back : (p : Processed) → processed (as_joined p) ≡ p
-processed_back (returns option.none) = refl
-processed_back (returns (some v)) = refl
+processed_back (returns None) = refl
+processed_back (returns (Some v)) = refl
 processed_back raises = refl
 
 told : (p : Processed) (a b : Option Value) → (figure10 a b ≡ p) ↔ (join (optional a) (optional b) ≡ as_joined p)
@@ -66,17 +64,17 @@ is_raise (returns a) = false
 is_raise raises = true
 
 abbrev is_some : Option Value → Bool
-is_some option.none = false
-is_some (some v) = true
+is_some None = false
+is_some (Some v) = true
 
-pub raises_two_values : (a b : Option Value) → (figure10 a b ≡ raises) ↔ ((u : Value) × (v : Value) × (a ≡ some u) × (b ≡ some v))
-raises_two_values option.none b = (λ e. absurd (false≢true (ap is_raise e)), λ h. absurd (false≢true (ap is_some h.2)))
-raises_two_values (some u) option.none = (λ e. absurd (false≢true (ap is_raise e)), λ h. absurd (false≢true (ap is_some h.3)))
-raises_two_values (some u) (some v) = (λ e. (u, v, refl, refl), λ h. refl)
+pub raises_two_values : (a b : Option Value) → (figure10 a b ≡ raises) ↔ ((u : Value) × (v : Value) × (a ≡ Some u) × (b ≡ Some v))
+raises_two_values None b = (λ e. absurd (false≢true (ap is_raise e)), λ h. absurd (false≢true (ap is_some h.2)))
+raises_two_values (Some u) None = (λ e. absurd (false≢true (ap is_raise e)), λ h. absurd (false≢true (ap is_some h.3)))
+raises_two_values (Some u) (Some v) = (λ e. (u, v, refl, refl), λ h. refl)
 
 pub without_many : (j : Joined) → (j ≡ Many → ⊥) → (a : Option Value) × (j ≡ optional a)
-without_many Nothing n = (option.none, refl)
-without_many (One v) n = (some v, refl)
+without_many Nothing n = (None, refl)
+without_many (One v) n = (Some v, refl)
 without_many Many n = absurd (n refl)
 
 -- The whole figure
@@ -84,19 +82,19 @@ without_many Many n = absurd (n refl)
 fold_joined : (a : Option Value) (vs : List (Option Value)) → join (optional a) (joined vs) ≡ as_joined (fold_from vs a)
 unfolding joined fold_from
 fold_joined a [] = join_nothing_right (optional a)
-fold_joined option.none (option.none ∷ vs) = fold_joined option.none vs
-fold_joined option.none (some v ∷ vs) = join_nothing_left (join (One v) (joined vs)) ∙ fold_joined (some v) vs
-fold_joined (some u) (option.none ∷ vs) = fold_joined (some u) vs
-fold_joined (some u) (some v ∷ vs) = sym (join_assoc (One u) (One v) (joined vs)) ∙ join_many_left (joined vs)
+fold_joined None (None ∷ vs) = fold_joined None vs
+fold_joined None (Some v ∷ vs) = join_nothing_left (join (One v) (joined vs)) ∙ fold_joined (Some v) vs
+fold_joined (Some u) (None ∷ vs) = fold_joined (Some u) vs
+fold_joined (Some u) (Some v ∷ vs) = sym (join_assoc (One u) (One v) (joined vs)) ∙ join_many_left (joined vs)
 
 pub exceptions_processed : (e : Env) (vs : List (Option Value))
-    → exceptions e (SoFar Nothing) (behind vs none) ≡ SoFar (as_joined (process_exceptions vs))
+    → exceptions e (Ok Nothing) (behind vs none) ≡ Ok (as_joined (process_exceptions vs))
 unfolding exceptions
-exceptions_processed e vs = exceptions_behind e Nothing vs none ∙ ap SoFar (fold_joined option.none vs)
+exceptions_processed e vs = exceptions_behind e Nothing vs none ∙ ap Ok (fold_joined None vs)
 
-settled : (p : Processed) (rest : Outcome) → settle (SoFar (as_joined p)) rest ≡ afterwards p rest
-settled (returns option.none) rest = refl
-settled (returns (some v)) rest = refl
+settled : (p : Processed) (rest : Result Value Cause) → settle (Ok (as_joined p)) rest ≡ afterwards p rest
+settled (returns None) rest = refl
+settled (returns (Some v)) rest = refl
 settled raises rest = refl
 
 pub default_processed : (e : Env) (vs : List (Option Value)) (j c : Term)

@@ -7,8 +7,8 @@
 use Prim.Native.Nat.{ℕ}
 use mathlib.Core.Path.{◌≡◌, refl, sym, ap, ◌∙◌}
 use mathlib.Core.Bool.{Bool, true, false, cond, false≢true}
-use mathlib.Core.Option.{Option}
 use mathlib.Core.List.{List}
+use Rattle.std.specs.Prelude.{Result, Ok, Err, Option}
 use Rattle.calculus.specs.Values.{truth_of}
 use Rattle.calculus.specs.Operators.{unary_of, binary_of}
 use Rattle.calculus.specs.Outcomes.{bind, choose}
@@ -23,23 +23,20 @@ use Rattle.calculus.specs.Reduction.{condition_error, justification_error, excep
 use Rattle.calculus.specs.declared.Value.{Value}
 use Rattle.answers.specs.declared.Cause.{Cause}
 use Rattle.answers.specs.declared.Cause.TheVariants.{Empty, Conflict, OutOfRange}
-use Rattle.calculus.specs.declared.Outcome.{Outcome}
-use Rattle.calculus.specs.declared.Outcome.TheVariants.{Gives, Ends}
 use Rattle.calculus.specs.declared.Joined.TheVariants.{Nothing, One}
-use Rattle.calculus.specs.declared.Gathered.TheVariants.{SoFar}
 use Rattle.calculus.proofs.Joining.{join_nothing_left}
 use Rattle.calculus.proofs.Exceptions.{exceptions_ended}
 use Rattle.calculus.proofs.ReductionExceptions.{joined, exceptions_behind, exceptions_empties, two_join}
 use Rattle.calculus.proofs.ReductionHalts.{Halts, value, step, halts}
 
-eval_result : (e : Env) (o : Outcome) → eval e (result o) ≡ o
+eval_result : (e : Env) (o : Result Value Cause) → eval e (result o) ≡ o
 unfolding eval
-eval_result e (Gives v) = refl
-eval_result e (Ends x) = refl
+eval_result e (Ok v) = refl
+eval_result e (Err x) = refl
 
-bind_gives : (o : Outcome) → o ≡ bind o Gives
-bind_gives (Gives v) = refl
-bind_gives (Ends x) = refl
+bind_gives : (o : Result Value Cause) → o ≡ bind o Ok
+bind_gives (Ok v) = refl
+bind_gives (Err x) = refl
 
 module _ (e : Env) where
   eval_branch : (p : Bool) (a b : Term) → cond p (eval e a) (eval e b) ≡ eval e (cond p a b)
@@ -47,19 +44,19 @@ module _ (e : Env) where
   eval_branch false a b = refl
 
   -- a default whose exceptions are empty
-  eval_default : (n : ℕ) (j c : Term) → eval e (default (empties n none) j c) ≡ choose (eval e j) (eval e c) (Ends Empty)
+  eval_default : (n : ℕ) (j c : Term) → eval e (default (empties n none) j c) ≡ choose (eval e j) (eval e c) (Err Empty)
   unfolding eval
   eval_default n j c = rw (exceptions_empties e Nothing n none)
 
   eval_justified : (n : ℕ) (w : Value) (c : Term) (b : Bool) → truth_of w ≡ b
-      → eval e (default (empties n none) (literal w) c) ≡ cond b (eval e c) (Ends Empty)
+      → eval e (default (empties n none) (literal w) c) ≡ cond b (eval e c) (Err Empty)
   unfolding eval
   eval_justified n w c b p = rw (exceptions_empties e Nothing n none, p)
 
   -- a step in a context, where errors of some causes are the whole
-  module _ (which : Cause → Bool) (context : Term → Term) (meaning : Outcome → Outcome)
+  module _ (which : Cause → Bool) (context : Term → Term) (meaning : Result Value Cause → Result Value Cause)
       (means : (t : Term) → eval e (context t) ≡ meaning (eval e t))
-      (ends : (x : Cause) → which x ≡ true → meaning (Ends x) ≡ Ends x) where
+      (ends : (x : Cause) → which x ≡ true → meaning (Err x) ≡ Err x) where
     error_means : (t : Term) → is_error which t ≡ true → meaning (eval e t) ≡ eval e t
     unfolding eval
     error_means (literal v) p = absurd (false≢true p)
@@ -79,31 +76,31 @@ module _ (e : Env) where
         → eval e (context a) ≡ eval e (cond (is_error which a') a' (context a'))
     context_keeps {a} {a'} s p = means a ∙ ap meaning p ∙ place_means a' (is_error which a') refl
 
-  regular_keeps : (context : Term → Term) (rest : Value → Outcome) → ((t : Term) → eval e (context t) ≡ bind (eval e t) rest)
+  regular_keeps : (context : Term → Term) (rest : Value → Result Value Cause) → ((t : Term) → eval e (context t) ≡ bind (eval e t) rest)
       → {a a' : Term} → Reduces e a a' → eval e a ≡ eval e a' → eval e (context a) ≡ eval e (regular context a')
   regular_keeps context rest means = context_keeps (λ x. true) context (λ o. bind o rest) means (λ x p. refl)
 
   -- a default as one of its exceptions sees it
   module _ (vs : List (Option Value)) (es : Terms) (j c : Term) where
-    seen : Outcome → Outcome
-    seen o = settle (exceptions e (gather (SoFar (joined vs)) o) es) (choose (eval e j) (eval e c) (Ends Empty))
+    seen : Result Value Cause → Result Value Cause
+    seen o = settle (exceptions e (gather (Ok (joined vs)) o) es) (choose (eval e j) (eval e c) (Err Empty))
 
     eval_seen : (t : Term) → eval e (default (behind vs (also t es)) j c) ≡ seen (eval e t)
     unfolding eval seen
     eval_seen t = rw (exceptions_behind e Nothing vs (also t es), join_nothing_left (joined vs))
 
-    fatal_ends : (x : Cause) → fatal x ≡ true → seen (Ends x) ≡ Ends x
+    fatal_ends : (x : Cause) → fatal x ≡ true → seen (Err x) ≡ Err x
     unfolding seen
     fatal_ends Empty p = absurd (false≢true p)
     fatal_ends Conflict p = rw (exceptions_ended e Conflict es)
     fatal_ends (OutOfRange s) p = rw (exceptions_ended e (OutOfRange s) es)
 
-  one_gives : (m n : ℕ) (v : Value) (j c : Term) → eval e (default (empties m (also (literal v) (empties n none))) j c) ≡ Gives v
+  one_gives : (m n : ℕ) (v : Value) (j c : Term) → eval e (default (empties m (also (literal v) (empties n none))) j c) ≡ Ok v
   unfolding eval
   one_gives m n v j c = rw (exceptions_empties e Nothing m (also (literal v) (empties n none)), exceptions_empties e (One v) n none)
 
   two_conflict : (us vs ws : List (Option Value)) (v w : Value) (j c : Term)
-      → eval e (default (behind us (also (literal v) (behind vs (also (literal w) (behind ws none))))) j c) ≡ Ends Conflict
+      → eval e (default (behind us (also (literal v) (behind vs (also (literal w) (behind ws none))))) j c) ≡ Err Conflict
   unfolding eval
   two_conflict us vs ws v w j c = rw (exceptions_behind, exceptions_behind, exceptions_behind, two_join)
 
@@ -126,10 +123,10 @@ module _ (e : Env) where
   step_keeps_eval (in_condition a b s) =
       regular_keeps (λ x. choice x a b) (λ v. cond (truth_of v) (eval e a) (eval e b)) (λ t. refl) s (step_keeps_eval s)
   step_keeps_eval (in_justification n c s) =
-      regular_keeps (λ x. default (empties n none) x c) (λ v. cond (truth_of v) (eval e c) (Ends Empty)) (λ t. eval_default n t c)
+      regular_keeps (λ x. default (empties n none) x c) (λ v. cond (truth_of v) (eval e c) (Err Empty)) (λ t. eval_default n t c)
       s (step_keeps_eval s)
   step_keeps_eval (in_consequence n w p s) =
-      regular_keeps (default (empties n none) (literal w)) Gives (λ t. eval_justified n w t true p ∙ bind_gives (eval e t)) s (step_keeps_eval s)
+      regular_keeps (default (empties n none) (literal w)) Ok (λ t. eval_justified n w t true p ∙ bind_gives (eval e t)) s (step_keeps_eval s)
   step_keeps_eval (in_exception vs es j c s) =
       context_keeps fatal (λ x. default (behind vs (also x es)) j c) (seen vs es j c) (eval_seen vs es j c) (fatal_ends vs es j c)
       s (step_keeps_eval s)
@@ -145,12 +142,12 @@ module _ (e : Env) where
   steps_keep_eval (steps s r) = step_keeps_eval s ∙ steps_keep_eval r
 
   -- "so what a term reduces to is unique and is its `eval`"
-  pub reduces_unique : (t : Term) (o : Outcome) → ReducesTo e t (result o) → o ≡ eval e t
+  pub reduces_unique : (t : Term) (o : Result Value Cause) → ReducesTo e t (result o) → o ≡ eval e t
   reduces_unique t o r = sym (steps_keep_eval r ∙ eval_result e o)
 
-  pub value_stays : (o : Outcome) {t : Term} → Reduces e (result o) t → ⊥
-  value_stays (Gives v) r = elim r [ ]
-  value_stays (Ends x) r = elim r [ ]
+  pub value_stays : (o : Result Value Cause) {t : Term} → Reduces e (result o) t → ⊥
+  value_stays (Ok v) r = elim r [ ]
+  value_stays (Err x) r = elim r [ ]
 
   halts_at_eval : {t : Term} → Halts e t → ReducesTo e t (result (eval e t))
   halts_at_eval (value o) = rw (eval_result e o) (stays (result o))

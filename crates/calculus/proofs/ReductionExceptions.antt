@@ -2,9 +2,8 @@
 -- Assumes nothing.
 use Prim.Native.Nat.{ℕ, zero, suc}
 use mathlib.Core.Path.{◌≡◌, refl, ap, subst, ◌∙◌}
-use mathlib.Core.Option.{Option, some}
-use mathlib.Core.Option as option
 use mathlib.Core.List.{List, [], ◌∷◌, ◌++◌}
+use Rattle.std.specs.Prelude.{Ok, Option, None, Some}
 use Rattle.calculus.specs.Joining.{join}
 use Rattle.calculus.specs.Terms.{Terms, literal, error, none, also}
 use Rattle.calculus.specs.Evaluation.{Env, exceptions}
@@ -13,24 +12,23 @@ use Rattle.calculus.specs.declared.Value.{Value}
 use Rattle.answers.specs.declared.Cause.TheVariants.{Empty}
 use Rattle.calculus.specs.declared.Joined.{Joined}
 use Rattle.calculus.specs.declared.Joined.TheVariants.{Nothing, One, Many}
-use Rattle.calculus.specs.declared.Gathered.TheVariants.{SoFar}
 use Rattle.calculus.proofs.Joining.{join_nothing_right, join_many_left, join_assoc}
 
 -- what exceptions that are values come to
 unfoldable pub joined : List (Option Value) → Joined
 joined [] = Nothing
-joined (option.none ∷ vs) = joined vs
-joined (some v ∷ vs) = join (One v) (joined vs)
+joined (None ∷ vs) = joined vs
+joined (Some v ∷ vs) = join (One v) (joined vs)
 
 pub exceptions_behind : (e : Env) (j : Joined) (vs : List (Option Value)) (es : Terms)
-    → exceptions e (SoFar j) (behind vs es) ≡ exceptions e (SoFar (join j (joined vs))) es
+    → exceptions e (Ok j) (behind vs es) ≡ exceptions e (Ok (join j (joined vs))) es
 unfolding exceptions behind joined
 exceptions_behind e j [] es = rw (join_nothing_right j)
-exceptions_behind e j (option.none ∷ vs) es = rw (join_nothing_right j) (exceptions_behind e j vs es)
-exceptions_behind e j (some v ∷ vs) es =
-    exceptions_behind e (join j (One v)) vs es ∙ ap (λ k. exceptions e (SoFar k) es) (join_assoc j (One v) (joined vs))
+exceptions_behind e j (None ∷ vs) es = rw (join_nothing_right j) (exceptions_behind e j vs es)
+exceptions_behind e j (Some v ∷ vs) es =
+    exceptions_behind e (join j (One v)) vs es ∙ ap (λ k. exceptions e (Ok k) es) (join_assoc j (One v) (joined vs))
 
-pub exceptions_empties : (e : Env) (j : Joined) (n : ℕ) (es : Terms) → exceptions e (SoFar j) (empties n es) ≡ exceptions e (SoFar j) es
+pub exceptions_empties : (e : Env) (j : Joined) (n : ℕ) (es : Terms) → exceptions e (Ok j) (empties n es) ≡ exceptions e (Ok j) es
 unfolding exceptions empties
 exceptions_empties e j zero es = refl
 exceptions_empties e j (suc n) es = rw (join_nothing_right j) (exceptions_empties e j n es)
@@ -52,7 +50,7 @@ behind_one_more (u ∷ vs) v es = ap (also (settled_term u)) (behind_one_more vs
 
 all_empty : ℕ → List (Option Value)
 all_empty zero = []
-all_empty (suc n) = option.none ∷ all_empty n
+all_empty (suc n) = None ∷ all_empty n
 
 empties_behind : (n : ℕ) (es : Terms) → behind (all_empty n) es ≡ empties n es
 unfolding behind empties all_empty
@@ -70,7 +68,7 @@ after_empty : {es : Terms} → Counted es → Counted (also (error Empty) es)
 unfolding empties behind
 after_empty (no_value n) = no_value (suc n)
 after_empty (one_value m n v) = one_value (suc m) n v
-after_empty (two_values us vs ws v w) = two_values (option.none ∷ us) vs ws v w
+after_empty (two_values us vs ws v w) = two_values (None ∷ us) vs ws v w
 
 after_value : (u : Value) {es : Terms} → Counted es → Counted (also (literal u) es)
 unfolding empties behind
@@ -79,10 +77,10 @@ after_value u (one_value m n v) =
     subst (λ es. Counted (also (literal u) es))
     (empties_behind m (also (literal v) (behind (all_empty n) none)) ∙ ap (λ es. empties m (also (literal v) es)) (empties_behind n none))
     (two_values [] (all_empty m) (all_empty n) u v)
-after_value u (two_values us vs ws v w) = two_values (some u ∷ us) vs ws v w
+after_value u (two_values us vs ws v w) = two_values (Some u ∷ us) vs ws v w
 
 pub counted : (vs : List (Option Value)) → Counted (behind vs none)
 unfolding behind empties
 counted [] = no_value zero
-counted (option.none ∷ vs) = after_empty (counted vs)
-counted (some v ∷ vs) = after_value v (counted vs)
+counted (None ∷ vs) = after_empty (counted vs)
+counted (Some v ∷ vs) = after_value v (counted vs)

@@ -3,9 +3,8 @@
 use Prim.Native.Nat.{ℕ}
 use mathlib.Core.Path.{◌≡◌, refl, subst}
 use mathlib.Core.Bool.{Bool, true, false, cond}
-use mathlib.Core.Option.{Option, some}
-use mathlib.Core.Option as option
 use mathlib.Core.List.{List, [], ◌∷◌, ◌++◌}
+use Rattle.std.specs.Prelude.{Result, Ok, Err, Option, None, Some}
 use Rattle.calculus.specs.Values.{truth_of}
 use Rattle.calculus.specs.Operators.{unary_of, binary_of}
 use Rattle.calculus.specs.Terms.{Term, Terms, literal, own, called, error, unary, binary, choice, default, none, also}
@@ -18,14 +17,12 @@ use Rattle.calculus.specs.Reduction.{condition_error, justification_error, excep
 use Rattle.calculus.specs.declared.Value.{Value}
 use Rattle.answers.specs.declared.Cause.{Cause}
 use Rattle.answers.specs.declared.Cause.TheVariants.{Empty, Conflict, OutOfRange}
-use Rattle.calculus.specs.declared.Outcome.{Outcome}
-use Rattle.calculus.specs.declared.Outcome.TheVariants.{Gives, Ends}
 use Rattle.calculus.proofs.ReductionExceptions.{Counted, no_value, one_value, two_values, counted, behind_one_more}
 
 module _ (e : Env) where
   -- some steps lead to a value
   pub data Halts : Term → Type 0 where
-    value : (o : Outcome) → Halts (result o)
+    value : (o : Result Value Cause) → Halts (result o)
     step : {t t' : Term} → Reduces e t t' → Halts t' → Halts t
 
   branch_halts : (p : Bool) {a b : Term} → Halts a → Halts b → Halts (cond p a b)
@@ -35,36 +32,36 @@ module _ (e : Env) where
   -- from a value in the hole of a context, hence from any term there
   module _ (which : Cause → Bool) (context : Term → Term)
       (inside : (a a' : Term) → Reduces e a a' → Reduces e (context a) (cond (is_error which a') a' (context a')))
-      (goes : (o : Outcome) → Halts (context (result o))) where
+      (goes : (o : Result Value Cause) → Halts (context (result o))) where
     through : {a : Term} → Halts a → Halts (context a)
     through (value o) = goes o
     through (step {t' = a'} s h) = step (inside _ a' s) (branch_halts (is_error which a') h (through h))
 
   module _ (context : Term → Term) (inside : (a a' : Term) → Reduces e a a' → Reduces e (context a) (regular context a'))
       (fails : (x : Cause) → Reduces e (context (error x)) (error x)) (goes : (v : Value) → Halts (context (literal v))) where
-    filled : (o : Outcome) → Halts (context (result o))
-    filled (Gives v) = goes v
-    filled (Ends x) = step (fails x) (value (Ends x))
+    filled : (o : Result Value Cause) → Halts (context (result o))
+    filled (Ok v) = goes v
+    filled (Err x) = step (fails x) (value (Err x))
 
     through_regular : {a : Term} → Halts a → Halts (context a)
     through_regular = through (λ x. true) context inside filled
 
   module _ (vs : List (Option Value)) (es : Terms) (j c : Term)
       (goes : (v : Option Value) → Halts (default (behind vs (also (settled_term v) es)) j c)) where
-    evaluated : (o : Outcome) → Halts (default (behind vs (also (result o) es)) j c)
-    evaluated (Gives v) = goes (some v)
-    evaluated (Ends Empty) = goes option.none
-    evaluated (Ends Conflict) = step (exception_error vs Conflict es j c refl) (value (Ends Conflict))
-    evaluated (Ends (OutOfRange s)) = step (exception_error vs (OutOfRange s) es j c refl) (value (Ends (OutOfRange s)))
+    evaluated : (o : Result Value Cause) → Halts (default (behind vs (also (result o) es)) j c)
+    evaluated (Ok v) = goes (Some v)
+    evaluated (Err Empty) = goes None
+    evaluated (Err Conflict) = step (exception_error vs Conflict es j c refl) (value (Err Conflict))
+    evaluated (Err (OutOfRange s)) = step (exception_error vs (OutOfRange s) es j c refl) (value (Err (OutOfRange s)))
 
     through_exception : {a : Term} → Halts a → Halts (default (behind vs (also a es)) j c)
     through_exception = through fatal (λ x. default (behind vs (also x es)) j c) (λ _ _. in_exception vs es j c) evaluated
 
   justified_halts : (n : ℕ) (w : Value) {c : Term} (p : Bool) → truth_of w ≡ p → Halts c → Halts (default (empties n none) (literal w) c)
   justified_halts n w true p h =
-      through_regular (default (empties n none) (literal w)) (λ _ _. in_consequence n w p) (λ x. default_true n w (Ends x) p)
-      (λ v. step (default_true n w (Gives v) p) (value (Gives v))) h
-  justified_halts n w {c} false p h = step (default_false n w c p) (value (Ends Empty))
+      through_regular (default (empties n none) (literal w)) (λ _ _. in_consequence n w p) (λ x. default_true n w (Err x) p)
+      (λ v. step (default_true n w (Ok v) p) (value (Ok v))) h
+  justified_halts n w {c} false p h = step (default_false n w c p) (value (Err Empty))
 
   default_halts : (n : ℕ) {j c : Term} → Halts j → Halts c → Halts (default (empties n none) j c)
   default_halts n {c = c} g h =
@@ -73,17 +70,17 @@ module _ (e : Env) where
 
   settled_halts : {es : Terms} (j c : Term) → Counted es → ((n : ℕ) → Halts (default (empties n none) j c)) → Halts (default es j c)
   settled_halts j c (no_value n) rest = rest n
-  settled_halts j c (one_value m n v) rest = step (one_exception m n v j c) (value (Gives v))
-  settled_halts j c (two_values us vs ws v w) rest = step (two_exceptions us vs ws v w j c) (value (Ends Conflict))
+  settled_halts j c (one_value m n v) rest = step (one_exception m n v j c) (value (Ok v))
+  settled_halts j c (two_values us vs ws v w) rest = step (two_exceptions us vs ws v w j c) (value (Err Conflict))
 
   mutual
     unfolding behind
 
     pub halts : (t : Term) → Halts t
-    halts (literal v) = value (Gives v)
-    halts (own x) = step (read_own_case x) (value (Gives (e.own x)))
-    halts (called k x) = step (read_called_case k x) (value (Gives (e.called k x)))
-    halts (error x) = value (Ends x)
+    halts (literal v) = value (Ok v)
+    halts (own x) = step (read_own_case x) (value (Ok (e.own x)))
+    halts (called k x) = step (read_called_case k x) (value (Ok (e.called k x)))
+    halts (error x) = value (Err x)
     halts (unary op a) =
         through_regular (unary op) (λ _ _. in_operand op) (operand_error op) (λ v. step (apply_unary op v) (value (unary_of op v))) (halts a)
     halts (binary op a b) =

@@ -1,6 +1,6 @@
 -- The sides of the range.
 --     ranged_cases                             an exact result is out of range on some side, or given, and then 32 bits hold it
---     Result, unary-result, binary-result      so an operator comes to a value that 32 bits hold or to a side, never to empty or conflict
+--     Operated, unary_result, binary_result     so an operator comes to a value that 32 bits hold or to a side, never to empty or conflict
 --     add_told, subtract-told, negate-told     add, subtract and negate come to a side exactly where their exact result lies out of the range on it,
 --                                              and to that result exactly where 32 bits hold it
 --     negate_lowest                            of numbers of 32 bits none but −2,147,483,648 leaves the range when negated, and then above
@@ -14,6 +14,7 @@ use lib.IntN.{ℤ, pos, negsuc, neg_ℤ, ◌+ℤ◌, ◌-ℤ◌}
 use lib.Signed.{lt_z}
 use mir.Syntax.{w32}
 use mir.Val.{SFits}
+use Rattle.std.specs.Prelude.{Result, Ok, Err}
 use Rattle.calculus.specs.Values.{number_of, lowest, highest, ranged}
 use Rattle.calculus.specs.Operators.{unary_of, binary_of}
 use Rattle.calculus.specs.Sides.{beyond, ComesTo}
@@ -23,14 +24,13 @@ use Rattle.calculus.specs.declared.Value.TheVariants.{Truth, Number}
 use Rattle.answers.specs.declared.Side.{Side}
 use Rattle.answers.specs.declared.Side.TheVariants.{Above, Below}
 use Rattle.answers.specs.declared.Cause.TheVariants.{Empty, Conflict, OutOfRange}
-use Rattle.calculus.specs.declared.Outcome.{Outcome}
-use Rattle.calculus.specs.declared.Outcome.TheVariants.{Gives, Ends}
 use Rattle.calculus.specs.declared.Unary.{Unary}
 use Rattle.calculus.specs.declared.Unary.TheVariants.{Not, Negate}
 use Rattle.calculus.specs.declared.Binary.{Binary}
 use Rattle.calculus.specs.declared.Binary.TheVariants.{And, Add, Subtract, Equal, Less}
+use Rattle.answers.specs.declared.Cause.{Cause}
 
-pub ranged_cases : (z : ℤ) (P : Outcome → Type 0) → ((s : Side) → P (Ends (OutOfRange s))) → (SFits w32 z → P (Gives (Number z))) → P (ranged z)
+pub ranged_cases : (z : ℤ) (P : Result Value Cause → Type 0) → ((s : Side) → P (Err (OutOfRange s))) → (SFits w32 z → P (Ok (Number z))) → P (ranged z)
 ranged_cases z P out given = go (lt_z z lowest) (lt_z highest z) refl refl
   where
     go : (low high : Bool) → lt_z z lowest ≡ low → lt_z highest z ≡ high → P (ranged_by low high z)
@@ -39,24 +39,24 @@ ranged_cases z P out given = go (lt_z z lowest) (lt_z highest z) refl refl
     go false false l h = given (within_range z l h)
 
 -- what an operator comes to
-pub data Result : Outcome → Type 0 where
-  truth : (b : Bool) → Result (Gives (Truth b))
-  number : (z : ℤ) → SFits w32 z → Result (Gives (Number z))
-  outside : (s : Side) → Result (Ends (OutOfRange s))
+pub data Operated : Result Value Cause → Type 0 where
+  truth : (b : Bool) → Operated (Ok (Truth b))
+  number : (z : ℤ) → SFits w32 z → Operated (Ok (Number z))
+  outside : (s : Side) → Operated (Err (OutOfRange s))
 
-pub ranged_result : (z : ℤ) → Result (ranged z)
-ranged_result z = ranged_cases z Result Result.outside (Result.number z)
+pub ranged_result : (z : ℤ) → Operated (ranged z)
+ranged_result z = ranged_cases z Operated Operated.outside (Operated.number z)
 
-pub unary_result : (op : Unary) (v : Value) → Result (unary_of op v)
-unary_result Not v = Result.truth _
+pub unary_result : (op : Unary) (v : Value) → Operated (unary_of op v)
+unary_result Not v = Operated.truth _
 unary_result Negate v = ranged_result (neg_ℤ (number_of v))
 
-pub binary_result : (op : Binary) (v w : Value) → Result (binary_of op v w)
-binary_result And v w = Result.truth _
+pub binary_result : (op : Binary) (v w : Value) → Operated (binary_of op v w)
+binary_result And v w = Operated.truth _
 binary_result Add v w = ranged_result (number_of v +ℤ number_of w)
 binary_result Subtract v w = ranged_result (number_of v -ℤ number_of w)
-binary_result Equal v w = Result.truth _
-binary_result Less v w = Result.truth _
+binary_result Equal v w = Operated.truth _
+binary_result Less v w = Operated.truth _
 
 -- no number lies on both sides
 not_below : (z : ℤ) → beyond Above z ≡ true → beyond Below z ≡ false
@@ -70,25 +70,25 @@ not_beyond Above (negsuc n) f = refl
 not_beyond Below (pos n) f = refl
 not_beyond Below (negsuc n) f = le-ltb 2147483647 n (omega (arith, f.sfits))
 
-side_told : (s : Side) (z : ℤ) → beyond s z ≡ true → ranged z ≡ Ends (OutOfRange s)
+side_told : (s : Side) (z : ℤ) → beyond s z ≡ true → ranged z ≡ Err (OutOfRange s)
 side_told Above z e = rw (not_below z e, e)
 side_told Below z e = rw e
 
 -- whether an outcome is a value, above or below
-abbrev is_given : Outcome → Bool
-is_given (Gives v) = true
-is_given (Ends c) = false
+abbrev is_given : Result Value Cause → Bool
+is_given (Ok v) = true
+is_given (Err c) = false
 
-abbrev is_on : Side → Outcome → Bool
-is_on s (Gives v) = false
-is_on s (Ends Empty) = false
-is_on s (Ends Conflict) = false
-is_on Above (Ends (OutOfRange Above)) = true
-is_on Above (Ends (OutOfRange Below)) = false
-is_on Below (Ends (OutOfRange Above)) = false
-is_on Below (Ends (OutOfRange Below)) = true
+abbrev is_on : Side → Result Value Cause → Bool
+is_on s (Ok v) = false
+is_on s (Err Empty) = false
+is_on s (Err Conflict) = false
+is_on Above (Err (OutOfRange Above)) = true
+is_on Above (Err (OutOfRange Below)) = false
+is_on Below (Err (OutOfRange Above)) = false
+is_on Below (Err (OutOfRange Below)) = true
 
-is_on_lem : (s : Side) → is_on s (Ends (OutOfRange s)) ≡ true
+is_on_lem : (s : Side) → is_on s (Err (OutOfRange s)) ≡ true
 is_on_lem Above = refl
 is_on_lem Below = refl
 
@@ -135,5 +135,5 @@ negated Below (pos (suc n)) f e = let none : ⊥ = omega (arith, f.sfits, ltb-tr
 negated Below (negsuc n) f e = absurd (false≢true e)
 
 -- that it does leave the range is strip l
-pub negate_lowest : (v : Value) (s : Side) → SFits w32 (number_of v) → unary_of Negate v ≡ Ends (OutOfRange s) → (s ≡ Above) × (number_of v ≡ lowest)
+pub negate_lowest : (v : Value) (s : Side) → SFits w32 (number_of v) → unary_of Negate v ≡ Err (OutOfRange s) → (s ≡ Above) × (number_of v ≡ lowest)
 negate_lowest v s f e = negated s (number_of v) f ((negate_told v).side_only s e)

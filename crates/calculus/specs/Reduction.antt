@@ -13,9 +13,7 @@
 --        where one is valid "we evaluate neither the justification or the consequence".
 -- Out of range is "ours" (paper 01), with a side (paper 02, No. 3): two more errors, each like conflict. A number where a yes/no should stand counts as no, where the
 -- figures are stuck: no term of an accepted book has one.
-use Rattle.std.specs.Prelude.{ℕ, zero, suc, ◌≡◌, Bool, true, false, cond, List, [], ◌∷◌}
-use Rattle.std.proofs.Math.Option.{Option, some}
-use Rattle.std.proofs.Math.Option as option
+use Rattle.std.specs.Prelude.{ℕ, zero, suc, ◌≡◌, Bool, true, false, cond, List, [], ◌∷◌, Result, Ok, Err, Option, None, Some}
 use Rattle.calculus.specs.Values.{truth_of}
 use Rattle.calculus.specs.Operators.{unary_of, binary_of}
 use Rattle.calculus.specs.Terms.{Term, Terms, literal, own, called, error, unary, binary, choice, default, none, also}
@@ -23,15 +21,13 @@ use Rattle.calculus.specs.Evaluation.{Env}
 use Rattle.calculus.specs.declared.Value.{Value}
 use Rattle.answers.specs.declared.Cause.{Cause}
 use Rattle.answers.specs.declared.Cause.TheVariants.{Empty, Conflict, OutOfRange}
-use Rattle.calculus.specs.declared.Outcome.{Outcome}
-use Rattle.calculus.specs.declared.Outcome.TheVariants.{Gives, Ends}
 use Rattle.calculus.specs.declared.Unary.{Unary}
 use Rattle.calculus.specs.declared.Binary.{Binary}
 
 -- figure 5, "Values": literals and errors, no functions (1); each is what some outcome is as a term
-abbrev pub result : Outcome → Term
-result (Gives v) = literal v
-result (Ends c) = error c
+abbrev pub result : Result Value Cause → Term
+result (Ok v) = literal v
+result (Err c) = error c
 
 -- an error with one of these causes
 abbrev pub is_error : (Cause → Bool) → Term → Bool
@@ -60,8 +56,8 @@ among_exceptions context t = cond (is_error fatal t) t (context t)
 
 -- v, among exceptions: empty, or a literal, but no other error (3)
 abbrev pub settled_term : Option Value → Term
-settled_term option.none = error Empty
-settled_term (some v) = literal v
+settled_term None = error Empty
+settled_term (Some v) = literal v
 
 -- v⃗, e⃗: settled exceptions, then others
 unfoldable pub behind : List (Option Value) → Terms → Terms
@@ -84,7 +80,7 @@ pub data Reduces (e : Env) : Term → Term → Type 0 where
   -- an addition (1): "'if' takes one branch"
   take_branch : (v : Value) (a b : Term) → Reduces e (choice (literal v) a b) (cond (truth_of v) a b)
   -- D-DEFAULTTRUENOEXCEPTIONS
-  default_true : (n : ℕ) (w : Value) (o : Outcome) → truth_of w ≡ true
+  default_true : (n : ℕ) (w : Value) (o : Result Value Cause) → truth_of w ≡ true
       → Reduces e (default (empties n none) (literal w) (result o)) (result o)
   -- D-DEFAULTFALSENOEXCEPTIONS
   default_false : (n : ℕ) (w : Value) (c : Term) → truth_of w ≡ false → Reduces e (default (empties n none) (literal w) c) (error Empty)

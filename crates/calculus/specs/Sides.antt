@@ -1,5 +1,5 @@
 -- What add, subtract and negate come to by their exact result, said by itself: the number where 32 bits hold it, else the side on which it lies.
-use Rattle.std.specs.Prelude.{◌≡◌, Bool, true, ℤ}
+use Rattle.std.specs.Prelude.{◌≡◌, Bool, true, ℤ, Result, Ok, Err}
 use Rattle.std.specs.Int.Signed.{lt_z}
 use Rattle.std.specs.Int.{w32}
 use Rattle.std.proofs.Common.{SFits}
@@ -9,8 +9,7 @@ use Rattle.calculus.specs.declared.Value.TheVariants.{Number}
 use Rattle.answers.specs.declared.Side.{Side}
 use Rattle.answers.specs.declared.Side.TheVariants.{Above, Below}
 use Rattle.answers.specs.declared.Cause.TheVariants.{OutOfRange}
-use Rattle.calculus.specs.declared.Outcome.{Outcome}
-use Rattle.calculus.specs.declared.Outcome.TheVariants.{Gives, Ends}
+use Rattle.answers.specs.declared.Cause.{Cause}
 
 -- a number lies out of the range on this side
 abbrev pub beyond : Side → ℤ → Bool
@@ -18,10 +17,10 @@ beyond Above z = lt_z highest z
 beyond Below z = lt_z z lowest
 
 -- "Add, subtract and negate say above or below" (paper 02, No. 3): the outcome o of the exact result z
-pub record ComesTo (z : ℤ) (o : Outcome) : Type 0 where
+pub record ComesTo (z : ℤ) (o : Result Value Cause) : Type 0 where
   -- a side, exactly where the exact result lies out of the range on it
-  pub side : (s : Side) → beyond s z ≡ true → o ≡ Ends (OutOfRange s)
-  pub side_only : (s : Side) → o ≡ Ends (OutOfRange s) → beyond s z ≡ true
+  pub side : (s : Side) → beyond s z ≡ true → o ≡ Err (OutOfRange s)
+  pub side_only : (s : Side) → o ≡ Err (OutOfRange s) → beyond s z ≡ true
   -- the number itself, exactly where 32 bits hold it
-  pub number : SFits w32 z → o ≡ Gives (Number z)
-  pub number_only : (v : Value) → o ≡ Gives v → SFits w32 z
+  pub number : SFits w32 z → o ≡ Ok (Number z)
+  pub number_only : (v : Value) → o ≡ Ok v → SFits w32 z

@@ -1,12 +1,11 @@
 -- Values: a yes/no or a number, each read at its own type, and the range of numbers.
-use Rattle.std.specs.Prelude.{Bool, false, not, cond, eqb, ℤ, pos, negsuc}
+use Rattle.std.specs.Prelude.{Bool, false, not, cond, eqb, ℤ, pos, negsuc, Result, Ok, Err}
 use Rattle.std.specs.Int.Signed.{lt_z}
 use Rattle.calculus.specs.declared.Value.{Value}
 use Rattle.calculus.specs.declared.Value.TheVariants.{Truth, Number}
 use Rattle.answers.specs.declared.Side.TheVariants.{Above, Below}
 use Rattle.answers.specs.declared.Cause.TheVariants.{OutOfRange}
-use Rattle.calculus.specs.declared.Outcome.{Outcome}
-use Rattle.calculus.specs.declared.Outcome.TheVariants.{Gives, Ends}
+use Rattle.answers.specs.declared.Cause.{Cause}
 
 -- "'Not' and 'and' take yes/no": of a number, no; an accepted book never meets one here
 abbrev pub truth_of : Value → Bool
@@ -27,8 +26,8 @@ highest = pos 2147483647
 
 -- what an exact result comes to: "Out of range (ours): add, subtract or negate leaving −2,147,483,648 to 2,147,483,647"; "Add, subtract and negate
 -- say above or below" (paper 02, No. 3)
-abbrev pub ranged : ℤ → Outcome
-ranged z = cond (lt_z z lowest) (Ends (OutOfRange Below)) (cond (lt_z highest z) (Ends (OutOfRange Above)) (Gives (Number z)))
+abbrev pub ranged : ℤ → Result Value Cause
+ranged z = cond (lt_z z lowest) (Err (OutOfRange Below)) (cond (lt_z highest z) (Err (OutOfRange Above)) (Ok (Number z)))
 
 abbrev pub equal_numbers : ℤ → ℤ → Bool
 equal_numbers (pos a) (pos b) = eqb a b

@@ -1,20 +1,11 @@
 // The values and outcomes of the calculus.
 #![tactic(auto)]
 
-use answers::Cause;
-
 // A yes/no, or a number of 32 bits.
-#[derive(Clone, Copy)]
+#[derive(Clone, Copy, PartialEq, Eq)]
 pub enum Value {
     Truth(bool),
     Number(i32),
-}
-
-// What a term gives: a value, or an end.
-#[derive(Clone, Copy)]
-pub enum Outcome {
-    Gives(Value),
-    Ends(Cause),
 }
 
 // What exceptions come to where none is conflict or out of range: no value, one, or more.
@@ -23,13 +14,6 @@ pub enum Joined {
     Nothing,
     One(Value),
     Many,
-}
-
-// The exceptions evaluated so far, left to right: the first conflict or out of range stays.
-#[derive(Clone, Copy)]
-pub enum Gathered {
-    SoFar(Joined),
-    Ended(Cause),
 }
 
 #[derive(Clone, Copy)]
@@ -45,11 +29,4 @@ pub enum Binary {
     Subtract,
     Equal,
     Less,
-}
-
-// Whether a variable is given.
-#[derive(Clone, Copy)]
-pub enum Given {
-    Absent,
-    Present(Value),
 }

@@ -6,10 +6,10 @@ use Prim.Native.Nat.{ℕ}
 use mathlib.Core.Path.{◌≡◌, ◌∙◌, ap}
 use mathlib.Core.List.{List}
 use lib.ListN.{length}
+use Rattle.std.specs.Prelude.{Result, ℕ}
 use Rattle.answers.specs.Response.{Response, Responds}
 use Rattle.answers.specs.Numbers.{Numbers, produced_numbers, answer_numbers}
 use Rattle.answers.specs.declared.Answer.{Answer}
-use Rattle.answers.specs.declared.Produced.{Produced}
 use Rattle.evaluation.specs.Evaluate.{evaluate}
 use Rattle.tabulation.specs.Tabulate.{tabulate}
 use Rattle.compiler.specs.Compile.{compile}
@@ -18,6 +18,7 @@ use Rattle.numbers.specs.Packed.{packed, wrapped, Placed, Says}
 use Rattle.numbers.proofs.Unpacking.{says}
 use Rattle.engine.proofs.Placed.{compile_placed, tabulate_placed, evaluate_placed, run_placed}
 use Rattle.capi.specs.Packed.{Packed, PackedCompilation, PackedEvaluation, PackedRun, PackedTabulation}
+use Rattle.answers.specs.declared.Refusal.{Refusal}
 
 -- the answer given is the one expected
 pub said : {A : Type 0} (numbers : A → Numbers) {given expected : A} {r : ℕ} → Placed (numbers expected) → given ≡ expected
@@ -28,7 +29,7 @@ packs_response : {A : Type 0} (numbers : A → Numbers) {response : Response A} 
     → Placed (numbers response.answer) → Responds response before a after → r ≡ packed (wrapped (numbers a)) → Packed numbers response before r after
 packs_response numbers room h packs = record { answer = said numbers room h.answer packs; memory = h.memory }
 
-module _ (bytes : List ℕ) {before : List ℕ} {p : Produced} {r : ℕ} {after : List ℕ} where
+module _ (bytes : List ℕ) {before : List ℕ} {p : Result ℕ Refusal} {r : ℕ} {after : List ℕ} where
   pub compiled : Responds (compile bytes (length before)) before p after → r ≡ packed (wrapped (produced_numbers p)) → PackedCompilation bytes before r after
   compiled = packs_response produced_numbers (compile_placed bytes before)
 
@@ -36,7 +37,7 @@ module _ (bytes : List ℕ) {before : List ℕ} {p : Produced} {r : ℕ} {after 
       → r ≡ packed (wrapped (produced_numbers p)) → PackedTabulation bytes i chosen fixed before r after
   tabulated i chosen fixed = packs_response produced_numbers (tabulate_placed bytes i chosen fixed before)
 
-module _ (bytes : List ℕ) (i : ℕ) (list : List ℕ) {before : List ℕ} {a : Answer} {r : ℕ} {after : List ℕ} where
+module _ (bytes : List ℕ) (i : ℕ) (list : List ℕ) {before : List ℕ} {a : Result Answer Refusal} {r : ℕ} {after : List ℕ} where
   pub evaluated : Responds (evaluate bytes i list (length before)) before a after → r ≡ packed (wrapped (answer_numbers a))
       → PackedEvaluation bytes i list before r after
   evaluated = packs_response answer_numbers (evaluate_placed bytes i list before)

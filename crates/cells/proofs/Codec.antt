@@ -14,6 +14,7 @@ use mir.Syntax.{w32}
 use mir.Val.{SFits, to_z, of_z}
 use mir.Facts.{to_z-of_z, Fits-of_z}
 use borrow.Author.Tests.{lt-ltb, le-ltb, eq-eqb, ne_eqb, eqb-true, eqb-false}
+use Rattle.std.specs.Prelude.{Result, Ok, Err}
 use Rattle.calculus.specs.Values.{truth_of, number_of, equal}
 use Rattle.calculus.proofs.Numbers.{equal_bits}
 use Rattle.calculus.specs.declared.Value.{Value}
@@ -21,8 +22,6 @@ use Rattle.calculus.specs.declared.Value.TheVariants.{Truth, Number}
 use Rattle.answers.specs.declared.Cause.{Cause}
 use Rattle.answers.specs.declared.Side.TheVariants.{Above, Below}
 use Rattle.answers.specs.declared.Cause.TheVariants.{Empty, Conflict, OutOfRange}
-use Rattle.calculus.specs.declared.Outcome.{Outcome}
-use Rattle.calculus.specs.declared.Outcome.TheVariants.{Gives, Ends}
 use Rattle.cells.specs.Codec.{no_cell, yes_cell, zero_cell, many_cell, empty_cell, value_cell, cause_cell, cell_of, payload, value_of, cause_of, outcome_of, Codes}
 
 number_value : (n : ℕ) → n < 4294967296 → value_of (zero_cell + n) ≡ Number (to_z w32 n)
@@ -66,18 +65,18 @@ cause_decoded Conflict = refl
 cause_decoded (OutOfRange Above) = refl
 cause_decoded (OutOfRange Below) = refl
 
-pub outcome_decoded : (o : Outcome) → (c : ℕ) → Codes c o → outcome_of c ≡ o
+pub outcome_decoded : (o : Result Value Cause) → (c : ℕ) → Codes c o → outcome_of c ≡ o
 unfolding outcome_of cell_of
-outcome_decoded (Gives v) c h = rw (h.is, lt-ltb (value_cell v) empty_cell (value_before_ends v h.fits)) (ap Gives (value_decoded v h.fits))
-outcome_decoded (Ends k) c h = rw (h.is, le-ltb (cause_cell k) empty_cell (end_high k)) (ap Ends (cause_decoded k))
+outcome_decoded (Ok v) c h = rw (h.is, lt-ltb (value_cell v) empty_cell (value_before_ends v h.fits)) (ap Ok (value_decoded v h.fits))
+outcome_decoded (Err k) c h = rw (h.is, le-ltb (cause_cell k) empty_cell (end_high k)) (ap Err (cause_decoded k))
 
 -- What the code found by one comparison
 
-pub no_end : {A : Type 0} (v : Value) (x : ℕ) → Codes x (Gives v) → empty_cell ≤ x → A
+pub no_end : {A : Type 0} (v : Value) (x : ℕ) → Codes x (Ok v) → empty_cell ≤ x → A
 unfolding cell_of
 no_end v x h l = let b = value_before_ends v h.fits in let none : ⊥ = omega (arith, h.is) in absurd none
 
-pub no_value_lem : {A : Type 0} (k : Cause) (x : ℕ) → Codes x (Ends k) → x < empty_cell → A
+pub no_value_lem : {A : Type 0} (k : Cause) (x : ℕ) → Codes x (Err k) → x < empty_cell → A
 unfolding cell_of
 no_value_lem k x h l = let b = end_high k in let none : ⊥ = omega (arith, h.is) in absurd none
 
@@ -117,14 +116,14 @@ yes_cell_lem (Truth false) = refl
 yes_cell_lem (Truth true) = refl
 yes_cell_lem (Number z) = ne_eqb (zero_cell + of_z w32 z) yes_cell (λ e. omega arith)
 
-pub is_yes : (v : Value) (x : ℕ) → Codes x (Gives v) → eqb x yes_cell ≡ truth_of v
+pub is_yes : (v : Value) (x : ℕ) → Codes x (Ok v) → eqb x yes_cell ≡ truth_of v
 unfolding cell_of
 is_yes v x h = rw h.is (yes_cell_lem v)
 
-pub is_number : (v : Value) (x : ℕ) → Codes x (Gives v) → payload x ≡ number_of v
+pub is_number : (v : Value) (x : ℕ) → Codes x (Ok v) → payload x ≡ number_of v
 unfolding cell_of
 is_number v x h = rw h.is (payload_is v h.fits)
 
-pub are_same : (v w : Value) (x y : ℕ) → Codes x (Gives v) → Codes y (Gives w) → eqb x y ≡ equal v w
+pub are_same : (v w : Value) (x y : ℕ) → Codes x (Ok v) → Codes y (Ok w) → eqb x y ≡ equal v w
 unfolding cell_of
 are_same v w x y h k = rw (h.is, k.is) (same v w h.fits k.fits)

@@ -1,6 +1,7 @@
 -- Joined values by their cells.
 --     joined_decoded       a cell that was made of exceptions so far holds them
 --     join_case            the cell that each of the nine cases gives
+--     many_first           many on the left gives many
 --     join_decoded         the cell that two cells join to holds what they hold, joined
 --     join_gathers         the same of exceptions so far
 -- Assumes nothing.
@@ -10,16 +11,16 @@ use mathlib.Core.Bool.{Bool, true, false, cond}
 use native.Mathlib.Omega.{arith}
 use lib.Dec.{eqb, ltb}
 use borrow.Author.Tests.{lt-ltb, ne_eqb}
+use Rattle.std.specs.Prelude.{Ok}
 use Rattle.calculus.specs.Joining.{join}
 use Rattle.calculus.proofs.Numbers.{zero_fits}
 use Rattle.calculus.specs.declared.Joined.{Joined}
 use Rattle.calculus.specs.declared.Joined.TheVariants.{Nothing, One, Many}
-use Rattle.calculus.specs.declared.Gathered.TheVariants.{SoFar}
 use Rattle.cells.specs.Codec.{many_cell, value_cell, value_of, gathered_cell, Gathers}
 use Rattle.cells.specs.Joining.{joined_of, cell_from, join_cell}
 use Rattle.cells.proofs.Codec.{value_decoded, value_high, value_low}
 
-pub joined_decoded : (j : Joined) (c : ℕ) → Gathers c (SoFar j) → joined_of c ≡ j
+pub joined_decoded : (j : Joined) (c : ℕ) → Gathers c (Ok j) → joined_of c ≡ j
 unfolding joined_of gathered_cell
 joined_decoded Nothing c h = rw h.is
 joined_decoded (One v) c h =
@@ -69,6 +70,15 @@ join_case a b {j} {k} e f = rw (e, f) (go j k (rw (← e) (filled a b)))
     go Many (One v) e = refl
     go Many Many e = refl
 
+-- many with whatever the other cell holds
+pub many_first : (a b : ℕ) → joined_of a ≡ Many → many_cell ≡ join_cell a b
+many_first a b e = go (joined_of b) refl
+  where
+    go : (k : Joined) → joined_of b ≡ k → many_cell ≡ join_cell a b
+    go Nothing f = join_case a b e f
+    go (One v) f = join_case a b e f
+    go Many f = join_case a b e f
+
 pub join_decoded : (a b : ℕ) → joined_of (join_cell a b) ≡ join (joined_of a) (joined_of b)
 unfolding joined_of
 join_decoded a b = ap joined_of (sym (join_case a b refl refl)) ∙ go (joined_of a) (joined_of b) refl refl
@@ -84,14 +94,14 @@ join_decoded a b = ap joined_of (sym (join_case a b refl refl)) ∙ go (joined_o
     go Many (One v) e f = refl
     go Many Many e f = refl
 
-pub join_gathers : (j k : Joined) (a b : ℕ) → Gathers a (SoFar j) → Gathers b (SoFar k) → Gathers (join_cell a b) (SoFar (join j k))
+pub join_gathers : (j k : Joined) (a b : ℕ) → Gathers a (Ok j) → Gathers b (Ok k) → Gathers (join_cell a b) (Ok (join j k))
 unfolding gathered_cell
 join_gathers j k a b h i = rw (← join_case a b (joined_decoded j a h) (joined_decoded k b i)) (go j k h i)
   where
-    many : Gathers many_cell (SoFar Many)
+    many : Gathers many_cell (Ok Many)
     many = record { is = refl; fits = zero_fits }
 
-    go : (j k : Joined) → Gathers a (SoFar j) → Gathers b (SoFar k) → Gathers (cell_in a b j k) (SoFar (join j k))
+    go : (j k : Joined) → Gathers a (Ok j) → Gathers b (Ok k) → Gathers (cell_in a b j k) (Ok (join j k))
     go Nothing Nothing h i = record { is = refl; fits = zero_fits }
     go Nothing (One v) h i = i
     go Nothing Many h i = many

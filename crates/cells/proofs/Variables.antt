@@ -14,20 +14,18 @@ use mir.Syntax.{w32}
 use mir.Val.{SFits}
 use mir.ValLaws.{to_z-Fits}
 use borrow.Author.Tests.{eqb-true, ne_eqb}
+use Rattle.std.specs.Prelude.{Ok, None, Some}
 use Rattle.calculus.specs.Values.{number_of}
 use Rattle.calculus.proofs.Numbers.{zero_fits}
 use Rattle.calculus.specs.declared.Value.{Value}
 use Rattle.calculus.specs.declared.Value.TheVariants.{Truth, Number}
-use Rattle.calculus.specs.declared.Outcome.TheVariants.{Gives}
-use Rattle.calculus.specs.declared.Given.{Given}
-use Rattle.calculus.specs.declared.Given.TheVariants.{Absent, Present}
 use Rattle.cells.specs.Codec.{value_cell, cell_of, payload, value_of, Codes, Kept, AllKept}
 use Rattle.cells.specs.Cells.{given_of, held}
 use Rattle.cells.proofs.Codec.{value_decoded, value_high}
 
-pub given_cell : (v : Value) → SFits w32 (number_of v) → given_of (value_cell v) ≡ Present v
+pub given_cell : (v : Value) → SFits w32 (number_of v) → given_of (value_cell v) ≡ Some v
 unfolding given_of
-given_cell v f = let l = value_high v in rw (ne_eqb (value_cell v) 0 (λ e. omega arith)) (ap Present (value_decoded v f))
+given_cell v f = let l = value_high v in rw (ne_eqb (value_cell v) 0 (λ e. omega arith)) (ap Some (value_decoded v f))
 
 nothing_is_no : (n : ℕ) → n ≡ 0 → Truth false ≡ value_of n
 unfolding value_of
@@ -37,7 +35,7 @@ pub held_is : (c : ℕ) → held (given_of c) ≡ value_of c
 unfolding given_of
 held_is c = go (eqb c 0) refl
   where
-    go : (b : Bool) → eqb c 0 ≡ b → held (cond b Absent (Present (value_of c))) ≡ value_of c
+    go : (b : Bool) → eqb c 0 ≡ b → held (cond b None (Some (value_of c))) ≡ value_of c
     go true e = nothing_is_no c (eqb-true c 0 e)
     go false e = refl
 
@@ -54,7 +52,7 @@ pub kept_nothing : Kept 0
 unfolding cell_of value_of value_cell
 kept_nothing = record { is = refl; fits = zero_fits }
 
-pub kept_value : (c : ℕ) (v : Value) → Codes c (Gives v) → Kept c
+pub kept_value : (c : ℕ) (v : Value) → Codes c (Ok v) → Kept c
 unfolding cell_of
 kept_value c v h =
     let l = value_high v in

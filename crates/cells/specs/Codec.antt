@@ -2,7 +2,7 @@
 --     0 nothing   1 no   2 yes   3 a number, its bits   (4, 5: room for two more types of values)
 --     6 many   7 empty   8 conflict   9 above   10 below
 -- so one comparison tells a value from an end. No and yes have the payload 0: the payload of every value is the bits of its number.
-use Rattle.std.specs.Prelude.{ℕ, ◌+◌, ◌*◌, ◌%◌, ◌≡◌, Bool, true, false, cond, List, get_or, eqb, ltb, ℤ, pos}
+use Rattle.std.specs.Prelude.{ℕ, ◌+◌, ◌*◌, ◌%◌, ◌≡◌, Bool, true, false, cond, List, get_or, eqb, ltb, ℤ, pos, Result, Ok, Err}
 use Rattle.std.specs.Int.{w32}
 use Rattle.std.proofs.Common.{SFits, to_z, of_z}
 use Rattle.calculus.specs.Values.{number_of}
@@ -12,11 +12,8 @@ use Rattle.answers.specs.declared.Side.{Side}
 use Rattle.answers.specs.declared.Side.TheVariants.{Above, Below}
 use Rattle.answers.specs.declared.Cause.{Cause}
 use Rattle.answers.specs.declared.Cause.TheVariants.{Empty, Conflict, OutOfRange}
-use Rattle.calculus.specs.declared.Outcome.{Outcome}
-use Rattle.calculus.specs.declared.Outcome.TheVariants.{Gives, Ends}
 use Rattle.calculus.specs.declared.Joined.TheVariants.{Nothing, One, Many}
-use Rattle.calculus.specs.declared.Gathered.{Gathered}
-use Rattle.calculus.specs.declared.Gathered.TheVariants.{SoFar, Ended}
+use Rattle.calculus.specs.declared.Joined.{Joined}
 
 abbrev pub tag : ℕ → ℕ
 tag n = n * 4294967296
@@ -65,9 +62,9 @@ cause_cell Empty = empty_cell
 cause_cell Conflict = conflict_cell
 cause_cell (OutOfRange s) = side_cell s
 
-unfoldable pub cell_of : Outcome → ℕ
-cell_of (Gives v) = value_cell v
-cell_of (Ends c) = cause_cell c
+unfoldable pub cell_of : Result Value Cause → ℕ
+cell_of (Ok v) = value_cell v
+cell_of (Err c) = cause_cell c
 
 -- the payload of a value's cell, as a number
 abbrev pub payload : ℕ → ℤ
@@ -85,35 +82,35 @@ side_of c = cond (ltb c below_cell) Above Below
 unfoldable pub cause_of : ℕ → Cause
 cause_of c = cond (ltb c conflict_cell) Empty (cond (ltb c above_cell) Conflict (OutOfRange (side_of c)))
 
-unfoldable pub outcome_of : ℕ → Outcome
-outcome_of c = cond (ltb c empty_cell) (Gives (value_of c)) (Ends (cause_of c))
+unfoldable pub outcome_of : ℕ → Result Value Cause
+outcome_of c = cond (ltb c empty_cell) (Ok (value_of c)) (Err (cause_of c))
 
 -- the number in an outcome
-abbrev pub number_in : Outcome → ℤ
-number_in (Gives v) = number_of v
-number_in (Ends c) = pos 0
+abbrev pub number_in : Result Value Cause → ℤ
+number_in (Ok v) = number_of v
+number_in (Err c) = pos 0
 
 -- the cell is that of the outcome, whose number 32 bits hold
-pub record Codes (c : ℕ) (o : Outcome) : Type 0 where
+pub record Codes (c : ℕ) (o : Result Value Cause) : Type 0 where
   pub is : c ≡ cell_of o
   pub fits : SFits w32 (number_in o)
 
 -- Exceptions so far: nothing, a value, many, or the end that they came to
 
-unfoldable pub gathered_cell : Gathered → ℕ
-gathered_cell (SoFar Nothing) = 0
-gathered_cell (SoFar (One v)) = value_cell v
-gathered_cell (SoFar Many) = many_cell
-gathered_cell (Ended c) = cause_cell c
+unfoldable pub gathered_cell : Result Joined Cause → ℕ
+gathered_cell (Ok Nothing) = 0
+gathered_cell (Ok (One v)) = value_cell v
+gathered_cell (Ok Many) = many_cell
+gathered_cell (Err c) = cause_cell c
 
-abbrev pub number_gathered : Gathered → ℤ
-number_gathered (SoFar Nothing) = pos 0
-number_gathered (SoFar (One v)) = number_of v
-number_gathered (SoFar Many) = pos 0
-number_gathered (Ended c) = pos 0
+abbrev pub number_gathered : Result Joined Cause → ℤ
+number_gathered (Ok Nothing) = pos 0
+number_gathered (Ok (One v)) = number_of v
+number_gathered (Ok Many) = pos 0
+number_gathered (Err c) = pos 0
 
 -- the cell is that of the exceptions so far
-pub record Gathers (c : ℕ) (g : Gathered) : Type 0 where
+pub record Gathers (c : ℕ) (g : Result Joined Cause) : Type 0 where
   pub is : c ≡ gathered_cell g
   pub fits : SFits w32 (number_gathered g)
 
@@ -125,7 +122,7 @@ held_cell c = cond (eqb c 0) no_cell c
 
 -- a variable's cell is nothing, or the cell of a value
 abbrev pub Kept : ℕ → Type 0
-Kept c = Codes (held_cell c) (Gives (value_of c))
+Kept c = Codes (held_cell c) (Ok (value_of c))
 
 abbrev pub AllKept : List ℕ → Type 0
 AllKept cells = (x : ℕ) → Kept (get_or cells x 0)

@@ -7,7 +7,7 @@ ghost use Rattle.cells.specs.Codec.{value_cell, value_of, cause_of};
 ghost use Rattle.cells.specs.Joining.{joined_of, join_cell};
 
 use answers::{Cause, Side};
-use calculus::{Given, Joined, Value};
+use calculus::{Joined, Value};
 use integers::{bits_of, number_of};
 
 // The cells in their order, a tag times 2 ^ 32: a value is below MANY, and what is not below EMPTY is an end with its cause.
@@ -30,7 +30,11 @@ pub const ABOVE: u64 = 38654705664;
 
 pub const BELOW: u64 = 42949672960;
 
+// The most variables of a scope: its cells.
+pub const VARIABLES: usize = 32;
+
 // The cell of a value.
+#[tactic(auto, unfolding(crate::specs::Codec::value_cell))]
 pub fn cell_of(v: Value) -> u64
     ensures { result ≡ value_cell v }
 {
@@ -41,6 +45,7 @@ pub fn cell_of(v: Value) -> u64
 }
 
 // The cause of an end's cell.
+#[tactic(auto, unfolding(crate::specs::Codec::cause_of))]
 pub fn cause_of(c: u64) -> Cause
     ensures { result ≡ cause_of c }
 {
@@ -57,6 +62,7 @@ pub fn cause_of(c: u64) -> Cause
 }
 
 // What a value's cell holds.
+#[tactic(auto, unfolding(crate::specs::Codec::value_of))]
 pub fn value_in(c: u64) -> Value
     ensures { result ≡ value_of c }
 {
@@ -67,37 +73,33 @@ pub fn value_in(c: u64) -> Value
 }
 
 // What a variable's cell holds.
-fn given_of(c: u64) -> Given
+#[tactic(auto, unfolding(crate::specs::Cells::given_of))]
+fn given_of(c: u64) -> Option<Value>
     ensures { result ≡ given_of c }
 {
     if c == NOTHING {
-        return Given::Absent;
+        return None;
     }
-    Given::Present(value_in(c))
+    Some(value_in(c))
 }
 
 // What the cell at a place holds; past the end nothing.
-pub fn given_at(cells: &[u64], at: usize) -> Given
+#[tactic(auto, using(std::proofs::lemmas::Option::gets), unfolding(crate::specs::Cells::given_at, crate::specs::Cells::given_of))]
+pub fn given_at(cells: &[u64], at: usize) -> Option<Value>
     ensures { result ≡ given_at cells.now at }
 {
-    if at < cells.len() {
-        given_of(cells[at])
-    } else {
-        Given::Absent
-    }
+    given_of(*cells.get(at)?)
 }
 
 // What a variable holds; where it is not set, no.
-pub fn value_of(g: Given) -> Value
+pub fn value_of(g: Option<Value>) -> Value
     ensures { result ≡ held g }
 {
-    match g {
-        Given::Absent => Value::Truth(false),
-        Given::Present(v) => v,
-    }
+    g.unwrap_or(Value::Truth(false))
 }
 
 // What a joined cell holds.
+#[tactic(auto, unfolding(crate::specs::Joining::joined_of))]
 pub fn joined_of(c: u64) -> Joined
     ensures { result ≡ joined_of c }
 {
@@ -110,28 +112,16 @@ pub fn joined_of(c: u64) -> Joined
     Joined::Many
 }
 
-// What two found exceptions come to together, the left one found first: the nine cases of nothing, a value and many on each side, by the left
-// side. The definition `join` has those without many first.
+// What two found exceptions come to together, the left one found first. The definition `join` has the cases without many first.
 pub fn join(a: u64, b: u64) -> u64
     ensures { result ≡ join_cell a b }
 {
-    let left = joined_of(a);
-    let right = joined_of(b);
-    match left {
-        Joined::Nothing => match right {
-            Joined::Nothing => NOTHING,
-            Joined::One(_) => b,
-            Joined::Many => MANY,
-        },
-        Joined::One(_) => match right {
-            Joined::Nothing => a,
-            Joined::One(_) => MANY, // where figure 10 raises
-            Joined::Many => MANY,
-        },
-        Joined::Many => match right {
-            Joined::Nothing => MANY,
-            Joined::One(_) => MANY,
-            Joined::Many => MANY,
-        },
+    match (joined_of(a), joined_of(b)) {
+        (Joined::Nothing, Joined::Nothing) => NOTHING,
+        (Joined::Nothing, Joined::One(_)) => b,
+        (Joined::One(_), Joined::Nothing) => a,
+        (Joined::One(_), Joined::One(_)) => MANY, // where figure 10 raises
+        (Joined::Many, _) => MANY,
+        (_, Joined::Many) => MANY,
     }
 }

@@ -2,3 +2,4 @@ mod Gathered
 mod Table
 mod Passes
 mod Clause
+mod Equal

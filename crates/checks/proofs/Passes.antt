@@ -1,6 +1,6 @@
 -- The loops of the pass, over the nodes and over the clauses of a scope: what holds when those below n are passed, and what follows.
 --     leaf_told                      a node that names no node
---     never                          once something dangles, nothing else is asked
+--     never, kept                    of None nothing else is asked, and of what is found all of it
 --     Nodes, Clauses                 the invariants: none below n dangles; what they name is marked; whether one does not fit is known
 --     nodes_start, clauses-start     at the start
 --     node_dangles_lem, clause-dangles   the next dangles
@@ -9,7 +9,7 @@
 --     sub_scope_wrong, node-wrong, scope-passed    what was found of a scope by its sub-scopes, its nodes and its clauses
 -- Assumes nothing.
 use Prim.Native.Nat.{ℕ, ◌+◌, ◌≤◌, ◌<◌}
-use mathlib.Core.Path.{◌≡◌, refl, sym, ap, ◌∙◌}
+use mathlib.Core.Path.{◌≡◌, refl, sym, ap, ◌∙◌, subst}
 use mathlib.Core.Bool.{Bool, true, false, not, ◌||◌, true≢false}
 use mathlib.Core.List.{List, []}
 use native.Mathlib.Omega.{arith}
@@ -26,24 +26,26 @@ use Rattle.book.specs.declared.Clause.{Clause}
 use Rattle.book.specs.declared.ValueType.{ValueType}
 use Rattle.book.proofs.Searches.{Sought, start, turn, found, ended}
 use Rattle.sharing.specs.Marks.{Marking}
-use Rattle.sharing.proofs.Marks.{marked_none, marked_then, marked_length, marked_repeats, passed, passed_start, passed_more, passed_end}
+use Rattle.sharing.proofs.Marks.{marked_none, marked_then, marked_repeats, passed, passed_start, passed_more, passed_end}
 use Rattle.references.specs.Dangling.{sub_scope_dangles}
 use Rattle.checks.specs.declared.Findings.{Findings}
 use Rattle.checks.specs.declared.NodeFinding.{NodeFinding}
 use Rattle.checks.specs.declared.ClauseFinding.{ClauseFinding}
 use Rattle.checks.specs.Findings.{byte_of, type_byte, node_suits, leaf_finding}
-use Rattle.checks.specs.Findings.{only_dangling, wrong_node, wrong_clause, node_dangles, clause_dangles, node_namings, clause_namings}
+use Rattle.std.specs.Prelude.{Option, None, Some}
+use Rattle.checks.specs.Findings.{says_dangling, wrong_node, wrong_clause, node_dangles, clause_dangles, node_namings, clause_namings}
 use Rattle.checks.specs.Findings.{shares_in, misfit_node, misfit_clause, node_misfits, clause_misfits, Typed, OfNode, OfClause, OfNodes, OfClauses, OfScope}
 use Rattle.checks.proofs.Gathered.{Gathered, more, whole}
 use Rattle.checks.proofs.Gathered.{start as none}
 use Rattle.checks.proofs.Table.{Table, filled, told, told_clause}
 use Rattle.checks.proofs.Table.{start as blank-table, turn as put}
 
-pub never : {r : Findings} → r ≡ only_dangling → r.dangles ≡ false → ⊥
-never e q = true≢false (sym (ap (λ (f : Findings). f.dangles) e) ∙ q)
+pub never : {f : Findings} → None ≡ Some f → ⊥
+never q = true≢false (ap says_dangling q)
 
-only : {r : Findings} → r ≡ only_dangling → r.dangles ≡ true
-only e = ap (λ (f : Findings). f.dangles) e
+-- what holds of the findings holds of those that are answered
+pub kept : (P : Findings → Type 0) {g f : Findings} → Some g ≡ Some f → P g → P f
+kept P q p = let e : ◌≡◌ {A = Findings} _ _ = cc in subst P e p
 
 -- a node that names no node
 pub leaf_told :
@@ -73,35 +75,20 @@ nodes_start book i marks types e =
 module _
     {book : List Scope} {i : ℕ} {from marks types : List ℕ} {shares mismatches : Bool} {n : ℕ}
     (g : Nodes book i from marks types shares mismatches n) where
-  pub marks_length : length marks ≡ length from
-  marks_length = marked_length g.marked
-
-  pub types_length : {blank : List ℕ} → blank ≡ replicate 256 0 → length types ≡ length blank
-  types_length e = rw e g.typed.room
-
   module _ (within : n < length (scope_at book i).nodes) where
-    pub in_table : Within book → n < length types
-    in_table w =
-        let few = w.nodes i in
-        let room = g.typed.room in
-        omega arith
-
     module _
         {x : Node} {r : NodeFinding} {after : List ℕ} (ex : x ≡ node_at book i n) (step : OfNode book i n marks types shares x r after) where
       wrong : wrong_node book i n (node_at book i n) ≡ not r.names
       wrong = rw (step.named, ex)
 
-      pub step_length : length after ≡ length from
-      step_length = marked_length step.shared ∙ marks_length
-
-      pub node_dangles_lem : not r.names ≡ true → {f : Findings} → f ≡ only_dangling → OfNodes book i from f after types
+      pub node_dangles_lem : not r.names ≡ true → OfNodes book i from None after types
       unfolding node_dangles node_at
-      node_dangles_lem e ef =
+      node_dangles_lem e =
           record {
-            dangling = only ef ∙ found _ _ _ g.names no_node within (wrong ∙ e);
-            shared = λ q. absurd (never ef q);
-            mismatched = λ q. absurd (never ef q);
-            typed = λ q. absurd (never ef q);
+            dangling = found _ _ _ g.names no_node within (wrong ∙ e);
+            shared = λ f q. absurd (never q);
+            mismatched = λ f q. absurd (never q);
+            typed = λ f q. absurd (never q);
           }
 
       pub node_turn : not r.names ≡ false → Within book
@@ -119,14 +106,14 @@ module _
           }
 
   pub nodes_end : length (scope_at book i).nodes ≤ n
-      → OfNodes book i from (record { dangles = false; shares = shares; mismatches = mismatches }) marks types
+      → OfNodes book i from (Some (record { shares = shares; mismatches = mismatches })) marks types
   unfolding node_dangles node_namings node_misfits
   nodes_end h =
       record {
         dangling = ended _ _ _ g.names h;
-        shared = λ q. passed_end _ _ _ g.marked h;
-        mismatched = λ q. whole _ _ _ _ _ g.gathered h;
-        typed = λ q. filled _ _ _ _ g.typed h;
+        shared = λ f q. kept (λ (f : Findings). Marking (node_namings book i) from false f.shares marks) q (passed_end _ _ _ g.marked h);
+        mismatched = λ f q. kept (λ (f : Findings). f.mismatches ≡ node_misfits book i) q (whole _ _ _ _ _ g.gathered h);
+        typed = λ f q. filled _ _ _ _ g.typed h;
       }
 
 pub record Clauses (book : List Scope) (i : ℕ) (from : List ℕ) (twice misfit : Bool) (marks : List ℕ) (shares mismatches : Bool) (n : ℕ) : Type 0 where
@@ -140,25 +127,19 @@ clauses_start book i marks twice misfit = record { names = start _ _; marked = p
 module _
     {book : List Scope} {i : ℕ} {from : List ℕ} {twice misfit : Bool} {marks : List ℕ} {shares mismatches : Bool} {n : ℕ}
     (g : Clauses book i from twice misfit marks shares mismatches n) where
-  pub clause_marks : length marks ≡ length from
-  clause_marks = marked_length g.marked
-
   module _
       (within : n < length (scope_at book i).clauses) {x : Clause} {r : ClauseFinding} {after types : List ℕ} (ex : x ≡ clause_at book i n)
       (of : OfClause book i n marks types shares x r after) where
     wrong_clause_lem : wrong_clause book i n (clause_at book i n) ≡ not r.names
     wrong_clause_lem = rw (of.named, ex)
 
-    pub clause_length : length after ≡ length from
-    clause_length = marked_length of.shared ∙ clause_marks
-
-    pub clause_dangles_lem : not r.names ≡ true → {first f : Findings} → f ≡ only_dangling → OfClauses book i from first f after
+    pub clause_dangles_lem : not r.names ≡ true → {first : Findings} → OfClauses book i from first None after
     unfolding clause_dangles clause_at
-    clause_dangles_lem e er =
+    clause_dangles_lem e =
         record {
-          dangling = only er ∙ found _ _ _ g.names no_clause within (wrong_clause_lem ∙ e);
-          shared = λ q. absurd (never er q);
-          mismatched = λ q. absurd (never er q);
+          dangling = found _ _ _ g.names no_clause within (wrong_clause_lem ∙ e);
+          shared = λ f q. absurd (never q);
+          mismatched = λ f q. absurd (never q);
         }
 
     pub clause_turn : not r.names ≡ false → Typed book i types
@@ -172,13 +153,13 @@ module _
         }
 
   pub clauses_end : length (scope_at book i).clauses ≤ n → (first : Findings) → twice ≡ first.shares → misfit ≡ first.mismatches
-      → OfClauses book i from first (record { dangles = false; shares = shares; mismatches = mismatches }) marks
+      → OfClauses book i from first (Some (record { shares = shares; mismatches = mismatches })) marks
   unfolding clause_dangles clause_namings clause_misfits
   clauses_end h first et em =
       record {
         dangling = ended _ _ _ g.names h;
-        shared = λ q. rw (← et) (passed_end _ _ _ g.marked h);
-        mismatched = λ q. rw (← em) (whole _ _ _ _ _ g.gathered h);
+        shared = λ f q. kept (λ (f : Findings). Marking (clause_namings book i) from first.shares f.shares marks) q (rw (← et) (passed_end _ _ _ g.marked h));
+        mismatched = λ f q. kept (λ (f : Findings). f.mismatches ≡ (first.mismatches || clause_misfits book i)) q (rw (← em) (whole _ _ _ _ _ g.gathered h));
       }
 
 -- A scope
@@ -193,28 +174,29 @@ module _ (book : List Scope) (i : ℕ) where
   mismatch_parts = refl
 
 module _ {book : List Scope} {i : ℕ} (subs : Bool) (es : subs ≡ sub_scope_dangles book i) where
-  pub sub_scope_wrong : subs ≡ true → {r : Findings} → r ≡ only_dangling → OfScope book i r
-  sub_scope_wrong e er =
+  pub sub_scope_wrong : subs ≡ true → OfScope book i None
+  sub_scope_wrong e =
       record {
-        dangling = only er ∙ rw (dangling_parts book i, ← es, e);
-        shared = λ q. absurd (never er q);
-        mismatched = λ q. absurd (never er q);
+        dangling = rw (dangling_parts book i, ← es, e);
+        shared = λ f q. absurd (never q);
+        mismatched = λ f q. absurd (never q);
       }
 
-  module _ (sound : subs ≡ false) {first : Findings} {from between types : List ℕ} (nodes : OfNodes book i from first between types) where
-    pub node_wrong : first.dangles ≡ true → OfScope book i first
+  module _ (sound : subs ≡ false) {answer : Option Findings} {from between types : List ℕ} (nodes : OfNodes book i from answer between types) where
+    pub node_wrong : answer ≡ None → OfScope book i None
     node_wrong e =
         record {
           dangling = rw (dangling_parts book i, ← es, sound, ← nodes.dangling, e);
-          shared = λ q. absurd (true≢false (sym e ∙ q));
-          mismatched = λ q. absurd (true≢false (sym e ∙ q));
+          shared = λ f q. absurd (never q);
+          mismatched = λ f q. absurd (never q);
         }
 
-    pub scope_passed : first.dangles ≡ false → from ≡ replicate 256 0 → {r : Findings} {after : List ℕ} → OfClauses book i between first r after → OfScope book i r
+    pub scope_passed : {first : Findings} → answer ≡ Some first → from ≡ replicate 256 0 → {r : Option Findings} {after : List ℕ}
+        → OfClauses book i between first r after → OfScope book i r
     unfolding shares_in namings node_namings clause_namings
-    scope_passed e blank clauses =
+    scope_passed {first = first} e blank clauses =
         record {
           dangling = clauses.dangling ∙ rw (dangling_parts book i, ← es, sound, ← nodes.dangling, e);
-          shared = λ q. marked_repeats (rw blank at (marked_then (nodes.shared e) (clauses.shared q)));
-          mismatched = λ q. clauses.mismatched q ∙ rw (nodes.mismatched e) (mismatch_parts book i);
+          shared = λ f q. marked_repeats (rw blank at (marked_then (nodes.shared first e) (clauses.shared f q)));
+          mismatched = λ f q. clauses.mismatched f q ∙ rw (nodes.mismatched first e) (mismatch_parts book i);
         }

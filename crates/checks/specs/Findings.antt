@@ -1,5 +1,5 @@
 -- What one pass finds of the faults 6, 7 and 8: 7 and 8 only where 6 is not.
-use Rattle.std.specs.Prelude.{ℕ, ◌≡◌, Bool, true, false, not, ◌||◌, List, [], eqb, ltb}
+use Rattle.std.specs.Prelude.{ℕ, ◌≡◌, Bool, true, false, not, ◌||◌, List, [], eqb, ltb, Option, None, Some}
 use Rattle.book.specs.Lists.{any, any_from}
 use Rattle.book.specs.Syntax.{Scope, same_type}
 use Rattle.book.specs.References.{scope_at, names_exception, node_names, clause_names, dangles_in, dangles}
@@ -83,9 +83,10 @@ pub record OfClause (book : List Scope) (i n : ℕ) (marks types : List ℕ) (tw
   pub shared : Marking (clause_nodes c) marks twice r.shares after
   pub fitting : r.suits ≡ clause_suits book i types c
 
--- what is found once something dangles
-abbrev pub only_dangling : Findings
-only_dangling = record { dangles = true; shares = false; mismatches = false }
+-- an answer that something dangles
+abbrev pub says_dangling : Option Findings → Bool
+says_dangling None = true
+says_dangling (Some f) = false
 
 -- node n of scope i, and clause n of it, names what it may not
 abbrev pub wrong_node : List Scope → ℕ → ℕ → Node → Bool
@@ -131,26 +132,26 @@ pub record Typed (book : List Scope) (i : ℕ) (types : List ℕ) : Type 0 where
   pub known : type_in types ≡ type_of_node book (scope_at book i)
 
 -- of the nodes of scope i: where none dangles, what they name is marked, and their types are in the table
-pub record OfNodes (book : List Scope) (i : ℕ) (marks : List ℕ) (r : Findings) (after types : List ℕ) : Type 0 where
-  pub dangling : r.dangles ≡ node_dangles book i
-  pub shared : r.dangles ≡ false → Marking (node_namings book i) marks false r.shares after
-  pub mismatched : r.dangles ≡ false → r.mismatches ≡ node_misfits book i
-  pub typed : r.dangles ≡ false → Typed book i types
+pub record OfNodes (book : List Scope) (i : ℕ) (marks : List ℕ) (r : Option Findings) (after types : List ℕ) : Type 0 where
+  pub dangling : says_dangling r ≡ node_dangles book i
+  pub shared : (f : Findings) → r ≡ Some f → Marking (node_namings book i) marks false f.shares after
+  pub mismatched : (f : Findings) → r ≡ Some f → f.mismatches ≡ node_misfits book i
+  pub typed : (f : Findings) → r ≡ Some f → Typed book i types
 
 -- of the clauses of scope i, after what was found of its nodes
-pub record OfClauses (book : List Scope) (i : ℕ) (marks : List ℕ) (found r : Findings) (after : List ℕ) : Type 0 where
-  pub dangling : r.dangles ≡ clause_dangles book i
-  pub shared : r.dangles ≡ false → Marking (clause_namings book i) marks found.shares r.shares after
-  pub mismatched : r.dangles ≡ false → r.mismatches ≡ (found.mismatches || clause_misfits book i)
+pub record OfClauses (book : List Scope) (i : ℕ) (marks : List ℕ) (found : Findings) (r : Option Findings) (after : List ℕ) : Type 0 where
+  pub dangling : says_dangling r ≡ clause_dangles book i
+  pub shared : (f : Findings) → r ≡ Some f → Marking (clause_namings book i) marks found.shares f.shares after
+  pub mismatched : (f : Findings) → r ≡ Some f → f.mismatches ≡ (found.mismatches || clause_misfits book i)
 
 -- of scope i
-pub record OfScope (book : List Scope) (i : ℕ) (r : Findings) : Type 0 where
-  pub dangling : r.dangles ≡ dangles_in book (scope_at book i)
-  pub shared : r.dangles ≡ false → r.shares ≡ shares_in (scope_at book i)
-  pub mismatched : r.dangles ≡ false → r.mismatches ≡ mismatch_in book (scope_at book i)
+pub record OfScope (book : List Scope) (i : ℕ) (r : Option Findings) : Type 0 where
+  pub dangling : says_dangling r ≡ dangles_in book (scope_at book i)
+  pub shared : (f : Findings) → r ≡ Some f → f.shares ≡ shares_in (scope_at book i)
+  pub mismatched : (f : Findings) → r ≡ Some f → f.mismatches ≡ mismatch_in book (scope_at book i)
 
 -- of the book
-pub record OfBook (book : List Scope) (r : Findings) : Type 0 where
-  pub dangling : r.dangles ≡ dangles book
-  pub shared : r.dangles ≡ false → r.shares ≡ shares book
-  pub mismatched : r.dangles ≡ false → r.mismatches ≡ mismatches book
+pub record OfBook (book : List Scope) (r : Option Findings) : Type 0 where
+  pub dangling : says_dangling r ≡ dangles book
+  pub shared : (f : Findings) → r ≡ Some f → f.shares ≡ shares book
+  pub mismatched : (f : Findings) → r ≡ Some f → f.mismatches ≡ mismatches book

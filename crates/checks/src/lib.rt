@@ -3,32 +3,30 @@
 
 ghost use Rattle.std.specs.Prelude.{◌≡◌, length, replicate};
 ghost use Rattle.book.specs.Decode.{scopes_of};
-ghost use Rattle.index.specs.Index.{Laid};
 ghost use Rattle.book.specs.Typing.{binary_type};
 ghost use Rattle.checks.specs.Findings.{byte_of, leaf_finding, OfNode, OfUnary, OfBinary, OfChoice, OfDefault};
-ghost use Rattle.checks.specs.Findings.{OfCondition, OfConsequence, OfClause, only_dangling, Typed, OfNodes, OfClauses, OfScope, OfBook};
+ghost use Rattle.checks.specs.Findings.{OfCondition, OfConsequence, OfClause, Typed, OfNodes, OfClauses, OfScope, OfBook};
 
 use book::{Clause, Consequence, Node, ValueType};
 use calculus::{Binary, Unary};
-use index::{clause_at, clause_count, node_at, node_count, sub_scope_count, variable_count};
+use index::IndexedBook;
 use references::{
     below, both_below, default_names, names_called, names_parent, none_or_below, sub_scope_dangles,
     target_scope,
 };
 use sharing::{mark, mark_unless};
-use types::{operand_type, same_type, unary_type};
+use types::{operand_type, unary_type};
 use typing::{called_type, named_fits, own_type, type_in};
 
-// What is found: whether something dangles; where nothing does, whether a node is named more than once, and whether a type does not fit.
+// What is found where nothing dangles: whether a node is named more than once, and whether a type does not fit.
 #[derive(Clone, Copy)]
 pub struct Findings {
-    pub dangles: bool,
     pub shares: bool,
     pub mismatches: bool,
 }
 
 // What is found of one node: whether it names only what it may; whether a node was named twice, so far or by it; whether its operands
-// have the types that it takes; and its type as a byte.
+// have the types that it takes; and its type as a byte. The other fields hold whatever `names` says, so it is one fact among them, and no Option.
 #[derive(Clone, Copy)]
 struct NodeFinding {
     names: bool,
@@ -45,7 +43,7 @@ struct ClauseFinding {
     suits: bool,
 }
 
-// A type as a byte.
+// A type as a byte of the table: one byte for each node, in fixed memory. 0 must be yes/no, as an empty table has it; a book's type bytes are others.
 fn byte_of(t: ValueType) -> u8
     ensures { result ≡ byte_of t }
 {
@@ -60,11 +58,8 @@ fn binary_type(op: Binary) -> ValueType
     ensures { result ≡ binary_type op }
 {
     match op {
-        Binary::And => ValueType::YesNo,
-        Binary::Add => ValueType::Numeric,
-        Binary::Subtract => ValueType::Numeric,
-        Binary::Equal => ValueType::YesNo,
-        Binary::Less => ValueType::YesNo,
+        Binary::And | Binary::Equal | Binary::Less => ValueType::YesNo,
+        Binary::Add | Binary::Subtract => ValueType::Numeric,
     }
 }
 
@@ -93,7 +88,7 @@ fn check_unary(
     ensures { OfUnary n marks.old types.now twice op a result marks.new }
 {
     let t = unary_type(op);
-    let suits = same_type(type_in(types, a), t);
+    let suits = type_in(types, a) == t;
     let byte = byte_of(t);
     let names = below(n, a);
     let shares = mark(marks, twice, a);
@@ -119,7 +114,7 @@ fn check_binary(
 {
     let left = type_in(types, a);
     let t = operand_type(op, left);
-    let suits = same_type(left, t) & same_type(type_in(types, b), t);
+    let suits = (left == t) & (type_in(types, b) == t);
     let byte = byte_of(binary_type(op));
     let names = both_below(n, a, b);
     let first = mark(marks, twice, a);
@@ -145,7 +140,7 @@ fn check_choice(
     ensures { OfChoice n marks.old types.now twice c a b result marks.new }
 {
     let t = type_in(types, a);
-    let suits = same_type(type_in(types, c), ValueType::YesNo) & same_type(type_in(types, b), t);
+    let suits = (type_in(types, c) == ValueType::YesNo) & (type_in(types, b) == t);
     let byte = byte_of(t);
     let names = below(n, c) & both_below(n, a, b);
     let first = mark(marks, twice, c);
@@ -174,7 +169,7 @@ fn check_default(
     ensures { OfDefault n marks.old types.now twice x y z j c result marks.new }
 {
     let t = type_in(types, c);
-    let justified = same_type(type_in(types, j), ValueType::YesNo);
+    let justified = type_in(types, j) == ValueType::YesNo;
     let suits = named_fits(types, t, x)
         & (named_fits(types, t, y) & (named_fits(types, t, z) & justified));
     let byte = byte_of(t);
@@ -194,8 +189,7 @@ fn check_default(
 
 // Node n of scope i: what it names is marked.
 fn check_node(
-    book: &[u8],
-    index: &[u16],
+    book: &IndexedBook,
     i: usize,
     n: usize,
     node: Node,
@@ -203,19 +197,18 @@ fn check_node(
     types: &[u8],
     twice: bool,
 ) -> NodeFinding
-    requires { Laid book.now index.now }
-    ensures { OfNode (scopes_of book.now) i n marks.old types.now twice node result marks.new }
+    ensures { OfNode (scopes_of book.now.bytes.now) i n marks.old types.now twice node result marks.new }
 {
     match node {
         Node::Constant(_) => check_leaf(true, twice, ValueType::YesNo),
         Node::Number(_) => check_leaf(true, twice, ValueType::Numeric),
         Node::Own(v) => {
-            let names = below(variable_count(book, index, i), v);
-            check_leaf(names, twice, own_type(book, index, i, v))
+            let names = below(book.variable_count(i), v);
+            check_leaf(names, twice, own_type(book, i, v))
         }
         Node::Called(k, v) => {
-            let names = names_called(book, index, i, k, v);
-            check_leaf(names, twice, called_type(book, index, i, k, v))
+            let names = names_called(book, i, k, v);
+            check_leaf(names, twice, called_type(book, i, k, v))
         }
         Node::Empty(t) => check_leaf(true, twice, t),
         Node::Conflict(t) => check_leaf(true, twice, t),
@@ -244,7 +237,7 @@ fn check_condition(
         };
     }
     let names = below(nodes, condition);
-    let suits = same_type(type_in(types, condition), ValueType::YesNo);
+    let suits = type_in(types, condition) == ValueType::YesNo;
     let shares = mark(marks, twice, condition);
     ClauseFinding {
         names,
@@ -267,7 +260,7 @@ fn check_consequence(
     match consequence {
         Consequence::Of(n) => {
             let names = below(nodes, n);
-            let suits = same_type(type_in(types, n), wanted);
+            let suits = type_in(types, n) == wanted;
             let shares = mark(marks, twice, n);
             ClauseFinding {
                 names,
@@ -276,7 +269,7 @@ fn check_consequence(
             }
         }
         Consequence::Fixed(_) => {
-            let suits = same_type(ValueType::YesNo, wanted);
+            let suits = ValueType::YesNo == wanted;
             ClauseFinding {
                 names: true,
                 shares: twice,
@@ -288,8 +281,7 @@ fn check_consequence(
 
 // Clause n of scope i: what it names is marked.
 fn check_clause(
-    book: &[u8],
-    index: &[u16],
+    book: &IndexedBook,
     i: usize,
     n: usize,
     clause: Clause,
@@ -297,8 +289,7 @@ fn check_clause(
     types: &[u8],
     twice: bool,
 ) -> ClauseFinding
-    requires { Laid book.now index.now }
-    ensures { OfClause (scopes_of book.now) i n marks.old types.now twice clause result marks.new }
+    ensures { OfClause (scopes_of book.now.bytes.now) i n marks.old types.now twice clause result marks.new }
 {
     let target = clause.target;
     let parent = clause.parent;
@@ -306,12 +297,12 @@ fn check_clause(
     let consequence = clause.consequence;
     let sub = target.sub;
     let variable = target.variable;
-    let owner = target_scope(book, index, i, sub);
-    let there = none_or_below(sub_scope_count(book, index, i), sub)
-        & below(variable_count(book, index, owner), variable);
-    let wanted = own_type(book, index, owner, variable);
-    let follows = names_parent(book, index, i, n, parent, target);
-    let nodes = node_count(book, index, i);
+    let owner = target_scope(book, i, sub);
+    let there = none_or_below(book.sub_scope_count(i), sub)
+        & below(book.variable_count(owner), variable);
+    let wanted = own_type(book, owner, variable);
+    let follows = names_parent(book, i, n, parent, target);
+    let nodes = book.node_count(i);
     let first = check_condition(nodes, marks, types, twice, condition);
     let second = check_consequence(nodes, marks, types, first.shares, wanted, consequence);
     ClauseFinding {
@@ -321,119 +312,78 @@ fn check_clause(
     }
 }
 
-// What is found once something dangles: nothing else matters.
-fn dangling() -> Findings
-    ensures { result ≡ only_dangling }
-{
-    Findings {
-        dangles: true,
-        shares: false,
-        mismatches: false,
-    }
-}
-
 // The nodes of scope i, up to the first that dangles: what they name is marked, and their types are put into a table of bytes. A node
-// names only lower ones, so the table so far tells whether it fits.
-fn check_nodes(book: &[u8], index: &[u16], i: usize, marks: &mut [u8], types: &mut [u8]) -> Findings
-    requires fact_1 { Laid book.now index.now }
-    requires fact_2 { types.old ≡ replicate 256 0 }
-    ensures { OfNodes (scopes_of book.now) i marks.old result marks.new types.new }
+// names only lower ones, so the table so far tells whether it fits. None where one dangles.
+fn check_nodes(book: &IndexedBook, i: usize, marks: &mut [u8], types: &mut [u8]) -> Option<Findings>
+    requires { types.old ≡ replicate 256 0 }
+    ensures { OfNodes (scopes_of book.now.bytes.now) i marks.old result marks.new types.new }
 {
-    let count = node_count(book, index, i);
     let mut shares = false;
     let mut mismatches = false;
-    let mut n = 0;
-    while n < count {
-        let node = node_at(book, index, i, n);
-        let of_node = check_node(book, index, i, n, node, marks, types, shares);
+    for n in 0..book.node_count(i) {
+        let node = book.node_at(i, n);
+        let of_node = check_node(book, i, n, node, marks, types, shares);
         if !of_node.names {
-            return dangling();
+            return None;
         }
         shares = of_node.shares;
-        mismatches = mismatches | !of_node.suits;
+        mismatches |= !of_node.suits;
         types[n] = of_node.byte;
-        n += 1;
     }
-    Findings {
-        dangles: false,
-        shares,
-        mismatches,
-    }
+    Some(Findings { shares, mismatches })
 }
 
-// The clauses of scope i, up to the first that dangles, after what was found of its nodes: what they name is marked too.
+// The clauses of scope i, up to the first that dangles, after what was found of its nodes: what they name is marked too. None where one
+// dangles.
 fn check_clauses(
-    book: &[u8],
-    index: &[u16],
+    book: &IndexedBook,
     i: usize,
     marks: &mut [u8],
     types: &[u8],
     found: Findings,
-) -> Findings
-    requires fact_1 { Laid book.now index.now }
-    requires fact_2 { Typed (scopes_of book.now) i types.now }
-    ensures { OfClauses (scopes_of book.now) i marks.old found result marks.new }
+) -> Option<Findings>
+    requires { Typed (scopes_of book.now.bytes.now) i types.now }
+    ensures { OfClauses (scopes_of book.now.bytes.now) i marks.old found result marks.new }
 {
-    let count = clause_count(book, index, i);
     let mut shares = found.shares;
     let mut mismatches = found.mismatches;
-    let mut n = 0;
-    while n < count {
-        let clause = clause_at(book, index, i, n);
-        let of_clause = check_clause(book, index, i, n, clause, marks, types, shares);
+    for n in 0..book.clause_count(i) {
+        let clause = book.clause_at(i, n);
+        let of_clause = check_clause(book, i, n, clause, marks, types, shares);
         if !of_clause.names {
-            return dangling();
+            return None;
         }
         shares = of_clause.shares;
-        mismatches = mismatches | !of_clause.suits;
-        n += 1;
+        mismatches |= !of_clause.suits;
     }
-    Findings {
-        dangles: false,
-        shares,
-        mismatches,
-    }
+    Some(Findings { shares, mismatches })
 }
 
-// Scope i.
-fn check_scope(book: &[u8], index: &[u16], scopes: usize, i: usize) -> Findings
-    requires fact_1 { Laid book.now index.now }
-    requires fact_2 { scopes ≡ length (scopes_of book.now) }
-    ensures { OfScope (scopes_of book.now) i result }
+// Scope i. None where something of it dangles.
+fn check_scope(book: &IndexedBook, i: usize) -> Option<Findings>
+    requires { book.now.scopes ≡ length (scopes_of book.now.bytes.now) }
+    ensures { OfScope (scopes_of book.now.bytes.now) i result }
 {
-    if sub_scope_dangles(book, index, scopes, i) {
-        return dangling();
+    if sub_scope_dangles(book, i) {
+        return None;
     }
     let mut marks = [0u8; 256];
     let mut types = [0u8; 256];
-    let found = check_nodes(book, index, i, &mut marks, &mut types);
-    if found.dangles {
-        return found;
-    }
-    check_clauses(book, index, i, &mut marks, &types, found)
+    let found = check_nodes(book, i, &mut marks, &mut types)?;
+    check_clauses(book, i, &mut marks, &types, found)
 }
 
-// Faults 6, 7 and 8 of a book of so many scopes, by its index, up to the first scope in which something dangles.
-pub fn find_faults(book: &[u8], index: &[u16], scopes: usize) -> Findings
-    requires fact_1 { Laid book.now index.now }
-    requires fact_2 { scopes ≡ length (scopes_of book.now) }
-    ensures { OfBook (scopes_of book.now) result }
+// Faults 6, 7 and 8 of a book, up to the first scope in which something dangles. None where there is one: nothing else matters then.
+pub fn find_faults(book: &IndexedBook) -> Option<Findings>
+    requires { book.now.scopes ≡ length (scopes_of book.now.bytes.now) }
+    ensures { OfBook (scopes_of book.now.bytes.now) result }
 {
     let mut shares = false;
     let mut mismatches = false;
-    let mut i = 0;
-    while i < scopes {
-        let found = check_scope(book, index, scopes, i);
-        if found.dangles {
-            return found;
-        }
-        shares = shares | found.shares;
-        mismatches = mismatches | found.mismatches;
-        i += 1;
+    for i in 0..book.scopes {
+        let found = check_scope(book, i)?;
+        shares |= found.shares;
+        mismatches |= found.mismatches;
     }
-    Findings {
-        dangles: false,
-        shares,
-        mismatches,
-    }
+    Some(Findings { shares, mismatches })
 }

@@ -10,7 +10,7 @@ use mathlib.Core.List.{List}
 use native.Mathlib.Omega.{arith}
 use lib.ListN.{length, take}
 use lib.Seq.{length-take-le}
-use Rattle.calculus.specs.declared.Given.{Given}
+use Rattle.std.specs.Prelude.{Option}
 use Rattle.book.specs.declared.Variable.{Variable}
 use Rattle.lists.specs.Reading.{typed, Filled}
 use Rattle.tabulation.specs.Chosen.{bad_choice, in_order}
@@ -18,9 +18,10 @@ use Rattle.tabulation.proofs.Chosen.{chosen_count}
 use Rattle.choices.specs.Marks.{marked_from, ChosenMarked, MarkedWritten}
 use Rattle.choices.specs.Choosing.{Choosing}
 use Rattle.choices.proofs.Ordering.{marks_order}
+use Rattle.calculus.specs.declared.Value.{Value}
 
 module _ {variables : List Variable} {n : ℕ} {types : List ℕ} (f : Filled variables n types)
-    {given : List Given} {chosen marks : List ℕ} where
+    {given : List (Option Value)} {chosen marks : List ℕ} where
   module _ {answer : Bool} (few : length variables ≤ 32) (m : ChosenMarked (typed (take n types)) given chosen answer marks) where
     pub room : length (take n marks) ≡ n
     room = let e = f.number in let s = m.size in length-take-le n marks (omega arith)

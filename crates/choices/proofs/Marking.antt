@@ -14,7 +14,7 @@ use lib.ListN.{length, get_or, set, drop, replicate, length-set}
 use lib.Seq.{drop-cons, drop-length}
 use lib.Dec.{eqb, ltb}
 use borrow.Author.Tests.{lt-ltb, le-ltb}
-use Rattle.calculus.specs.declared.Given.{Given}
+use Rattle.std.specs.Prelude.{Option}
 use Rattle.order.specs.Matrix.{marked}
 use Rattle.order.proofs.Matrix.{marked_set, zero_marks}
 use Rattle.book.specs.Lists.{any}
@@ -26,6 +26,7 @@ use Rattle.book.specs.Sharing.{repeats}
 use Rattle.tabulation.specs.Chosen.{unfit, bad_choice}
 use Rattle.lists.proofs.Reading.{can_give}
 use Rattle.choices.specs.Marks.{ChosenMarked}
+use Rattle.calculus.specs.declared.Value.{Value}
 
 repeated_later : (n : ℕ) (xs : List ℕ) → repeats (drop n xs) ≡ true → repeats xs ≡ true
 unfolding repeats
@@ -33,7 +34,7 @@ repeated_later zero xs e = e
 repeated_later (suc n) [] e = e
 repeated_later (suc n) (x ∷ xs) e = rw (repeated_later n xs e) (or-true (among xs x))
 
-module _ {variables : List Variable} {given : List Given} {chosen marks : List ℕ} (size : length marks ≡ 32) where
+module _ {variables : List Variable} {given : List (Option Value)} {chosen marks : List ℕ} (size : length marks ≡ 32) where
   refuse : bad_choice variables given chosen ≡ true → ChosenMarked variables given chosen false marks
   refuse bad = record { size = size; taken = λ e. absurd (false≢true e); exact = λ e. absurd (false≢true e); refused = λ e. bad }
 
@@ -42,26 +43,26 @@ module _ {variables : List Variable} {given : List Given} {chosen marks : List �
   too_many h = refuse (rw (lt-ltb 12 (length chosen) h))
 
 -- those from a place on are good and marked, and no other is
-pub record MarkingChosen (variables : List Variable) (given : List Given) (chosen marks : List ℕ) (left : ℕ) : Type 0 where
+pub record MarkingChosen (variables : List Variable) (given : List (Option Value)) (chosen marks : List ℕ) (left : ℕ) : Type 0 where
   pub size : length marks ≡ 32
   pub inside : left ≤ length chosen
   pub once : repeats (drop left chosen) ≡ false
   pub fits : any (unfit variables given) (drop left chosen) ≡ false
   pub exact : (v : ℕ) → marked marks v ≡ among (drop left chosen) v
 
-pub start : (variables : List Variable) (given : List Given) (chosen : List ℕ) {marks : List ℕ} → marks ≡ replicate 32 0
-    → MarkingChosen variables given chosen marks (length chosen)
+pub start : (variables : List Variable) (given : List (Option Value)) (chosen : List ℕ) {marks : List ℕ} → marks ≡ replicate 32 0
+    → {left : ℕ} → left ≡ length chosen → MarkingChosen variables given chosen marks left
 unfolding repeats any among
-start variables given chosen e =
+start variables given chosen e l =
     record {
       size = rw e refl;
       inside = omega arith;
-      once = rw (drop-length chosen);
-      fits = rw (drop-length chosen);
-      exact = λ v. rw (e, zero_marks 32 v, drop-length chosen);
+      once = rw (l, drop-length chosen);
+      fits = rw (l, drop-length chosen);
+      exact = λ v. rw (e, l, zero_marks 32 v, drop-length chosen);
     }
 
-module _ {variables : List Variable} {given : List Given} {chosen marks : List ℕ} {left : ℕ} (m : MarkingChosen variables given chosen marks left) where
+module _ {variables : List Variable} {given : List (Option Value)} {chosen marks : List ℕ} {left : ℕ} (m : MarkingChosen variables given chosen marks left) where
   pub stop : length chosen ≤ 12 → left ≡ 0 → ChosenMarked variables given chosen true marks
   unfolding bad_choice
   stop few e =
@@ -74,44 +75,41 @@ module _ {variables : List Variable} {given : List Given} {chosen marks : List �
         refused = λ t. absurd (false≢true (sym t));
       }
 
-  module _ (more : 0 < left) where
-    abbrev v : ℕ
-    v = get_or chosen (left - 1) 0
-
+  module _ (v : ℕ) (last : (0 < left) × (v ≡ get_or chosen (left - 1) 0)) where
     first : drop (left - 1) chosen ≡ v ∷ drop left chosen
     first =
         let i = m.inside in
         let s : suc (left - 1) ≡ left = omega arith in
-        rw (drop-cons chosen (left - 1) 0 (omega arith), s)
+        rw (drop-cons chosen (left - 1) 0 (omega arith), s, last.1)
 
-    pub unfit_one : unfit variables given (get_or chosen (left - 1) 0) ≡ true → ChosenMarked variables given chosen false marks
+    pub unfit_one : unfit variables given v ≡ true → ChosenMarked variables given chosen false marks
     unfolding bad_choice
     unfit_one e =
         let i = m.inside in
         refuse m.size
-        (rw (any_at (unfit variables given) chosen (left - 1) (omega arith) 0 e, or-true (repeats chosen)) (or-true (ltb 12 (length chosen))))
+        (rw (any_at (unfit variables given) chosen (left - 1) (omega arith) 0 (rw last.1 at e), or-true (repeats chosen)) (or-true (ltb 12 (length chosen))))
 
-    pub twice : marked marks (get_or chosen (left - 1) 0) ≡ true → ChosenMarked variables given chosen false marks
+    pub twice : marked marks v ≡ true → ChosenMarked variables given chosen false marks
     unfolding bad_choice repeats
     twice e =
         let again : repeats (drop (left - 1) chosen) ≡ true = rw (first, ← m.exact v, e) in
         refuse m.size (rw (repeated_later (left - 1) chosen again) (or-true (ltb 12 (length chosen))))
 
-    module _ (few : length variables ≤ 32) (ok : unfit variables given (get_or chosen (left - 1) 0) ≡ false) where
-      pub has_mark : get_or chosen (left - 1) 0 < length marks
+    module _ (few : length variables ≤ 32) (ok : unfit variables given v ≡ false) where
+      pub has_mark : v < length marks
       has_mark = let k = (can_give variables given YesNo v ok).known in let s = m.size in omega arith
 
-      pub turn : marked marks (get_or chosen (left - 1) 0) ≡ false → MarkingChosen variables given chosen (set marks (get_or chosen (left - 1) 0) 1) (left - 1)
+      pub turn : marked marks v ≡ false → {next : ℕ} → next ≡ left - 1 → MarkingChosen variables given chosen (set marks v 1) next
       unfolding repeats any among
-      turn new =
+      turn new {next} e =
           let i = m.inside in
-          record {
+          rw e (record {
             size = length-set marks v 1 ∙ m.size;
             inside = omega arith;
             once = rw (first, ← m.exact v, new) m.once;
             fits = rw (first, ok) m.fits;
             exact = λ w. rw (marked_set marks v w has_mark, m.exact w, first) (swap (among (drop left chosen) w) (eqb w v));
-          }
+          })
         where
           swap : (a b : Bool) → (a || b) ≡ (b || a)
           swap true b = sym (or-true b)

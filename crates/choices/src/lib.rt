@@ -6,12 +6,12 @@ ghost use Rattle.std.specs.Prelude.{◌≡◌, ◌≤◌, length, replicate, map
 ghost use Rattle.cells.specs.Cells.{given_of};
 ghost use Rattle.book.specs.Decode.{scopes_of};
 ghost use Rattle.book.specs.References.{scope_at};
-ghost use Rattle.index.specs.Index.{Laid};
 ghost use Rattle.lists.specs.Reading.{typed};
 ghost use Rattle.choices.specs.Marks.{ChosenMarked, MarkedWritten};
 ghost use Rattle.choices.specs.Choosing.{Choosing};
 
 use book::ValueType;
+use index::IndexedBook;
 use inputs::cannot_give;
 use signatures::fill_types;
 
@@ -24,14 +24,11 @@ fn mark_chosen(types: &[u8], given: &[u64], chosen: &[u8], marks: &mut [u8]) -> 
     if 12 < chosen.len() {
         return false;
     }
-    let mut left = chosen.len();
-    while 0 < left {
-        left -= 1;
-        let v = chosen[left];
-        if cannot_give(types, given, ValueType::YesNo, v) {
+    for v in chosen.iter().rev() {
+        if cannot_give(types, given, ValueType::YesNo, *v) {
             return false;
         }
-        let at = v as usize;
+        let at = usize::from(*v);
         if marks[at] != 0 {
             return false;
         }
@@ -46,33 +43,28 @@ fn order_marked(marks: &[u8], ordered: &mut [u8])
     requires ordered_len { length ordered.old ≡ 32 }
     ensures { MarkedWritten marks.now ordered.new }
 {
-    let mut count: usize = 0;
-    let mut v: usize = 0;
-    while v < marks.len() {
-        if marks[v] != 0 {
+    let mut count = 0;
+    for (v, mark) in marks.iter().enumerate() {
+        if *mark != 0 {
             ordered[count] = v as u8;
             count += 1;
         }
-        v += 1;
     }
 }
 
 // Judges the chosen variables of scope i, and writes them in number order; whether they are good.
 pub fn choose(
-    book: &[u8],
-    index: &[u16],
+    book: &IndexedBook,
     i: usize,
     given: &[u64],
     chosen: &[u8],
     ordered: &mut [u8],
 ) -> bool
-    requires laid { Laid book.now index.now }
-    requires i_len_bound { length (scope_at (scopes_of book.now) i).variables ≤ 32 }
-    requires ordered_len { length ordered.old ≡ 32 }
-    ensures { Choosing (scope_at (scopes_of book.now) i).variables (map given_of given.now) chosen.now result ordered.new }
+    requires { length ordered.old ≡ 32 }
+    ensures { Choosing (scope_at (scopes_of book.now.bytes.now) i).variables (map given_of given.now) chosen.now result ordered.new }
 {
     let mut types = [0u8; 32];
-    let n = fill_types(book, index, i, &mut types);
+    let n = fill_types(book, i, &mut types);
     let mut marks = [0u8; 32];
     if !mark_chosen(&types[..n], given, chosen, &mut marks) {
         return false;

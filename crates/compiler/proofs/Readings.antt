@@ -14,30 +14,28 @@ use mathlib.Core.Bool.{false≢true}
 use mathlib.Core.List.{List, ◌++◌}
 use native.Mathlib.Omega.{arith}
 use lib.ListN.{length, drop}
+use Rattle.std.specs.Prelude.{Result, ℕ, Ok, Err}
 use Rattle.book.specs.Decode.{scopes_of}
 use Rattle.book.specs.Judge.{judge}
 use Rattle.answers.specs.Response.{on_judged, memory_after}
 use Rattle.answers.specs.Numbers.{produced_numbers}
-use Rattle.answers.specs.declared.Judged.{Judged}
-use Rattle.answers.specs.declared.Judged.TheVariants as judged
 use Rattle.answers.specs.declared.Refusal.{Refusal}
 use Rattle.answers.specs.declared.Refusal.TheVariants.{Book, BufferTooSmall}
-use Rattle.answers.specs.declared.Produced.{Produced}
-use Rattle.answers.specs.declared.Produced.TheVariants.{Written, Refused}
 use Rattle.translation.specs.Blocks.{code_of}
 use Rattle.translation.proofs.Lengths.{code_bound, code_max}
 use Rattle.answers.specs.Production.{Production, refuse, fitting}
 use Rattle.answers.proofs.Within.{Within, is_written, fitting_cases, within_refused, within_unchanged, within_size, within_length}
 use Rattle.compiler.specs.Compile.{compile}
 use Rattle.compiler.specs.Answers.{Replied, InCode}
+use Rattle.answers.specs.declared.Fault.{Fault}
 
 module _ (bytes : List ℕ) (room : ℕ) where
-  on_fitting : (n : ℕ) → judge bytes ≡ judged.Accepted n → Replied bytes room (fitting (code_of (scopes_of bytes)) room)
+  on_fitting : (n : ℕ) → judge bytes ≡ Ok n → Replied bytes room (fitting (code_of (scopes_of bytes)) room)
   on_fitting n h = fitting_cases (Replied bytes room) (code_of (scopes_of bytes)) room (Replied.whole n h) (Replied.short n h)
 
-  on_judged_lem : (j : Judged) → judge bytes ≡ j → Replied bytes room (on_judged refuse j (fitting (code_of (scopes_of bytes)) room))
-  on_judged_lem (judged.Accepted n) h = on_fitting n h
-  on_judged_lem (judged.Refused f) h = Replied.faulty f h
+  on_judged_lem : (j : Result ℕ Fault) → judge bytes ≡ j → Replied bytes room (on_judged refuse j (fitting (code_of (scopes_of bytes)) room))
+  on_judged_lem (Ok n) h = on_fitting n h
+  on_judged_lem (Err f) h = Replied.faulty f h
 
   pub compiled_replied : Replied bytes room (compile bytes room)
   unfolding compile
@@ -55,10 +53,10 @@ module _ (bytes memory : List ℕ) where
   compiled_within : Within (length memory) reply
   compiled_within = within reply (compiled_replied bytes (length memory))
 
-  pub compiled_refused : (r : Refusal) → reply.answer ≡ Refused r → memory_after reply memory ≡ memory
+  pub compiled_refused : (r : Refusal) → reply.answer ≡ Err r → memory_after reply memory ≡ memory
   compiled_refused r e = within_refused compiled_within r e memory
 
-  pub compiled_unchanged : ((size : ℕ) → reply.answer ≡ Written size → ⊥) → memory_after reply memory ≡ memory
+  pub compiled_unchanged : ((size : ℕ) → reply.answer ≡ Ok size → ⊥) → memory_after reply memory ≡ memory
   compiled_unchanged other = within_unchanged compiled_within other memory
 
   pub compiled_size : length (memory_after reply memory) ≡ length memory
@@ -75,12 +73,12 @@ module _ (bytes memory : List ℕ) where
   pub compiled_most : (produced_numbers reply.answer).length ≤ 201435
   compiled_most = most reply (compiled_replied bytes (length memory))
 
-  in_code : (size : ℕ) (p : Production) → Replied bytes (length memory) p → p.answer ≡ Written size → InCode bytes memory size (memory_after p memory)
+  in_code : (size : ℕ) (p : Production) → Replied bytes (length memory) p → p.answer ≡ Ok size → InCode bytes memory size (memory_after p memory)
   unfolding memory_after
   in_code size p (Replied.faulty f h) e = absurd (false≢true (ap is_written e))
   in_code size p (Replied.short n h l) e = absurd (false≢true (ap is_written e))
   in_code size p (Replied.whole n h l) e =
-      let whole : length (code_of (scopes_of bytes)) ≡ size = ap (λ (r : Produced). (produced_numbers r).length) e in
+      let whole : length (code_of (scopes_of bytes)) ≡ size = ap (λ (r : Result ℕ Refusal). (produced_numbers r).length) e in
       record {
         scopes = n;
         accepted = h;
@@ -90,5 +88,5 @@ module _ (bytes memory : List ℕ) where
         written = ap (λ (k : ℕ). code_of (scopes_of bytes) ++ drop k memory) whole;
       }
 
-  pub compiled_code : (size : ℕ) → reply.answer ≡ Written size → InCode bytes memory size (memory_after reply memory)
+  pub compiled_code : (size : ℕ) → reply.answer ≡ Ok size → InCode bytes memory size (memory_after reply memory)
   compiled_code size = in_code size reply (compiled_replied bytes (length memory))

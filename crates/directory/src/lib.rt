@@ -1,7 +1,7 @@
 // The directory of a code's blocks, as specs/Layout.antt sets it out: where each number stands, and its readers.
 #![tactic(auto)]
 
-ghost use Rattle.std.specs.Prelude.{◌≡◌, ◌<◌, ◌≤◌, length, get_or, List};
+ghost use Rattle.std.specs.Prelude.{◌≡◌, ◌-◌, ◌<◌, ◌≤◌, length, get_or, List, SomeIff};
 ghost use Rattle.book.specs.Syntax.{type_of};
 ghost use Rattle.book.specs.declared.Variable.{Variable};
 ghost use Rattle.lists.specs.Reading.{Filled};
@@ -36,17 +36,17 @@ pub const TYPES: usize = 45;
 fn entry_at(directory: &[usize], i: usize) -> usize
     ensures { result ≡ get_or directory.now i 0 }
 {
-    if i < directory.len() { directory[i] } else { 0 }
+    directory.get(i).copied().unwrap_or(0)
 }
 
-// Of a scope 1 more than the number of its block; 0 where it has none.
-pub fn place_of(directory: &[usize], scope: usize) -> usize
-    ensures { result ≡ place_in directory.now scope }
+// The block of a scope, if it has one.
+pub fn place_of(directory: &[usize], scope: usize) -> Option<usize>
+    ensures { SomeIff result (0 < place_in directory.now scope) (place_in directory.now scope - 1) }
 {
     if scope < PLACES {
-        return entry_at(directory, scope);
+        return entry_at(directory, scope).checked_sub(1);
     }
-    0
+    None
 }
 
 // The instructions of block p.
@@ -113,10 +113,8 @@ pub fn fill_types(directory: &[usize], p: usize, types: &mut [u8]) -> usize
     ensures { (vs : List Variable) → Declares directory.now p vs → Filled vs result types.new }
 {
     let count = variables_in(directory, p);
-    let mut v: usize = 0;
-    while v < count {
+    for v in 0..count {
         types[v] = type_byte(directory, p, v);
-        v += 1;
     }
     count
 }

@@ -12,8 +12,9 @@ use native.Mathlib.Omega.{arith}
 use lib.ListN.{length, get_or, replicate, length-replicate, get_or-replicate}
 use lib.Seq.{get_or-take}
 use lib.Dec.{ltb}
+use Rattle.std.specs.Prelude.{Ok}
 use Rattle.slices.specs.Bytes.{bytes_of}
-use Rattle.book.specs.Syntax.{Scope}
+use Rattle.book.specs.Syntax.{Scope, type_byte}
 use Rattle.book.specs.Decode.{scopes_of}
 use Rattle.book.specs.References.{scope_at}
 use Rattle.book.specs.Positions.{variable_at, sub_scope_at}
@@ -28,7 +29,7 @@ use Rattle.acceptance.proofs.Acceptance.{accepted_faultless}
 use Rattle.acceptance.proofs.Orders.{accepted_book}
 use Rattle.links.specs.Links.{Sound, Blank}
 use Rattle.translation.specs.Code.{size}
-use Rattle.translation.specs.Blocks.{type_byte, variable_code, override_code, overrides_code, call_code, step_code, steps_code, variables_code, sub_scopes_code, block_code}
+use Rattle.translation.specs.Blocks.{variable_code, override_code, overrides_code, call_code, step_code, steps_code, variables_code, sub_scopes_code, block_code}
 use Rattle.translation.specs.Blocks.{blocks_code, code_of}
 use Rattle.translation.proofs.Sizes.{code_length}
 use Rattle.translation.proofs.Runnable.{tree_runnable}
@@ -39,7 +40,6 @@ use Rattle.emitter.specs.Pieces.{heads_piece, heads_size, block_piece, block_siz
 use Rattle.emitter.specs.Pieces.{book_piece, book_size, Block, Tabled}
 use Rattle.emitter.proofs.Emission.{alike, Downward, stop}
 use Rattle.emitter.proofs.Pieces.{call_size_lem, variable_size_lem, steps_size_lem, heads_size_lem, variables_counted, sub_scopes_counted, block_size_lem}
-use Rattle.answers.specs.declared.Judged.TheVariants as judged
 
 -- Sums and lists of pieces
 
@@ -171,15 +171,15 @@ module _ (bytes : List ℕ) (i : ℕ) where
 
 -- blocks in front of other bytes
 unfoldable blocks_from_lem : List Scope → List ℕ → List ℕ → List ℕ
-blocks_from_lem book [] k = k
-blocks_from_lem book (i ∷ is) k = block_code book i (blocks_from_lem book is k)
+blocks_from_lem scopes [] k = k
+blocks_from_lem scopes (i ∷ is) k = block_code scopes i (blocks_from_lem scopes is k)
 
 blocks_from : (book : List Scope) (is : List ℕ) → blocks_from_lem book is [] ≡ blocks_code book is
 unfolding blocks_from_lem blocks_code
-blocks_from book [] = refl
-blocks_from book (i ∷ is) = ap (block_code book i) (blocks_from book is)
+blocks_from scopes [] = refl
+blocks_from scopes (i ∷ is) = ap (block_code scopes i) (blocks_from scopes is)
 
-module _ (bytes : List ℕ) (n : ℕ) (ok : judge bytes ≡ judged.Accepted n) where
+module _ (bytes : List ℕ) (n : ℕ) (ok : judge bytes ≡ Ok n) where
   accepted : AcceptedBook bytes n
   accepted = accepted_book bytes n ok
 

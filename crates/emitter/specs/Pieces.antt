@@ -1,5 +1,5 @@
 -- The parts of a book's code, with their sizes.
-use Rattle.std.specs.Prelude.{ℕ, ◌+◌, ◌-◌, ◌*◌, ◌<◌, ◌≡◌, Bool, true, false, cond, ◌&&◌, List, ◌∷◌, ◌++◌, length, get_or, take, drop, eqb, ltb}
+use Rattle.std.specs.Prelude.{ℕ, ◌+◌, ◌-◌, ◌*◌, ◌<◌, ◌≡◌, Bool, true, false, cond, ◌&&◌, List, ◌∷◌, ◌++◌, length, get_or, take, drop, eqb, ltb, Ok}
 use Rattle.slices.specs.Bytes.{bytes_of}
 use Rattle.calculus.specs.Terms.{Term, Terms, literal, error, default, none}
 use Rattle.calculus.specs.declared.Value.TheVariants.{Truth}
@@ -13,10 +13,10 @@ use Rattle.book.specs.Scopes.{blocks}
 use Rattle.book.specs.Positions.{variable_at, sub_scope_at, clause_at}
 use Rattle.index.specs.Index.{Laid}
 use Rattle.book.specs.declared.Consequence.{Consequence}
-use Rattle.answers.specs.declared.Judged.TheVariants.{Accepted}
 use Rattle.links.specs.Links.{head_of, in_chain, Sound}
 use Rattle.translation.specs.Code.{far, if_any, size, sizes, code, codes}
-use Rattle.translation.specs.Blocks.{type_byte, override_code}
+use Rattle.translation.specs.Blocks.{override_code}
+use Rattle.book.specs.Syntax.{type_byte}
 use Rattle.emitter.specs.Emission.{Emits, each, total}
 
 -- Nodes
@@ -218,7 +218,7 @@ pub record Block (bytes index orders : List ℕ) (i : ℕ) : Type 0 where
 
 -- the tables of an accepted book of n scopes
 pub record Tabled (bytes index blocksTable orders : List ℕ) (n : ℕ) : Type 0 where
-  pub accepted : judge bytes ≡ Accepted n
+  pub accepted : judge bytes ≡ Ok n
   pub laid : Laid bytes index
   pub block_order : take (length (scopes_of bytes)) blocksTable ≡ blocks (scopes_of bytes)
   pub step_orders : (i : ℕ) → i < length (scopes_of bytes)

@@ -5,11 +5,11 @@ use mathlib.Core.List.{List, ◌++◌}
 use lib.ListN.{length, take, drop}
 use lib.Seq.{take-append_seam, drop-append_seam}
 use borrow.Author.Tests.{le-leb}
+use Rattle.std.specs.Prelude.{Ok}
 use Rattle.book.specs.Decode.{scopes_of}
 use Rattle.book.specs.Judge.{judge}
 use Rattle.answers.specs.Response.{memory_after}
 use Rattle.answers.specs.Numbers.{produced_numbers}
-use Rattle.answers.specs.declared.Judged.TheVariants.{Accepted}
 use Rattle.evaluation.specs.Evaluate.{Reply, evaluate}
 use Rattle.evaluator.specs.Service.{Evaluated}
 use Rattle.translation.specs.Blocks.{code_of}
@@ -17,12 +17,11 @@ use Rattle.machine.specs.Service.{run}
 use Rattle.agreement.proofs.Agreement.{agreement}
 use Rattle.answers.specs.Production.{Production, fitting}
 use Rattle.compiler.specs.Compile.{compile, Compiles}
-use Rattle.answers.specs.declared.Produced.TheVariants as produced
 use Rattle.runner.specs.Service.{Runs}
 use Rattle.engine.specs.Claim.{Memories, written_code, Agreed, Together}
 use Rattle.engine.specs.declared.Answers.{Answers}
 
-module _ (bytes : List ℕ) (n i : ℕ) (list : List ℕ) (m : Memories) (r : Answers) (accepts : judge bytes ≡ Accepted n)
+module _ (bytes : List ℕ) (n i : ℕ) (list : List ℕ) (m : Memories) (r : Answers) (accepts : judge bytes ≡ Ok n)
     (fits : length (code_of (scopes_of bytes)) ≤ length m.code_before)
     (compiling : Compiles bytes m.code_before r.compiled m.code_after)
     (evaluating : Evaluated bytes i list m.evaluated_before r.evaluated m.evaluated_after)
@@ -31,11 +30,11 @@ module _ (bytes : List ℕ) (n i : ℕ) (list : List ℕ) (m : Memories) (r : An
   code = code_of (scopes_of bytes)
 
   -- the code fits, so it is what compiling answers
-  compiles : compile bytes (length m.code_before) ≡ record { answer = produced.Written (length code); written = code }
+  compiles : compile bytes (length m.code_before) ≡ record { answer = Ok (length code); written = code }
   unfolding compile fitting
   compiles = rw (accepts, le-leb (length code) (length m.code_before) fits)
 
-  answered : r.compiled ≡ produced.Written (length code)
+  answered : r.compiled ≡ Ok (length code)
   answered = compiling.answer ∙ ap (λ (c : Production). c.answer) compiles
 
   memory : m.code_after ≡ code ++ drop (length code) m.code_before

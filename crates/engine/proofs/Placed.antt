@@ -8,16 +8,13 @@ use mathlib.Core.Path.{◌≡◌, refl}
 use mathlib.Core.List.{List}
 use native.Mathlib.Omega.{arith}
 use lib.ListN.{length}
+use Rattle.std.specs.Prelude.{Result, ℕ, Ok, Err}
 use Rattle.answers.specs.Numbers.{refusal_number, cause_number, refused_numbers, judged_numbers, produced_numbers, answer_numbers}
 use Rattle.answers.specs.declared.Cause.{Cause}
 use Rattle.answers.specs.declared.Side.TheVariants.{Above, Below}
 use Rattle.answers.specs.declared.Cause.TheVariants.{Empty, Conflict, OutOfRange}
 use Rattle.answers.specs.declared.Refusal.{Refusal}
 use Rattle.answers.specs.declared.Refusal.TheVariants.{Book, NoSuchScope, BadInput, BufferTooSmall, BadCode, Stuck, BadChoice}
-use Rattle.answers.specs.declared.Judged.{Judged}
-use Rattle.answers.specs.declared.Judged.TheVariants as judged
-use Rattle.answers.specs.declared.Produced.{Produced}
-use Rattle.answers.specs.declared.Produced.TheVariants as produced
 use Rattle.answers.specs.declared.Answer.{Answer}
 use Rattle.answers.specs.declared.Answer.TheVariants as answer
 use Rattle.book.specs.Judge.{judge}
@@ -32,6 +29,7 @@ use Rattle.compiler.proofs.Readings.{compiled_most}
 use Rattle.machine.specs.Service.{run}
 use Rattle.runner.proofs.Answers.{ran_count_lem, ran_short}
 use Rattle.numbers.specs.Packed.{Placed}
+use Rattle.answers.specs.declared.Fault.{Fault}
 
 refusal_small : (r : Refusal) → refusal_number r < 256
 refusal_small (Book f) = omega (arith, number_bound f)
@@ -51,20 +49,20 @@ cause_small (OutOfRange Below) = omega arith
 refused_placed : (r : Refusal) → Placed (refused_numbers r)
 refused_placed r = record { refusal = refusal_small r; outcome = omega arith; count = omega arith; length = omega arith }
 
-answer_placed : (a : Answer) → count_in a ≤ 4096 → length_in a ≤ 192 → Placed (answer_numbers a)
-answer_placed (answer.Values n l) h k = record { refusal = omega arith; outcome = omega arith; count = omega arith; length = omega arith }
-answer_placed (answer.Ended c n) h k = record { refusal = omega arith; outcome = cause_small c; count = omega arith; length = omega arith }
-answer_placed (answer.Refused r) h k = refused_placed r
+answer_placed : (a : Result Answer Refusal) → count_in a ≤ 4096 → length_in a ≤ 192 → Placed (answer_numbers a)
+answer_placed (Ok (answer.Values n l)) h k = record { refusal = omega arith; outcome = omega arith; count = omega arith; length = omega arith }
+answer_placed (Ok (answer.Ended c n)) h k = record { refusal = omega arith; outcome = cause_small c; count = omega arith; length = omega arith }
+answer_placed (Err r) h k = refused_placed r
 
-produced_placed : (p : Produced) → (produced_numbers p).length ≤ 643072 → Placed (produced_numbers p)
-produced_placed (produced.Written n) h = record { refusal = omega arith; outcome = omega arith; count = omega arith; length = omega arith }
-produced_placed (produced.Refused r) h = refused_placed r
+produced_placed : (p : Result ℕ Refusal) → (produced_numbers p).length ≤ 643072 → Placed (produced_numbers p)
+produced_placed (Ok n) h = record { refusal = omega arith; outcome = omega arith; count = omega arith; length = omega arith }
+produced_placed (Err r) h = refused_placed r
 
-judged_placed : (bytes : List ℕ) (j : Judged) → judge bytes ≡ j → Placed (judged_numbers j)
-judged_placed bytes (judged.Accepted n) e =
+judged_placed : (bytes : List ℕ) (j : Result ℕ Fault) → judge bytes ≡ j → Placed (judged_numbers j)
+judged_placed bytes (Ok n) e =
     let few = (accepted_book bytes n e).scopes in
     record { refusal = omega arith; outcome = omega arith; count = omega arith; length = omega arith }
-judged_placed bytes (judged.Refused f) e = refused_placed (Book f)
+judged_placed bytes (Err f) e = refused_placed (Book f)
 
 pub judge_placed : (bytes : List ℕ) → Placed (judged_numbers (judge bytes))
 judge_placed bytes = judged_placed bytes (judge bytes) refl

@@ -1,20 +1,17 @@
 -- The claim about the services, "a single claim about the four services together, not one for each": if a book is accepted and its code fits the
 -- memory lent, compiling writes exactly that code, the code is accepted, and running it is never stuck, agrees with evaluating and counts no more
 -- scopes than the weight. The records here are of one scope number, input list and result memory; the promise of `all_services` is for all of them.
-use Rattle.std.specs.Prelude.{ℕ, ◌≤◌, ◌≡◌, true, List, length, take, drop}
+use Rattle.std.specs.Prelude.{ℕ, ◌≤◌, ◌≡◌, true, List, length, take, drop, Ok, Err}
 use Rattle.book.specs.Decode.{scopes_of}
 use Rattle.book.specs.Scopes.{weight}
 use Rattle.book.specs.Judge.{judge}
 use Rattle.answers.specs.Numbers.{produced_numbers}
-use Rattle.answers.specs.declared.Judged.TheVariants.{Accepted}
 use Rattle.evaluation.specs.Evaluate.{count_in}
 use Rattle.answers.specs.declared.Refusal.TheVariants.{BadCode, Stuck}
-use Rattle.answers.specs.declared.Answer.TheVariants.{Refused}
 use Rattle.evaluator.specs.Service.{Evaluated}
 use Rattle.translation.specs.Blocks.{code_of}
 use Rattle.machine.specs.Acceptance.{accepted}
 use Rattle.compiler.specs.Compile.{Compiles}
-use Rattle.answers.specs.declared.Produced.TheVariants as produced
 use Rattle.runner.specs.Service.{Runs}
 use Rattle.engine.specs.declared.Answers.{Answers}
 
@@ -35,14 +32,14 @@ written_code m r = take (produced_numbers r.compiled).length m.code_after
 pub record Agreed (bytes code : List ℕ) (i : ℕ) (m : Memories) (r : Answers) : Type 0 where
   -- compiling writes exactly that code; "Lent memory changes only where code or values are written, from its first byte, and nothing after
   -- them"
-  pub sized : r.compiled ≡ produced.Written (length code)
+  pub sized : r.compiled ≡ Ok (length code)
   pub written : written_code m r ≡ code
   pub kept : drop (length code) m.code_after ≡ drop (length code) m.code_before
   -- "A book is accepted when none of faults 1 to 12 is in it, code when 16 is not"
   pub accepts : accepted (written_code m r) ≡ true
   -- running it is refused with neither 16 nor 17
-  pub never_bad : r.ran ≡ Refused BadCode → ⊥
-  pub never_stuck : r.ran ≡ Refused Stuck → ⊥
+  pub never_bad : r.ran ≡ Err BadCode → ⊥
+  pub never_stuck : r.ran ≡ Err Stuck → ⊥
   -- "Run and evaluation get the same scope number and input bytes and equal result memories": then they give the same answer and leave the
   -- same bytes. A side is part of the answer: "Code and evaluation name the same side"
   pub answers : m.ran_before ≡ m.evaluated_before → r.ran ≡ r.evaluated
@@ -58,5 +55,5 @@ pub record Together (bytes : List ℕ) (i : ℕ) (list : List ℕ) (m : Memories
   pub compiling : Compiles bytes m.code_before r.compiled m.code_after
   pub evaluating : Evaluated bytes i list m.evaluated_before r.evaluated m.evaluated_after
   pub running : Runs (written_code m r) i list m.ran_before r.ran m.ran_after
-  pub claim : (n : ℕ) → judge bytes ≡ Accepted n → length (code_of (scopes_of bytes)) ≤ length m.code_before
+  pub claim : (n : ℕ) → judge bytes ≡ Ok n → length (code_of (scopes_of bytes)) ≤ length m.code_before
       → Agreed bytes (code_of (scopes_of bytes)) i m r

@@ -2,11 +2,9 @@
 // them. It is the one crate that a user names.
 #![tactic(auto)]
 
-ghost use Rattle.std.specs.Prelude.{◌≡◌};
-ghost use Rattle.answers.specs.Numbers.{produced_numbers};
 ghost use Rattle.engine.specs.Claim.{Together};
 
-pub use answers::{Answer, Cause, Fault, Judged, Produced, Refusal, Side};
+pub use answers::{Answer, Cause, Fault, Refusal, Side};
 pub use compiler::compile;
 pub use evaluator::evaluate;
 pub use judge::judge;
@@ -16,22 +14,12 @@ use slices::part_of;
 pub use tabulator::tabulate;
 
 // What the four services answer.
-#[derive(Clone, Copy)]
+#[derive(Clone, Copy, Debug, PartialEq, Eq)]
 pub struct Answers {
-    pub judged: Judged,
-    pub compiled: Produced,
-    pub evaluated: Answer,
-    pub ran: Answer,
-}
-
-// The length of the code that compiling handed back; 0 with a refusal.
-fn written_length(p: Produced) -> usize
-    ensures { result ≡ (produced_numbers p).length }
-{
-    match p {
-        Produced::Written(n) => n,
-        Produced::Refused(_) => 0,
-    }
+    pub judged: Result<usize, Fault>,
+    pub compiled: Result<usize, Refusal>,
+    pub evaluated: Result<Answer, Refusal>,
+    pub ran: Result<Answer, Refusal>,
 }
 
 // All four services on one book: judges it, compiles it into the code memory, evaluates a scope of it, and runs the code that compiling
@@ -58,11 +46,11 @@ pub fn all_services(
     let judged = judge(book);
     let compiled = compile(book, code);
     let evaluation = evaluate(book, scope, inputs, evaluated);
-    let written = part_of(code, 0, written_length(compiled));
+    let written = part_of(code, 0, compiled.unwrap_or(0));
     let running = run(written, scope, inputs, ran);
     Answers {
-        judged: judged,
-        compiled: compiled,
+        judged,
+        compiled,
         evaluated: evaluation,
         ran: running,
     }

@@ -18,6 +18,7 @@ use native.Mathlib.Omega.{arith}
 use lib.ListN.{length, drop, length-append, length-drop}
 use lib.Dec.{ltb, leb}
 use borrow.Author.Tests.{ltb-true, ltb-false, leb-true, leb-false}
+use Rattle.std.specs.Prelude.{Result, ℕ, Ok, Err}
 use Rattle.answers.specs.Response.{on_judged, memory_after}
 use Rattle.answers.specs.declared.Cause.{Cause}
 use Rattle.answers.specs.declared.Cause.TheVariants.{Empty}
@@ -25,8 +26,6 @@ use Rattle.laws.proofs.Booleans.{decide}
 use Rattle.book.specs.Decode.{scopes_of}
 use Rattle.book.specs.References.{scope_at}
 use Rattle.book.specs.Judge.{judge}
-use Rattle.answers.specs.declared.Judged.{Judged}
-use Rattle.answers.specs.declared.Judged.TheVariants as judged
 use Rattle.lists.specs.Inputs.{Inputs, bad, good, inputs}
 use Rattle.lists.specs.Results.{result_length, results}
 use Rattle.lists.proofs.Lengths.{length_most}
@@ -37,10 +36,11 @@ use Rattle.evaluation.specs.Evaluate.{count_in, length_in, Reply, refuse, reply_
 use Rattle.evaluation.specs.Answers.{Asked, Entering, Replied, InValues, InEnd}
 use Rattle.answers.specs.declared.Refusal.{Refusal}
 use Rattle.answers.specs.declared.Answer.{Answer}
-use Rattle.answers.specs.declared.Answer.TheVariants.{Values, Ended, Refused}
+use Rattle.answers.specs.declared.Answer.TheVariants.{Values, Ended}
 use Rattle.evaluation.proofs.Running.{count_of}
 use Rattle.evaluation.proofs.Counts.{values_count, ended_count, entered_small}
 use Rattle.evaluation.proofs.Types.{inputs_fitting, values_typed, values_length}
+use Rattle.answers.specs.declared.Fault.{Fault}
 
 module _ (bytes : List ℕ) (i : ℕ) (list : List ℕ) (room : ℕ) where
   on_entered_lem : (e : Entering bytes i list room) (r : Entered) → run_scope (scopes_of bytes) i e.given ≡ r
@@ -67,7 +67,7 @@ module _ (bytes : List ℕ) (i : ℕ) (list : List ℕ) (room : ℕ) where
       (λ (q : leb (result_length variables) room ≡ false). rw q (Replied.short a given h (leb-false (result_length variables) room q)))
       (decide (leb (result_length variables) room))
 
-  on_asked : (n : ℕ) → judge bytes ≡ judged.Accepted n → Replied bytes i list room (asked (scopes_of bytes) i list room)
+  on_asked : (n : ℕ) → judge bytes ≡ Ok n → Replied bytes i list room (asked (scopes_of bytes) i list room)
   unfolding asked_by
   on_asked n h =
       let book = scopes_of bytes in
@@ -79,9 +79,9 @@ module _ (bytes : List ℕ) (i : ℕ) (list : List ℕ) (room : ℕ) where
       (λ (q : ltb i (length book) ≡ false). rw q (Replied.absent n h (omega (arith, ltb-false i (length book) q, count))))
       (decide (ltb i (length book)))
 
-  on_judged_lem : (j : Judged) → judge bytes ≡ j → Replied bytes i list room (on_judged refuse j (asked (scopes_of bytes) i list room))
-  on_judged_lem (judged.Accepted n) h = on_asked n h
-  on_judged_lem (judged.Refused f) h = Replied.faulty f h
+  on_judged_lem : (j : Result ℕ Fault) → judge bytes ≡ j → Replied bytes i list room (on_judged refuse j (asked (scopes_of bytes) i list room))
+  on_judged_lem (Ok n) h = on_asked n h
+  on_judged_lem (Err f) h = Replied.faulty f h
 
   pub replied : Replied bytes i list room (evaluate bytes i list room)
   unfolding evaluate_by
@@ -89,26 +89,26 @@ module _ (bytes : List ℕ) (i : ℕ) (list : List ℕ) (room : ℕ) where
 
 -- Parts of an answer
 
-abbrev pub is_values : Answer → Bool
-is_values (Values c n) = true
-is_values (Ended d c) = false
-is_values (Refused r) = false
+abbrev pub is_values : Result Answer Refusal → Bool
+is_values (Ok (Values c n)) = true
+is_values (Ok (Ended d c)) = false
+is_values (Err r) = false
 
-abbrev pub is_end : Answer → Bool
-is_end (Values c n) = false
-is_end (Ended d c) = true
-is_end (Refused r) = false
+abbrev pub is_end : Result Answer Refusal → Bool
+is_end (Ok (Values c n)) = false
+is_end (Ok (Ended d c)) = true
+is_end (Err r) = false
 
-abbrev pub cause_in : Answer → Cause
-cause_in (Values c n) = Empty
-cause_in (Ended d c) = d
-cause_in (Refused r) = Empty
+abbrev pub cause_in : Result Answer Refusal → Cause
+cause_in (Ok (Values c n)) = Empty
+cause_in (Ok (Ended d c)) = d
+cause_in (Err r) = Empty
 
 sum_size : (a n b m : ℕ) → a ≡ n → n ≤ m → b ≡ m - n → a + b ≡ m
 sum_size a n b m p q r = omega arith
 
 module _ (bytes : List ℕ) (i : ℕ) (list memory : List ℕ) where
-  in_values_lem : (c n : ℕ) (r : Reply) → Replied bytes i list (length memory) r → r.answer ≡ Values c n
+  in_values_lem : (c n : ℕ) (r : Reply) → Replied bytes i list (length memory) r → r.answer ≡ Ok (Values c n)
       → InValues bytes i list memory c n (memory_after r memory)
   unfolding memory_after
   in_values_lem c n r (Replied.faulty f h) e = absurd (false≢true (ap is_values e))
@@ -133,7 +133,7 @@ module _ (bytes : List ℕ) (i : ℕ) (list memory : List ℕ) where
         written = ap (λ (k : ℕ). results vs ++ drop k memory) size;
       }
 
-  in_end_lem : (d : Cause) (c : ℕ) (r : Reply) → Replied bytes i list (length memory) r → r.answer ≡ Ended d c
+  in_end_lem : (d : Cause) (c : ℕ) (r : Reply) → Replied bytes i list (length memory) r → r.answer ≡ Ok (Ended d c)
       → InEnd bytes i list memory d c (memory_after r memory)
   unfolding memory_after
   in_end_lem d c r (Replied.faulty f h) e = absurd (false≢true (ap is_end e))
@@ -156,42 +156,42 @@ module _ (bytes : List ℕ) (i : ℕ) (list memory : List ℕ) where
   nothing_written r (Replied.stopped a d k h) e = refl
   nothing_written r (Replied.finished a vs k h) e = absurd (false≢true (sym e))
 
-  pub evaluated_values : (count size : ℕ) → (evaluate bytes i list (length memory)).answer ≡ Values count size
+  pub evaluated_values : (count size : ℕ) → (evaluate bytes i list (length memory)).answer ≡ Ok (Values count size)
       → InValues bytes i list memory count size (memory_after (evaluate bytes i list (length memory)) memory)
   evaluated_values c n = in_values_lem c n (evaluate bytes i list (length memory)) (replied bytes i list (length memory))
 
-  pub evaluated_end : (cause : Cause) (count : ℕ) → (evaluate bytes i list (length memory)).answer ≡ Ended cause count
+  pub evaluated_end : (cause : Cause) (count : ℕ) → (evaluate bytes i list (length memory)).answer ≡ Ok (Ended cause count)
       → InEnd bytes i list memory cause count (memory_after (evaluate bytes i list (length memory)) memory)
   evaluated_end d c = in_end_lem d c (evaluate bytes i list (length memory)) (replied bytes i list (length memory))
 
-  pub evaluated_refused : (r : Refusal) → (evaluate bytes i list (length memory)).answer ≡ Refused r
+  pub evaluated_refused : (r : Refusal) → (evaluate bytes i list (length memory)).answer ≡ Err r
       → memory_after (evaluate bytes i list (length memory)) memory ≡ memory
   evaluated_refused r e = nothing_written (evaluate bytes i list (length memory)) (replied bytes i list (length memory)) (ap is_values e)
 
-  pub evaluated_unchanged : ((count size : ℕ) → (evaluate bytes i list (length memory)).answer ≡ Values count size → ⊥)
+  pub evaluated_unchanged : ((count size : ℕ) → (evaluate bytes i list (length memory)).answer ≡ Ok (Values count size) → ⊥)
       → memory_after (evaluate bytes i list (length memory)) memory ≡ memory
   evaluated_unchanged other =
       nothing_written (evaluate bytes i list (length memory)) (replied bytes i list (length memory))
       (not_values (evaluate bytes i list (length memory)).answer other)
     where
-      not_values : (a : Answer) → ((count size : ℕ) → a ≡ Values count size → ⊥) → is_values a ≡ false
-      not_values (Values c n) h = absurd (h c n refl)
-      not_values (Ended d c) h = refl
-      not_values (Refused r) h = refl
+      not_values : (a : Result Answer Refusal) → ((count size : ℕ) → a ≡ Ok (Values count size) → ⊥) → is_values a ≡ false
+      not_values (Ok (Values c n)) h = absurd (h c n refl)
+      not_values (Ok (Ended d c)) h = refl
+      not_values (Err r) h = refl
 
   pub evaluated_size : length (memory_after (evaluate bytes i list (length memory)) memory) ≡ length memory
   evaluated_size = by_answer (evaluate bytes i list (length memory)).answer refl
     where
-      by_answer : (a : Answer) → (evaluate bytes i list (length memory)).answer ≡ a
+      by_answer : (a : Result Answer Refusal) → (evaluate bytes i list (length memory)).answer ≡ a
           → length (memory_after (evaluate bytes i list (length memory)) memory) ≡ length memory
-      by_answer (Values c n) e =
+      by_answer (Ok (Values c n)) e =
           let v = evaluated_values c n e in
           let bs = results v.finals in
           ap length v.written
           ∙ length-append bs (drop n memory)
           ∙ sum_size (length bs) n (length (drop n memory)) (length memory) v.whole v.fits (length-drop n memory)
-      by_answer (Ended d c) e = ap length (evaluated_end d c e).unchanged
-      by_answer (Refused r) e = ap length (evaluated_refused r e)
+      by_answer (Ok (Ended d c)) e = ap length (evaluated_end d c e).unchanged
+      by_answer (Err r) e = ap length (evaluated_refused r e)
 
   written_length : (r : Reply) → Replied bytes i list (length memory) r → length_in r.answer ≡ length r.written
   written_length r (Replied.faulty f h) = refl

@@ -8,16 +8,13 @@ use mathlib.Core.List.{List}
 use native.Mathlib.Omega.{arith}
 use lib.ListN.{length}
 use borrow.Author.Tests.{lt-ltb, le-ltb, le-leb, lt-leb}
-use Rattle.calculus.specs.declared.Outcome.{Outcome}
-use Rattle.calculus.specs.declared.Given.{Given}
+use Rattle.std.specs.Prelude.{Result, Option, ℕ, Ok, Err}
 use Rattle.book.specs.Decode.{scopes_of}
 use Rattle.book.specs.References.{scope_at}
 use Rattle.book.specs.Judge.{judge}
 use Rattle.book.specs.declared.Variable.{Variable}
 use Rattle.answers.specs.Response.{on_judged}
 use Rattle.answers.specs.declared.Fault.{Fault}
-use Rattle.answers.specs.declared.Judged.{Judged}
-use Rattle.answers.specs.declared.Judged.TheVariants as judged
 use Rattle.answers.specs.declared.Refusal.TheVariants.{Book, NoSuchScope, BadInput, BufferTooSmall}
 use Rattle.acceptance.proofs.Acceptance.{accepted_count}
 use Rattle.lists.specs.Inputs.{bad, good, inputs}
@@ -25,22 +22,24 @@ use Rattle.lists.specs.Results.{result_length}
 use Rattle.evaluation.specs.Handing.{Handed}
 use Rattle.evaluation.specs.Run.{run_scope_by}
 use Rattle.evaluation.specs.Evaluate.{reply_of, refuse, asked_by, evaluate_by}
+use Rattle.answers.specs.declared.Cause.{Cause}
+use Rattle.calculus.specs.declared.Value.{Value}
 
 -- `by`: what the outcome of an override tree hands over
-module _ (by : Outcome → Handed) (bytes : List ℕ) (i : ℕ) (list : List ℕ) (room : ℕ) where
-  judged_so : (j : Judged) → judge bytes ≡ j → evaluate_by by bytes i list room ≡ on_judged refuse j (asked_by by (scopes_of bytes) i list room)
+module _ (by : Result Value Cause → Handed) (bytes : List ℕ) (i : ℕ) (list : List ℕ) (room : ℕ) where
+  judged_so : (j : Result ℕ Fault) → judge bytes ≡ j → evaluate_by by bytes i list room ≡ on_judged refuse j (asked_by by (scopes_of bytes) i list room)
   unfolding evaluate_by
-  judged_so j e = ap (λ (k : Judged). on_judged refuse k (asked_by by (scopes_of bytes) i list room)) e
+  judged_so j e = ap (λ (k : Result ℕ Fault). on_judged refuse k (asked_by by (scopes_of bytes) i list room)) e
 
-  pub evaluate_faulty : (f : Fault) → judge bytes ≡ judged.Refused f → evaluate_by by bytes i list room ≡ refuse (Book f)
-  evaluate_faulty f e = judged_so (judged.Refused f) e
+  pub evaluate_faulty : (f : Fault) → judge bytes ≡ Err f → evaluate_by by bytes i list room ≡ refuse (Book f)
+  evaluate_faulty f e = judged_so (Err f) e
 
-  module _ (n : ℕ) (ok : judge bytes ≡ judged.Accepted n) where
+  module _ (n : ℕ) (ok : judge bytes ≡ Ok n) where
     abbrev variables : List Variable
     variables = (scope_at (scopes_of bytes) i).variables
 
     is_asked : evaluate_by by bytes i list room ≡ asked_by by (scopes_of bytes) i list room
-    is_asked = judged_so (judged.Accepted n) ok
+    is_asked = judged_so (Ok n) ok
 
     count : n ≡ length (scopes_of bytes)
     count = accepted_count bytes n ok
@@ -54,7 +53,7 @@ module _ (by : Outcome → Handed) (bytes : List ℕ) (i : ℕ) (list : List ℕ
       unfolding asked_by
       evaluate_malformed read = is_asked ∙ rw (lt-ltb i (length (scopes_of bytes)) (omega (arith, count)), read)
 
-      module _ (gs : List Given) (read : inputs variables list ≡ good gs) where
+      module _ (gs : List (Option Value)) (read : inputs variables list ≡ good gs) where
         pub evaluate_short : room < result_length variables → evaluate_by by bytes i list room ≡ refuse BufferTooSmall
         unfolding asked_by
         evaluate_short l = is_asked ∙ rw (lt-ltb i (length (scopes_of bytes)) (omega (arith, count)), read, lt-leb (result_length variables) room l)

@@ -9,23 +9,19 @@ use mathlib.Core.List.{List, ◌∷◌}
 use native.Mathlib.Omega.{arith}
 use lib.ListN.{length, get_or, set}
 use borrow.Author.Tests.{lt-ltb, le-ltb}
+use Rattle.std.specs.Prelude.{Result, Ok, Option, None, Err}
 use Rattle.calculus.specs.Evaluation.{step}
 use Rattle.calculus.specs.declared.Value.{Value}
 use Rattle.answers.specs.declared.Cause.{Cause}
 use Rattle.answers.specs.declared.Cause.TheVariants.{Empty, Conflict, OutOfRange}
-use Rattle.calculus.specs.declared.Outcome.{Outcome}
-use Rattle.calculus.specs.declared.Outcome.TheVariants.{Gives}
-use Rattle.calculus.specs.declared.Given.{Given}
-use Rattle.calculus.specs.declared.Given.TheVariants.{Absent}
 use Rattle.book.specs.Syntax.{Scope}
 use Rattle.book.specs.Decode.{scopes_of}
 use Rattle.book.specs.References.{scope_at}
 use Rattle.book.specs.Trees.{tree, own_target}
 use Rattle.book.specs.Steps.{step_order}
 use Rattle.book.specs.Judge.{judge}
-use Rattle.answers.specs.declared.Judged.TheVariants.{Accepted}
 use Rattle.answers.specs.declared.Answer.{Answer}
-use Rattle.answers.specs.declared.Answer.TheVariants.{Values, Ended, Refused}
+use Rattle.answers.specs.declared.Answer.TheVariants.{Values, Ended}
 use Rattle.acceptance.proofs.Orders.{accepted_book}
 use Rattle.evaluation.specs.Handing.{Handed, falls_back, Handing, handed, failed}
 use Rattle.evaluation.specs.Run.{Entered, values, ended, State, env_of, on_entered, on_handing, begin, run_steps_by, run_steps, run_scope_by, run_scope}
@@ -37,6 +33,7 @@ use Rattle.evaluation.proofs.Entering.{steps_of, accepted_entered_by, accepted_e
 use Rattle.evaluation.proofs.Cases.{evaluate_run}
 use Rattle.evaluation.proofs.Handing.{handing_kept, empty_ends, never_empty, fails_empty}
 use Rattle.evaluation.proofs.Former.{run_kept}
+use Rattle.answers.specs.declared.Refusal.{Refusal}
 
 -- no end by empty with this count: another end, or more scopes entered
 abbrev Apart : Entered → ℕ → Type 0
@@ -77,23 +74,23 @@ changed_none : {former amended : Entered} {vs : List Value} {n : ℕ} → former
 unfolding is_values
 changed_none e c = false≢true (ap is_values (sym c.ends ∙ e))
 
-module _ (bytes : List ℕ) (n : ℕ) (accepted : judge bytes ≡ Accepted n) where
+module _ (bytes : List ℕ) (n : ℕ) (accepted : judge bytes ≡ Ok n) where
   abbrev scopes : List Scope
   scopes = scopes_of bytes
 
   -- what is to be shown of scope i
   abbrev ScopeChanged : ℕ → Type 0
-  ScopeChanged i = (given : List Given) → MeetsEmpty scopes i given → Changed (former_run_scope scopes i given) (run_scope scopes i given)
+  ScopeChanged i = (given : List (Option Value)) → MeetsEmpty scopes i given → Changed (former_run_scope scopes i given) (run_scope scopes i given)
 
   -- the steps of scope i from a state on
-  abbrev StepsChanged : ℕ → List Given → List ℕ → State → Type 0
+  abbrev StepsChanged : ℕ → List (Option Value) → List ℕ → State → Type 0
   StepsChanged i given xs st =
       Changed (run_steps_by ends_caller scopes (former_run_scope scopes) (scope_at scopes i) given xs st)
       (run_steps scopes (run_scope scopes) (scope_at scopes i) given xs st)
 
   module _ (i : ℕ) (below : i < n)
       (earlier : (k : ℕ) → k < length (scope_at scopes i).sub_scopes → ScopeChanged (get_or (scope_at scopes i).sub_scopes k 0)) where
-    module _ (x : ℕ) (xs : List ℕ) (st : State) (given : List Given) (here : Steps (scope_at scopes i) (x ∷ xs)) (l : length (scope_at scopes i).variables ≤ x) where
+    module _ (x : ℕ) (xs : List ℕ) (st : State) (given : List (Option Value)) (here : Steps (scope_at scopes i) (x ∷ xs)) (l : length (scope_at scopes i).variables ≤ x) where
       abbrev i_th : Scope
       i_th = scope_at scopes i
 
@@ -132,7 +129,7 @@ module _ (bytes : List ℕ) (n : ℕ) (accepted : judge bytes ≡ Accepted n) wh
           }
 
       -- the overrides hand over the same under both meanings
-      module _ (gs : List Given) (h : former_hands_over scopes i_th st x ≡ handed gs) where
+      module _ (gs : List (Option Value)) (h : former_hands_over scopes i_th st x ≡ handed gs) where
         hands_same : hands_over scopes i_th st x ≡ handed gs
         hands_same =
             handing_kept (env_of st) i_th call 0 (scope_at scopes (callee_of i_th x)).variables (λ q. false≢true (ap fails_empty (sym h ∙ q))) ∙ h
@@ -159,8 +156,8 @@ module _ (bytes : List ℕ) (n : ℕ) (accepted : judge bytes ≡ Accepted n) wh
               apart = rw (le-ltb x (length i_th.variables) l, hands_same, same) c.apart;
             }
 
-    variable_changed : (x : ℕ) (xs : List ℕ) (st : State) (given : List Given) (y : Value) → x < length (scope_at scopes i).variables
-        → step (get_or given x Absent) (env_of st) (tree (scope_at scopes i) (own_target x)) ≡ Gives y
+    variable_changed : (x : ℕ) (xs : List ℕ) (st : State) (given : List (Option Value)) (y : Value) → x < length (scope_at scopes i).variables
+        → step (get_or given x None) (env_of st) (tree (scope_at scopes i) (own_target x)) ≡ Ok y
         → StepsChanged i given xs (with_variable st x y) → StepsChanged i given (x ∷ xs) st
     unfolding run_steps_by
     variable_changed x xs st given y l e c =
@@ -170,7 +167,7 @@ module _ (bytes : List ℕ) (n : ℕ) (accepted : judge bytes ≡ Accepted n) wh
           apart = rw (lt-ltb x (length (scope_at scopes i).variables) l, e) c.apart;
         }
 
-    steps_changed : (given : List Given) (xs : List ℕ) (st : State) → Steps (scope_at scopes i) xs → MeetsEmptyFrom scopes i given xs st
+    steps_changed : (given : List (Option Value)) (xs : List ℕ) (st : State) → Steps (scope_at scopes i) xs → MeetsEmptyFrom scopes i given xs st
         → StepsChanged i given xs st
     steps_changed given xs st few (MeetsEmptyFrom.here {x = x} {xs = ys} l m) = here_changed x ys st given few l m
     steps_changed given xs st few (MeetsEmptyFrom.deeper {x = x} {xs = ys} gs l h m) =
@@ -194,19 +191,19 @@ module _ (bytes : List ℕ) (n : ℕ) (accepted : judge bytes ≡ Accepted n) wh
       })
 
 -- answers of an end by empty, and of what is apart from it
-empty_count : Answer → ℕ
-empty_count (Ended Empty n) = n
-empty_count (Ended Conflict n) = 0
-empty_count (Ended (OutOfRange s) n) = 0
-empty_count (Values n m) = 0
-empty_count (Refused r) = 0
+empty_count : Result Answer Refusal → ℕ
+empty_count (Ok (Ended Empty n)) = n
+empty_count (Ok (Ended Conflict n)) = 0
+empty_count (Ok (Ended (OutOfRange s) n)) = 0
+empty_count (Ok (Values n m)) = 0
+empty_count (Err r) = 0
 
-answers_empty : Answer → Bool
-answers_empty (Ended Empty n) = true
-answers_empty (Ended Conflict n) = false
-answers_empty (Ended (OutOfRange s) n) = false
-answers_empty (Values n m) = false
-answers_empty (Refused r) = false
+answers_empty : Result Answer Refusal → Bool
+answers_empty (Ok (Ended Empty n)) = true
+answers_empty (Ok (Ended Conflict n)) = false
+answers_empty (Ok (Ended (OutOfRange s) n)) = false
+answers_empty (Ok (Values n m)) = false
+answers_empty (Err r) = false
 
 apart_answers : (r : Entered) (c : ℕ) → Apart r c → (reply_of (ended Empty c)).answer ≡ (reply_of r).answer → ⊥
 unfolding empty_count answers_empty
@@ -221,7 +218,7 @@ answers_changed bytes i list room m q =
     let e = m.entering in
     let a = e.asked in
     let c = run_changed bytes a.scopes a.accepted i a.present e.given m.meets in
-    let answers : (by : Outcome → Handed) → evaluate_by by bytes i list room ≡ reply_of (run_scope_by by (scopes_of bytes) i e.given) =
+    let answers : (by : Result Value Cause → Handed) → evaluate_by by bytes i list room ≡ reply_of (run_scope_by by (scopes_of bytes) i e.given) =
     λ by. evaluate_run by bytes i list room a.scopes a.accepted a.present e.given e.read e.enough in
     apart_answers (run_scope (scopes_of bytes) i e.given) c.count c.apart
     (ap (λ (r : Entered). (reply_of r).answer) (sym c.ends)

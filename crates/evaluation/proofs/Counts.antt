@@ -16,9 +16,9 @@ use native.Mathlib.Nat.{eq-or-lt_of_le}
 use lib.ListN.{length, get_or}
 use lib.Dec.{eqb, ltb}
 use borrow.Author.Tests.{eqb-true, eqb-false, ne_eqb, lt-ltb, le-ltb}
+use Rattle.std.specs.Prelude.{Option, Ok}
 use Rattle.calculus.specs.declared.Value.{Value}
 use Rattle.answers.specs.declared.Cause.{Cause}
-use Rattle.calculus.specs.declared.Given.{Given}
 use Rattle.order.specs.Order.{among}
 use Rattle.laws.proofs.Booleans.{decide}
 use Rattle.order.proofs.Among.{among_place}
@@ -28,7 +28,6 @@ use Rattle.book.specs.References.{scope_at}
 use Rattle.book.specs.Scopes.{sum, weight}
 use Rattle.book.specs.Steps.{depends_on, step_count, step_order}
 use Rattle.book.specs.Judge.{judge}
-use Rattle.answers.specs.declared.Judged.TheVariants.{Accepted}
 use Rattle.book.proofs.Sums.{range}
 use Rattle.book.proofs.Weights.{weight_sum}
 use Rattle.acceptance.specs.Accepted.{CompleteOrder}
@@ -150,8 +149,8 @@ pub bounded_count : (w : ℕ) (r : Entered) → Bounded w r → count_of r ≤ w
 bounded_count w (values vs c) h = omega arith
 bounded_count w (ended d c) h = h
 
-module _ (book : List Scope) (enter : ℕ → List Given → Entered) (s : Scope) (given : List Given) (weigh : ℕ → ℕ)
-    (bounded : (k : ℕ) → k < length s.sub_scopes → (handed : List Given)
+module _ (book : List Scope) (enter : ℕ → List (Option Value) → Entered) (s : Scope) (given : List (Option Value)) (weigh : ℕ → ℕ)
+    (bounded : (k : ℕ) → k < length s.sub_scopes → (handed : List (Option Value))
     → Bounded (weigh (get_or s.sub_scopes k 0)) (enter (get_or s.sub_scopes k 0) handed)) where
   -- what a step adds to the count
   unfoldable pub added : ℕ → ℕ
@@ -205,14 +204,14 @@ module _ (book : List Scope) (enter : ℕ → List Given → Entered) (s : Scope
           added_call (v + k) (omega arith) ∙ rw e) in
           rw (z, none, all) (omega arith)
 
-module _ (bytes : List ℕ) (n : ℕ) (accepted : judge bytes ≡ Accepted n) where
+module _ (bytes : List ℕ) (n : ℕ) (accepted : judge bytes ≡ Ok n) where
   -- what entering the scopes that the sub-scopes of scope i name comes to
   abbrev CallsBounded : ℕ → Type 0
-  CallsBounded i = (k : ℕ) → k < length (scope_at (scopes_of bytes) i).sub_scopes → (given : List Given)
+  CallsBounded i = (k : ℕ) → k < length (scope_at (scopes_of bytes) i).sub_scopes → (given : List (Option Value))
       → Bounded (weight (scopes_of bytes) (get_or (scope_at (scopes_of bytes) i).sub_scopes k 0))
       (run_scope (scopes_of bytes) (get_or (scope_at (scopes_of bytes) i).sub_scopes k 0) given)
 
-  scope_bounded : (i : ℕ) → i < n → CallsBounded i → (given : List Given) (xs : List ℕ)
+  scope_bounded : (i : ℕ) → i < n → CallsBounded i → (given : List (Option Value)) (xs : List ℕ)
       → CompleteOrder (depends_on (scope_at (scopes_of bytes) i)) (step_count (scope_at (scopes_of bytes) i)) xs
       → Bounded (weight (scopes_of bytes) i)
       (run_steps (scopes_of bytes) (run_scope (scopes_of bytes)) (scope_at (scopes_of bytes) i) given xs (begin (scope_at (scopes_of bytes) i)))
@@ -228,16 +227,16 @@ module _ (bytes : List ℕ) (n : ℕ) (accepted : judge bytes ≡ Accepted n) wh
       ∙ omega arith in
       rw w (steps_bounded book all s given (weight book) earlier xs orders.below (begin s))
 
-  pub entered_bounded : (i : ℕ) → i < n → (given : List Given)
+  pub entered_bounded : (i : ℕ) → i < n → (given : List (Option Value))
       → Bounded (weight (scopes_of bytes) i) (run_scope (scopes_of bytes) i given)
   entered_bounded =
       accepted_by_blocks bytes n accepted
-      (λ i. (given : List Given) → Bounded (weight (scopes_of bytes) i) (run_scope (scopes_of bytes) i given))
+      (λ i. (given : List (Option Value)) → Bounded (weight (scopes_of bytes) i) (run_scope (scopes_of bytes) i given))
       (λ i l earlier given.
       rw (accepted_entered_steps bytes n accepted i l given)
       (scope_bounded i l earlier given (step_order (scope_at (scopes_of bytes) i)) ((accepted_book bytes n accepted).step_orders i l)))
 
-  pub order_bounded : (i : ℕ) → i < n → (given : List Given) (xs : List ℕ)
+  pub order_bounded : (i : ℕ) → i < n → (given : List (Option Value)) (xs : List ℕ)
       → CompleteOrder (depends_on (scope_at (scopes_of bytes) i)) (step_count (scope_at (scopes_of bytes) i)) xs
       → Bounded (weight (scopes_of bytes) i)
       (run_steps (scopes_of bytes) (run_scope (scopes_of bytes)) (scope_at (scopes_of bytes) i) given xs (begin (scope_at (scopes_of bytes) i)))
@@ -246,23 +245,23 @@ module _ (bytes : List ℕ) (n : ℕ) (accepted : judge bytes ≡ Accepted n) wh
       scope_bounded i l (λ k h. entered_bounded (get_or (scope_at (scopes_of bytes) i).sub_scopes k 0)
       (omega (arith, a.count, (a.formed i l).sub_scopes_named k h)))
 
-  pub values_count : (i : ℕ) → i < n → (given : List Given) (vs : List Value) (c : ℕ)
+  pub values_count : (i : ℕ) → i < n → (given : List (Option Value)) (vs : List Value) (c : ℕ)
       → run_scope (scopes_of bytes) i given ≡ values vs c → c ≡ weight (scopes_of bytes) i
   values_count i l given vs c e = subst (Bounded (weight (scopes_of bytes) i)) e (entered_bounded i l given)
 
-  pub ended_count : (i : ℕ) → i < n → (given : List Given) (cause : Cause) (c : ℕ)
+  pub ended_count : (i : ℕ) → i < n → (given : List (Option Value)) (cause : Cause) (c : ℕ)
       → run_scope (scopes_of bytes) i given ≡ ended cause c → (1 ≤ c) × (c ≤ weight (scopes_of bytes) i)
   ended_count i l given cause c e = (
     subst (λ (r : Entered). 1 ≤ count_of r) e (accepted_entered_count bytes n accepted i l given),
     subst (Bounded (weight (scopes_of bytes) i)) e (entered_bounded i l given),
   )
 
-  pub entered_small : (i : ℕ) → i < n → (given : List Given) → count_of (run_scope (scopes_of bytes) i given) ≤ 4096
+  pub entered_small : (i : ℕ) → i < n → (given : List (Option Value)) → count_of (run_scope (scopes_of bytes) i given) ≤ 4096
   entered_small i l given =
       let most = bounded_count (weight (scopes_of bytes) i) (run_scope (scopes_of bytes) i given) (entered_bounded i l given) in
       omega (arith, most, (accepted_book bytes n accepted).weights i l)
 
-  pub reached_small : (i : ℕ) → i < n → (given : List Given) (xs : List ℕ) (st : State)
+  pub reached_small : (i : ℕ) → i < n → (given : List (Option Value)) (xs : List ℕ) (st : State)
       → Reached (scopes_of bytes) (run_scope (scopes_of bytes)) (scope_at (scopes_of bytes) i) given xs st → st.count ≤ 4096
   reached_small i l given xs st r =
       let book = scopes_of bytes in

@@ -18,9 +18,8 @@ use lib.ListN.{length, get_or, take}
 use lib.Seq.{take-suc, take_all, get_or-take, length-take-le}
 use lib.Dec.{eqb}
 use borrow.Author.Tests.{eqb-true, eq-eqb}
+use Rattle.std.specs.Prelude.{Result, Option, Ok}
 use Rattle.answers.specs.declared.Cause.TheVariants.{Empty}
-use Rattle.calculus.specs.declared.Outcome.{Outcome}
-use Rattle.calculus.specs.declared.Given.{Given}
 use Rattle.order.specs.Order.{among}
 use Rattle.laws.proofs.Booleans.{decide}
 use Rattle.order.proofs.Among.{among_at, among_place}
@@ -31,13 +30,14 @@ use Rattle.book.specs.References.{scope_at}
 use Rattle.book.specs.Scopes.{calls, blocks}
 use Rattle.book.specs.Steps.{depends_on, step_count, step_order}
 use Rattle.book.specs.Judge.{judge}
-use Rattle.answers.specs.declared.Judged.TheVariants.{Accepted}
 use Rattle.book.proofs.Weights.{new_block, block_snoc}
 use Rattle.acceptance.specs.Accepted.{WellFormed, CompleteOrder}
 use Rattle.acceptance.proofs.Orders.{blocks_after, accepted_book}
 use Rattle.evaluation.specs.Handing.{Handed, falls_back}
 use Rattle.evaluation.specs.Run.{Entered, ended, begin, run_steps_by, run_steps, enter_by, enter, run_scope_by, run_scope}
 use Rattle.evaluation.proofs.Running.{Steps, count_of, steps_congruent, steps_count}
+use Rattle.answers.specs.declared.Cause.{Cause}
+use Rattle.calculus.specs.declared.Value.{Value}
 
 -- the order of steps holds steps of the scope only
 pub steps_of : (s : Scope) → Steps s (step_order s)
@@ -45,12 +45,12 @@ unfolding step_order
 steps_of s j l = (order_no_repeats (depends_on s) (step_count s) j l).0
 
 module _ (book : List Scope) (complete : CompleteOrder (calls book) (length book) (blocks book)) where
-  module _ (by : Outcome → Handed) where
+  module _ (by : Result Value Cause → Handed) where
     -- entering once the first k blocks are there
-    abbrev pub after : ℕ → ℕ → List Given → Entered
+    abbrev pub after : ℕ → ℕ → List (Option Value) → Entered
     after k = enter_by by book (reverse (take k (blocks book)))
 
-    after_more : (k : ℕ) → k < length book → (i : ℕ) (given : List Given)
+    after_more : (k : ℕ) → k < length book → (i : ℕ) (given : List (Option Value))
         → after (suc k) i given
         ≡ cond (eqb (get_or (blocks book) k 0) i)
         (run_steps_by by book (after k) (scope_at book i) given (step_order (scope_at book i)) (begin (scope_at book i)))
@@ -61,7 +61,7 @@ module _ (book : List Scope) (complete : CompleteOrder (calls book) (length book
         (ap reverse (take-suc (blocks book) k 0 (omega (arith, complete.count)))
         ∙ reverse-append (take k (blocks book)) (get_or (blocks book) k 0 ∷ []))
 
-    same_more : (k d i : ℕ) → k + d ≤ length book → among (take k (blocks book)) i ≡ true → (given : List Given)
+    same_more : (k d i : ℕ) → k + d ≤ length book → among (take k (blocks book)) i ≡ true → (given : List (Option Value))
         → (after (k + d) i given ≡ after k i given) × (among (take (k + d) (blocks book)) i ≡ true)
     same_more k zero i l m given = let e : k + 0 ≡ k = omega arith in rw e (refl, m)
     same_more k (suc d) i l m given =
@@ -80,7 +80,7 @@ module _ (book : List Scope) (complete : CompleteOrder (calls book) (length book
           block_snoc book complete.count n (omega arith) i ∙ ap (λ (t : Bool). t || eqb i x) r.1,
         )
 
-    pub entered_same : (k l i : ℕ) → k ≤ l → l ≤ length book → among (take k (blocks book)) i ≡ true → (given : List Given)
+    pub entered_same : (k l i : ℕ) → k ≤ l → l ≤ length book → among (take k (blocks book)) i ≡ true → (given : List (Option Value))
         → enter_by by book (reverse (take l (blocks book))) i given ≡ enter_by by book (reverse (take k (blocks book))) i given
     entered_same k l i h m q given =
         let e : k + (l - k) ≡ l = omega arith in
@@ -91,12 +91,12 @@ module _ (book : List Scope) (complete : CompleteOrder (calls book) (length book
     whole = take_all (length book) (blocks book) (omega (arith, complete.count))
 
     -- a scope whose block is among the first k
-    pub entered_whole : (k i : ℕ) → k ≤ length book → among (take k (blocks book)) i ≡ true → (given : List Given)
+    pub entered_whole : (k i : ℕ) → k ≤ length book → among (take k (blocks book)) i ≡ true → (given : List (Option Value))
         → run_scope_by by book i given ≡ enter_by by book (reverse (take k (blocks book))) i given
     entered_whole k i h q given =
         ap (λ (bs : List ℕ). enter_by by book (reverse bs) i given) (sym whole) ∙ entered_same k (length book) i h (omega arith) q given
 
-    pub entered_place : (p l i : ℕ) → p < l → l ≤ length book → get_or (blocks book) p 0 ≡ i → (given : List Given)
+    pub entered_place : (p l i : ℕ) → p < l → l ≤ length book → get_or (blocks book) p 0 ≡ i → (given : List (Option Value))
         → enter_by by book (reverse (take l (blocks book))) i given ≡ run_scope_by by book i given
     entered_place p l i h m e given =
         let room : length (take l (blocks book)) ≡ l = length-take-le l (blocks book) (omega (arith, complete.count)) in
@@ -118,7 +118,7 @@ module _ (book : List Scope) (complete : CompleteOrder (calls book) (length book
         ap (λ (b : ℕ). among (take k (blocks book)) (get_or (scope_at book b).sub_scopes j 0)) (sym e)
         ∙ blocks_after book complete formed k l j (omega arith)
 
-    pub entered_steps : (by : Outcome → Handed) (i : ℕ) → i < length book → (given : List Given)
+    pub entered_steps : (by : Result Value Cause → Handed) (i : ℕ) → i < length book → (given : List (Option Value))
         → run_scope_by by book i given
         ≡ run_steps_by by book (run_scope_by by book) (scope_at book i) given (step_order (scope_at book i)) (begin (scope_at book i))
     entered_steps by i l given =
@@ -137,7 +137,7 @@ module _ (book : List Scope) (complete : CompleteOrder (calls book) (length book
         (λ j h handed. sym (entered_whole by k (get_or s.sub_scopes j 0) (omega arith) (before k few i p.2 j h) handed))
         (step_order s) (steps_of s) (begin s)
 
-    pub entered_count : (i : ℕ) → i < length book → (given : List Given) → 1 ≤ count_of (run_scope book i given)
+    pub entered_count : (i : ℕ) → i < length book → (given : List (Option Value)) → 1 ≤ count_of (run_scope book i given)
     entered_count i l given =
         let s = scope_at book i in
         rw (entered_steps falls_back i l given) (steps_count book (run_scope book) s given (step_order s) (begin s))
@@ -173,35 +173,35 @@ module _ (book : List Scope) (complete : CompleteOrder (calls book) (length book
           subst P p.2 (first_blocks (length book) p.0 (omega arith) p.1)
 
 -- the order of blocks and the scopes of an accepted book
-pub accepted_complete : (bytes : List ℕ) (n : ℕ) → judge bytes ≡ Accepted n
+pub accepted_complete : (bytes : List ℕ) (n : ℕ) → judge bytes ≡ Ok n
     → CompleteOrder (calls (scopes_of bytes)) (length (scopes_of bytes)) (blocks (scopes_of bytes))
 accepted_complete bytes n e =
     let a = accepted_book bytes n e in
     subst (λ (m : ℕ). CompleteOrder (calls (scopes_of bytes)) m (blocks (scopes_of bytes))) a.count a.block_order
 
-pub accepted_formed : (bytes : List ℕ) (n : ℕ) → judge bytes ≡ Accepted n → (i : ℕ) → i < length (scopes_of bytes)
+pub accepted_formed : (bytes : List ℕ) (n : ℕ) → judge bytes ≡ Ok n → (i : ℕ) → i < length (scopes_of bytes)
     → WellFormed (scopes_of bytes) (scope_at (scopes_of bytes) i)
 accepted_formed bytes n e i l = let a = accepted_book bytes n e in a.formed i (omega (arith, a.count))
 
-module _ (bytes : List ℕ) (n : ℕ) (accepted : judge bytes ≡ Accepted n) where
+module _ (bytes : List ℕ) (n : ℕ) (accepted : judge bytes ≡ Ok n) where
   abbrev book : List Scope
   book = scopes_of bytes
 
   below : (i : ℕ) → i < n → i < length book
   below i l = omega (arith, (accepted_book bytes n accepted).count)
 
-  pub accepted_entered_same : (k l i : ℕ) → k ≤ l → l ≤ n → among (take k (blocks (scopes_of bytes))) i ≡ true → (given : List Given)
+  pub accepted_entered_same : (k l i : ℕ) → k ≤ l → l ≤ n → among (take k (blocks (scopes_of bytes))) i ≡ true → (given : List (Option Value))
       → enter (scopes_of bytes) (reverse (take l (blocks (scopes_of bytes)))) i given
       ≡ enter (scopes_of bytes) (reverse (take k (blocks (scopes_of bytes)))) i given
   accepted_entered_same k l i h m =
       entered_same book (accepted_complete bytes n accepted) falls_back k l i h (omega (arith, (accepted_book bytes n accepted).count))
 
-  pub accepted_entered_whole : (k i : ℕ) → k ≤ n → among (take k (blocks (scopes_of bytes))) i ≡ true → (given : List Given)
+  pub accepted_entered_whole : (k i : ℕ) → k ≤ n → among (take k (blocks (scopes_of bytes))) i ≡ true → (given : List (Option Value))
       → run_scope (scopes_of bytes) i given ≡ enter (scopes_of bytes) (reverse (take k (blocks (scopes_of bytes)))) i given
   accepted_entered_whole k i h =
       entered_whole book (accepted_complete bytes n accepted) falls_back k i (omega (arith, (accepted_book bytes n accepted).count))
 
-  pub accepted_entered_place : (p l i : ℕ) → p < l → l ≤ n → get_or (blocks (scopes_of bytes)) p 0 ≡ i → (given : List Given)
+  pub accepted_entered_place : (p l i : ℕ) → p < l → l ≤ n → get_or (blocks (scopes_of bytes)) p 0 ≡ i → (given : List (Option Value))
       → enter (scopes_of bytes) (reverse (take l (blocks (scopes_of bytes)))) i given ≡ run_scope (scopes_of bytes) i given
   accepted_entered_place p l i h m =
       entered_place book (accepted_complete bytes n accepted) falls_back p l i h (omega (arith, (accepted_book bytes n accepted).count))
@@ -212,22 +212,22 @@ module _ (bytes : List ℕ) (n : ℕ) (accepted : judge bytes ≡ Accepted n) wh
   accepted_called_place p l i e k h q r =
       called_place book (accepted_complete bytes n accepted) (accepted_formed bytes n accepted) p (below p l) i e k h q (below q r)
 
-  pub accepted_entered_by : (by : Outcome → Handed) (i : ℕ) → i < n → (given : List Given)
+  pub accepted_entered_by : (by : Result Value Cause → Handed) (i : ℕ) → i < n → (given : List (Option Value))
       → run_scope_by by (scopes_of bytes) i given
       ≡ run_steps_by by (scopes_of bytes) (run_scope_by by (scopes_of bytes)) (scope_at (scopes_of bytes) i) given
       (step_order (scope_at (scopes_of bytes) i)) (begin (scope_at (scopes_of bytes) i))
   accepted_entered_by by i l = entered_steps book (accepted_complete bytes n accepted) (accepted_formed bytes n accepted) by i (below i l)
 
-  pub accepted_entered_steps : (i : ℕ) → i < n → (given : List Given)
+  pub accepted_entered_steps : (i : ℕ) → i < n → (given : List (Option Value))
       → run_scope (scopes_of bytes) i given
       ≡ run_steps (scopes_of bytes) (run_scope (scopes_of bytes)) (scope_at (scopes_of bytes) i) given
       (step_order (scope_at (scopes_of bytes) i)) (begin (scope_at (scopes_of bytes) i))
   accepted_entered_steps = accepted_entered_by falls_back
 
-  pub accepted_entered_count : (i : ℕ) → i < n → (given : List Given) → 1 ≤ count_of (run_scope (scopes_of bytes) i given)
+  pub accepted_entered_count : (i : ℕ) → i < n → (given : List (Option Value)) → 1 ≤ count_of (run_scope (scopes_of bytes) i given)
   accepted_entered_count i l = entered_count book (accepted_complete bytes n accepted) (accepted_formed bytes n accepted) i (below i l)
 
-  pub accepted_entered_real : (i : ℕ) → i < n → (given : List Given) → run_scope (scopes_of bytes) i given ≡ ended Empty 0 → ⊥
+  pub accepted_entered_real : (i : ℕ) → i < n → (given : List (Option Value)) → run_scope (scopes_of bytes) i given ≡ ended Empty 0 → ⊥
   accepted_entered_real i l given e =
       let none : 1 ≤ 0 = subst (λ (r : Entered). 1 ≤ count_of r) e (accepted_entered_count i l given) in
       omega arith

@@ -13,16 +13,11 @@ use native.Mathlib.Omega.{arith}
 use lib.ListN.{length, get_or}
 use lib.Dec.{eqb}
 use borrow.Author.Tests.{ne_eqb}
+use Rattle.std.specs.Prelude.{Result, Ok, Err, Option, None, Some}
 use Rattle.calculus.specs.Terms.{Term, Terms, literal, own, called, error, unary, binary, choice, default, none, also}
 use Rattle.calculus.specs.Evaluation.{Env, eval, exceptions}
 use Rattle.answers.specs.declared.Cause.TheVariants.{Empty, Conflict, OutOfRange}
-use Rattle.calculus.specs.declared.Outcome.{Outcome}
-use Rattle.calculus.specs.declared.Outcome.TheVariants.{Gives, Ends}
 use Rattle.calculus.specs.declared.Joined.TheVariants.{Nothing}
-use Rattle.calculus.specs.declared.Gathered.{Gathered}
-use Rattle.calculus.specs.declared.Gathered.TheVariants.{SoFar}
-use Rattle.calculus.specs.declared.Given.{Given}
-use Rattle.calculus.specs.declared.Given.TheVariants.{Absent, Present}
 use Rattle.calculus.proofs.Overriding.{step_default}
 use Rattle.laws.proofs.Booleans.{decide}
 use Rattle.book.specs.Syntax.{Scope}
@@ -39,6 +34,9 @@ use Rattle.evaluation.specs.Meaning.{Overrides}
 use Rattle.evaluation.proofs.Handing.{handing_agrees}
 use Rattle.evaluation.proofs.Soundness.{typed_map}
 use Rattle.evaluation.proofs.Trees.{tree_typed}
+use Rattle.calculus.specs.declared.Joined.{Joined}
+use Rattle.answers.specs.declared.Cause.{Cause}
+use Rattle.calculus.specs.declared.Value.{Value}
 
 module _ (e f : Env) where
   abbrev SameOwn : ℕ → ValueType → Type 0
@@ -58,9 +56,9 @@ module _ (e f : Env) where
     eval_same (unary op a) u h = rw (eval_same a _ h.0)
     eval_same (binary op a b) u h = rw (eval_same a _ h.1, eval_same b _ h.2)
     eval_same (choice c a b) u h = rw (eval_same c _ h.0, eval_same a u h.1, eval_same b u h.2)
-    eval_same (default es j c) u h = rw (exceptions_same (SoFar Nothing) es u h.0, eval_same j _ h.1, eval_same c u h.2)
+    eval_same (default es j c) u h = rw (exceptions_same (Ok Nothing) es u h.0, eval_same j _ h.1, eval_same c u h.2)
 
-    exceptions_same : (g : Gathered) (ts : Terms) (u : ValueType) → AllTyped SameOwn SameCalled ts u → exceptions e g ts ≡ exceptions f g ts
+    exceptions_same : (g : Result Joined Cause) (ts : Terms) (u : ValueType) → AllTyped SameOwn SameCalled ts u → exceptions e g ts ≡ exceptions f g ts
     exceptions_same g none u h = refl
     exceptions_same g (also t ts) u h = rw (eval_same t u h.0) (exceptions_same _ ts u h.1)
 
@@ -104,19 +102,19 @@ module _ (e f : Env) where
 
 module _ (e : Env) (s : Scope) (k : ℕ) where
   -- the variables from v on
-  pub record Each (v : ℕ) (xs : List Variable) (gs : List Given) : Type 0 where
+  pub record Each (v : ℕ) (xs : List Variable) (gs : List (Option Value)) : Type 0 where
     pub size : length gs ≡ length xs
-    pub overrides : (j : ℕ) → j < length gs → Overrides e s k (v + j) (get_or gs j Absent)
+    pub overrides : (j : ℕ) → j < length gs → Overrides e s k (v + j) (get_or gs j None)
 
-  each_front : (v : ℕ) (x : Variable) (xs : List Variable) (g : Given) (gs : List Given) → Overrides e s k v g → Each (suc v) xs gs
+  each_front : (v : ℕ) (x : Variable) (xs : List Variable) (g : Option Value) (gs : List (Option Value)) → Overrides e s k v g → Each (suc v) xs gs
       → Each v (x ∷ xs) (g ∷ gs)
   each_front v x xs g gs o r = record { size = ap suc r.size; overrides = at }
     where
-      at : (j : ℕ) → j < length (g ∷ gs) → Overrides e s k (v + j) (get_or (g ∷ gs) j Absent)
+      at : (j : ℕ) → j < length (g ∷ gs) → Overrides e s k (v + j) (get_or (g ∷ gs) j None)
       at zero l = let z : v + 0 ≡ v = omega arith in rw z o
       at (suc j) l = let z : v + suc j ≡ suc v + j = omega arith in rw z (r.overrides j (omega arith))
 
-  pub each_rest : (v : ℕ) (x : Variable) (xs : List Variable) (g : Given) (gs : List Given) → Each v (x ∷ xs) (g ∷ gs)
+  pub each_rest : (v : ℕ) (x : Variable) (xs : List Variable) (g : Option Value) (gs : List (Option Value)) → Each v (x ∷ xs) (g ∷ gs)
       → Overrides e s k v g × Each (suc v) xs gs
   each_rest v x xs g gs r = (
     (let z : v + 0 ≡ v = omega arith in rw z at (r.overrides 0 (omega arith))),
@@ -131,17 +129,17 @@ module _ (e : Env) (s : Scope) (k : ℕ) where
   AllOf v xs (handed gs) = Each v xs gs
   AllOf v xs (failed c) = Unit {0}
 
-  front_all : (v : ℕ) (x : Variable) (xs : List Variable) (g : Given) (h : Handing) → Overrides e s k v g → AllOf (suc v) xs h
+  front_all : (v : ℕ) (x : Variable) (xs : List Variable) (g : Option Value) (h : Handing) → Overrides e s k v g → AllOf (suc v) xs h
       → AllOf v (x ∷ xs) (in_front (hands g) h)
   front_all v x xs g (handed gs) o r = each_front v x xs g gs o r
   front_all v x xs g (failed c) o r = tt
 
-  evaluated_all : (v : ℕ) (x : Variable) (xs : List Variable) (o : Outcome) (h : Handing) → has_clause s (called_target k v) ≡ true
+  evaluated_all : (v : ℕ) (x : Variable) (xs : List Variable) (o : Result Value Cause) (h : Handing) → has_clause s (called_target k v) ≡ true
       → eval e (tree s (called_target k v)) ≡ o → AllOf (suc v) xs h → AllOf v (x ∷ xs) (in_front (falls_back o) h)
-  evaluated_all v x xs (Gives y) h q p r = front_all v x xs (Present y) h (Overrides.with y q (sym (step_default Absent e (tree s (called_target k v))) ∙ p)) r
-  evaluated_all v x xs (Ends Empty) h q p r = front_all v x xs Absent h (Overrides.empty q (sym (step_default Absent e (tree s (called_target k v))) ∙ p)) r
-  evaluated_all v x xs (Ends Conflict) h q p r = tt
-  evaluated_all v x xs (Ends (OutOfRange o)) h q p r = tt
+  evaluated_all v x xs (Ok y) h q p r = front_all v x xs (Some y) h (Overrides.with y q (sym (step_default None e (tree s (called_target k v))) ∙ p)) r
+  evaluated_all v x xs (Err Empty) h q p r = front_all v x xs None h (Overrides.empty q (sym (step_default None e (tree s (called_target k v))) ∙ p)) r
+  evaluated_all v x xs (Err Conflict) h q p r = tt
+  evaluated_all v x xs (Err (OutOfRange o)) h q p r = tt
 
   all_of : (v : ℕ) (xs : List Variable) → AllOf v xs (handing e s k v xs)
   unfolding handing_by
@@ -151,24 +149,24 @@ module _ (e : Env) (s : Scope) (k : ℕ) where
       ⊎_elim
       (λ (q : has_clause s (called_target k v) ≡ true).
       rw q (evaluated_all v x xs (eval e (tree s (called_target k v))) rest q refl (all_of (suc v) xs)))
-      (λ (q : has_clause s (called_target k v) ≡ false). rw q (front_all v x xs Absent rest (Overrides.without q) (all_of (suc v) xs)))
+      (λ (q : has_clause s (called_target k v) ≡ false). rw q (front_all v x xs None rest (Overrides.without q) (all_of (suc v) xs)))
       (decide (has_clause s (called_target k v)))
 
-  pub handing_overrides : (v : ℕ) (xs : List Variable) (gs : List Given) → handing e s k v xs ≡ handed gs → Each v xs gs
+  pub handing_overrides : (v : ℕ) (xs : List Variable) (gs : List (Option Value)) → handing e s k v xs ≡ handed gs → Each v xs gs
   handing_overrides v xs gs h = subst (AllOf v xs) h (all_of v xs)
 
-  one_more : (v : ℕ) (x : Variable) (xs : List Variable) (g : Given) (gs : List Given) → Overrides e s k v g
+  one_more : (v : ℕ) (x : Variable) (xs : List Variable) (g : Option Value) (gs : List (Option Value)) → Overrides e s k v g
       → handing e s k (suc v) xs ≡ handed gs → handing e s k v (x ∷ xs) ≡ handed (g ∷ gs)
   unfolding handing_by
   one_more v x xs g gs (Overrides.without q) h = rw (q, h)
   one_more v x xs g gs (Overrides.with y q p) h =
-      let here : eval e (tree s (called_target k v)) ≡ Gives y = step_default Absent e (tree s (called_target k v)) ∙ p in
+      let here : eval e (tree s (called_target k v)) ≡ Ok y = step_default None e (tree s (called_target k v)) ∙ p in
       rw (q, here, h)
   one_more v x xs g gs (Overrides.empty q p) h =
-      let here : eval e (tree s (called_target k v)) ≡ Ends Empty = step_default Absent e (tree s (called_target k v)) ∙ p in
+      let here : eval e (tree s (called_target k v)) ≡ Err Empty = step_default None e (tree s (called_target k v)) ∙ p in
       rw (q, here, h)
 
-  pub overrides_handing : (v : ℕ) (xs : List Variable) (gs : List Given) → Each v xs gs → handing e s k v xs ≡ handed gs
+  pub overrides_handing : (v : ℕ) (xs : List Variable) (gs : List (Option Value)) → Each v xs gs → handing e s k v xs ≡ handed gs
   unfolding handing_by
   overrides_handing v [] [] r = refl
   overrides_handing v [] (g ∷ gs) r = absurd (let z = r.size in omega arith)

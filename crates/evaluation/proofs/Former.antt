@@ -11,20 +11,16 @@ use native.Mathlib.Omega.{arith}
 use lib.ListN.{length, get_or}
 use lib.Dec.{ltb}
 use borrow.Author.Tests.{ltb-true, ltb-false}
+use Rattle.std.specs.Prelude.{Result, Ok, Err, Option, None}
 use Rattle.laws.proofs.Booleans.{decide}
 use Rattle.calculus.specs.Evaluation.{step}
 use Rattle.calculus.specs.declared.Value.{Value}
-use Rattle.calculus.specs.declared.Outcome.{Outcome}
-use Rattle.calculus.specs.declared.Outcome.TheVariants.{Gives, Ends}
-use Rattle.calculus.specs.declared.Given.{Given}
-use Rattle.calculus.specs.declared.Given.TheVariants.{Absent}
 use Rattle.book.specs.Syntax.{Scope}
 use Rattle.book.specs.Decode.{scopes_of}
 use Rattle.book.specs.References.{scope_at}
 use Rattle.book.specs.Trees.{tree, own_target}
 use Rattle.book.specs.Steps.{step_order}
 use Rattle.book.specs.Judge.{judge}
-use Rattle.answers.specs.declared.Judged.TheVariants.{Accepted}
 use Rattle.evaluation.specs.Handing.{Handing, handed, failed}
 use Rattle.evaluation.specs.Run.{Entered, values, ended, State, env_of, on_value, on_entered, on_handing, begin, run_steps_by, run_steps, run_scope}
 use Rattle.evaluation.specs.Readiness.{callee_of, hands_over, with_variable, with_call}
@@ -36,26 +32,27 @@ use Rattle.evaluation.proofs.Entering.{steps_of, accepted_entered_by, accepted_e
 use Rattle.evaluation.proofs.Cases.{evaluate_faulty, evaluate_absent, evaluate_malformed, evaluate_short, evaluate_run}
 use Rattle.evaluation.proofs.Answers.{replied}
 use Rattle.evaluation.proofs.Handing.{handing_kept, ends_empty_lem}
+use Rattle.answers.specs.declared.Cause.{Cause}
 
 -- A whole run
 
-on_value_lem : (o : Outcome) (count : ℕ) (f g : Value → Entered) → ((y : Value) → o ≡ Gives y → f y ≡ g y) → on_value o count f ≡ on_value o count g
-on_value_lem (Gives y) count f g h = h y refl
-on_value_lem (Ends c) count f g h = refl
+on_value_lem : (o : Result Value Cause) (count : ℕ) (f g : Value → Entered) → ((y : Value) → o ≡ Ok y → f y ≡ g y) → on_value o count f ≡ on_value o count g
+on_value_lem (Ok y) count f g h = h y refl
+on_value_lem (Err c) count f g h = refl
 
 on_entered_lem : (r t : Entered) (count : ℕ) (f g : List Value → ℕ → Entered) → r ≡ t
     → ((vs : List Value) (n : ℕ) → r ≡ values vs n → f vs (count + n) ≡ g vs (count + n)) → on_entered r count f ≡ on_entered t count g
 on_entered_lem (values vs n) t count f g e h = h vs n refl ∙ ap (λ (z : Entered). on_entered z count g) e
 on_entered_lem (ended c n) t count f g e h = ap (λ (z : Entered). on_entered z count g) e
 
-on_handing_lem : (r t : Handing) (count : ℕ) (f g : List Given → Entered) → t ≡ r → ((gs : List Given) → r ≡ handed gs → f gs ≡ g gs)
+on_handing_lem : (r t : Handing) (count : ℕ) (f g : List (Option Value) → Entered) → t ≡ r → ((gs : List (Option Value)) → r ≡ handed gs → f gs ≡ g gs)
     → on_handing r count f ≡ on_handing t count g
 on_handing_lem (handed gs) t count f g e h = h gs refl ∙ ap (λ (z : Handing). on_handing z count g) (sym e)
 on_handing_lem (failed c) t count f g e h = ap (λ (z : Handing). on_handing z count g) (sym e)
 
 -- scope i, where what is to be shown holds of the scopes that its sub-scopes name
-module _ (book : List Scope) (i : ℕ) (given : List Given)
-    (earlier : (k : ℕ) → k < length (scope_at book i).sub_scopes → (gs : List Given)
+module _ (book : List Scope) (i : ℕ) (given : List (Option Value))
+    (earlier : (k : ℕ) → k < length (scope_at book i).sub_scopes → (gs : List (Option Value))
     → (MeetsEmpty book (get_or (scope_at book i).sub_scopes k 0) gs → ⊥)
     → former_run_scope book (get_or (scope_at book i).sub_scopes k 0) gs ≡ run_scope book (get_or (scope_at book i).sub_scopes k 0) gs) where
   abbrev s : Scope
@@ -76,7 +73,7 @@ module _ (book : List Scope) (i : ℕ) (given : List Given)
       (λ (q : ltb x own ≡ true).
       let l = ltb-true x own q in
       rw q
-      (on_value_lem (step (get_or given x Absent) (env_of st) (tree s (own_target x))) st.count _ _
+      (on_value_lem (step (get_or given x None) (env_of st) (tree s (own_target x))) st.count _ _
       (λ y e. steps_kept xs later (with_variable st x y) (λ m. never (MeetsEmptyFrom.variable y l e m)))))
       (λ (q : ltb x own ≡ false).
       let l = ltb-false x own q in
@@ -88,12 +85,12 @@ module _ (book : List Scope) (i : ℕ) (given : List Given)
       (λ vs n e. steps_kept xs later (with_call st k vs n) (λ m. never (MeetsEmptyFrom.call gs vs n l h e m))))))
       (decide (ltb x own))
 
-module _ (bytes : List ℕ) (n : ℕ) (accepted : judge bytes ≡ Accepted n) where
-  pub run_kept : (i : ℕ) → i < n → (given : List Given) → (MeetsEmpty (scopes_of bytes) i given → ⊥)
+module _ (bytes : List ℕ) (n : ℕ) (accepted : judge bytes ≡ Ok n) where
+  pub run_kept : (i : ℕ) → i < n → (given : List (Option Value)) → (MeetsEmpty (scopes_of bytes) i given → ⊥)
       → former_run_scope (scopes_of bytes) i given ≡ run_scope (scopes_of bytes) i given
   run_kept =
       accepted_by_blocks bytes n accepted
-      (λ i. (given : List Given) → (MeetsEmpty (scopes_of bytes) i given → ⊥) → former_run_scope (scopes_of bytes) i given ≡ run_scope (scopes_of bytes) i given)
+      (λ i. (given : List (Option Value)) → (MeetsEmpty (scopes_of bytes) i given → ⊥) → former_run_scope (scopes_of bytes) i given ≡ run_scope (scopes_of bytes) i given)
       (λ i l earlier given never.
       let book = scopes_of bytes in
       let s = scope_at book i in

@@ -16,12 +16,10 @@ use lib.ListN.{length, get_or, set, length-set, length-map, get_or-map}
 use lib.Seq.{get_or-set_same, get_or-set_other}
 use lib.Dec.{eqb, ltb}
 use borrow.Author.Tests.{eqb-true, eqb-false, ltb-true, ltb-false}
+use Rattle.std.specs.Prelude.{Ok, Option, None, Some}
 use Rattle.calculus.specs.Evaluation.{Env, step, takes}
 use Rattle.calculus.specs.declared.Value.{Value}
 use Rattle.calculus.specs.declared.Value.TheVariants.{Truth}
-use Rattle.calculus.specs.declared.Outcome.TheVariants.{Gives}
-use Rattle.calculus.specs.declared.Given.{Given}
-use Rattle.calculus.specs.declared.Given.TheVariants.{Absent, Present}
 use Rattle.cells.specs.Cells.{held}
 use Rattle.order.specs.Order.{among}
 use Rattle.calculus.proofs.Overriding.{step_default}
@@ -34,7 +32,6 @@ use Rattle.book.specs.Trees.{tree, own_target}
 use Rattle.book.specs.Steps.{depends_on, step_count, step_order}
 use Rattle.book.specs.Judge.{judge}
 use Rattle.book.specs.declared.Variable.{Variable}
-use Rattle.answers.specs.declared.Judged.TheVariants.{Accepted}
 use Rattle.acceptance.specs.Accepted.{WithinLimits, WellFormed, CompleteOrder}
 use Rattle.acceptance.proofs.Orders.{accepted_book}
 use Rattle.evaluation.specs.Handing.{Handing, handed, failed, handing}
@@ -47,8 +44,8 @@ use Rattle.evaluation.proofs.Entering.{accepted_entered_steps, accepted_by_block
 use Rattle.evaluation.proofs.Environments.{SameFor, tree_same, handing_same, Each, handing_overrides, overrides_handing}
 use Rattle.evaluation.proofs.Counts.{Bounded, order_bounded, values_count}
 
-all_held : (gs : List Given) (vs : List Value) → length gs ≡ length vs
-    → ((w : ℕ) → w < length gs → get_or gs w Absent ≡ Present (get_or vs w (Truth false))) → map held gs ≡ vs
+all_held : (gs : List (Option Value)) (vs : List Value) → length gs ≡ length vs
+    → ((w : ℕ) → w < length gs → get_or gs w None ≡ Some (get_or vs w (Truth false))) → map held gs ≡ vs
 all_held [] [] e h = refl
 all_held [] (v ∷ vs) e h = absurd (omega arith)
 all_held (g ∷ gs) [] e h = absurd (omega arith)
@@ -57,7 +54,7 @@ all_held (g ∷ gs) (v ∷ vs) e h =
     rw (here, all_held gs vs (omega arith) (λ w l. h (suc w) (omega arith)))
 
 -- a run of a scope's steps in an order that is complete; `enter` is what entering a scope with given variables comes to
-module _ (book : List Scope) (enter : ℕ → List Given → Entered) (s : Scope) (given : List Given)
+module _ (book : List Scope) (enter : ℕ → List (Option Value) → Entered) (s : Scope) (given : List (Option Value))
     (formed : WellFormed book s) (within : WithinLimits s)
     (order : List ℕ) (complete : CompleteOrder (depends_on s) (step_count s) order) where
   abbrev own : ℕ
@@ -80,7 +77,7 @@ module _ (book : List Scope) (enter : ℕ → List Given → Entered) (s : Scope
 
   -- a solution of the scope's equations, in which each call gives the values of its sub-scope
   pub record Solution (vs : List Value) : Type 0 where
-    pub hands_out : ℕ → List Given
+    pub hands_out : ℕ → List (Option Value)
     pub called_values : List (List Value)
     pub solves : Solves book s given vs hands_out called_values
     pub entered : (k : ℕ) → k < length s.sub_scopes → (n : ℕ) × (enter (get_or s.sub_scopes k 0) (hands_out k) ≡ values (get_or called_values k []) n)
@@ -89,13 +86,13 @@ module _ (book : List Scope) (enter : ℕ → List Given → Entered) (s : Scope
 
   -- what the steps done have set stays
   record Kept (done : List ℕ) (st last : State) : Type 0 where
-    own : (w : ℕ) → w < length s.variables → among done w ≡ true → get_or last.own w Absent ≡ get_or st.own w Absent
+    own : (w : ℕ) → w < length s.variables → among done w ≡ true → get_or last.own w None ≡ get_or st.own w None
     called : (k : ℕ) → k < length s.sub_scopes → among done (length s.variables + k) ≡ true
         → get_or last.called k [] ≡ get_or st.called k []
 
   -- a call's overrides and the scope that it enters give these values
   record Calls (e : Env) (k : ℕ) (vs : List Value) : Type 0 where
-    gives : List Given
+    gives : List (Option Value)
     hands : handing e s k 0 (callee k) ≡ handed gives
     count : ℕ
     enters : enter (get_or s.sub_scopes k 0) gives ≡ values vs count
@@ -108,7 +105,7 @@ module _ (book : List Scope) (enter : ℕ → List Given → Entered) (s : Scope
     called_length : length last.called ≡ length s.sub_scopes
     kept : Kept done st last
     variables : (x : ℕ) → x < length s.variables → among done x ≡ false
-        → step (get_or given x Absent) (env_of last) (tree s (own_target x)) ≡ Gives (held (get_or last.own x Absent))
+        → step (get_or given x None) (env_of last) (tree s (own_target x)) ≡ Ok (held (get_or last.own x None))
     calls : (k : ℕ) → k < length s.sub_scopes → among done (length s.variables + k) ≡ false → Calls (env_of last) k (get_or last.called k [])
 
   abbrev FinalOf : List ℕ → State → Entered → Type 0
@@ -130,11 +127,11 @@ module _ (book : List Scope) (enter : ℕ → List Given → Entered) (s : Scope
           called = λ j l d v. ap (λ us. get_or us v (Truth false)) (sym (k.called j l (before (own + j) (call_step j l) d)));
         }
 
-    module _ (l : x < own) (y : Value) (e : step (get_or given x Absent) (env_of st) (tree s (own_target x)) ≡ Gives y) (inside : length st.own ≡ own) where
+    module _ (l : x < own) (y : Value) (e : step (get_or given x None) (env_of st) (tree s (own_target x)) ≡ Ok y) (inside : length st.own ≡ own) where
       variable_kept : (last : State) → Kept (done ++ x ∷ []) (with_variable st x y) last → Kept done st last
       variable_kept last k =
           record {
-            own = λ w h m. k.own w h (snoc_more done x w m) ∙ get_or-set_other st.own x w (Present y) Absent (other w m);
+            own = λ w h m. k.own w h (snoc_more done x w m) ∙ get_or-set_other st.own x w (Some y) None (other w m);
             called = λ j h m. k.called j h (snoc_more done x (own + j) m);
           }
 
@@ -143,11 +140,11 @@ module _ (book : List Scope) (enter : ℕ → List Given → Entered) (s : Scope
       variable_final (values vs n) f =
           let last = f.last in
           let kept = variable_kept last f.kept in
-          let set_here : get_or last.own x Absent ≡ Present y =
-          f.kept.own x l (snoc_here done x x refl) ∙ get_or-set_same st.own x (Present y) Absent (omega (arith, inside)) in
-          let here : step (get_or given x Absent) (env_of last) (tree s (own_target x)) ≡ Gives (held (get_or last.own x Absent)) =
-          ap (takes (get_or given x Absent)) (sym (tree_same (env_of st) (env_of last) book s formed within x (kept_same last kept) l))
-          ∙ e ∙ ap (λ g. Gives (held g)) (sym set_here) in
+          let set_here : get_or last.own x None ≡ Some y =
+          f.kept.own x l (snoc_here done x x refl) ∙ get_or-set_same st.own x (Some y) None (omega (arith, inside)) in
+          let here : step (get_or given x None) (env_of last) (tree s (own_target x)) ≡ Ok (held (get_or last.own x None)) =
+          ap (takes (get_or given x None)) (sym (tree_same (env_of st) (env_of last) book s formed within x (kept_same last kept) l))
+          ∙ e ∙ ap (λ g. Ok (held g)) (sym set_here) in
           record {
             last = last;
             ends = f.ends;
@@ -157,14 +154,14 @@ module _ (book : List Scope) (enter : ℕ → List Given → Entered) (s : Scope
             variables = λ z h m.
                 ⊎_elim
                 (λ (q : eqb z x ≡ true).
-                subst (λ (w : ℕ). step (get_or given w Absent) (env_of last) (tree s (own_target w)) ≡ Gives (held (get_or last.own w Absent)))
+                subst (λ (w : ℕ). step (get_or given w None) (env_of last) (tree s (own_target w)) ≡ Ok (held (get_or last.own w None)))
                 (sym (eqb-true z x q)) here)
                 (λ (q : eqb z x ≡ false). f.variables z h (snoc_other done x z (eqb-false z x q) ∙ m))
                 (decide (eqb z x));
             calls = λ k h m. f.calls k h (snoc_other done x (own + k) (λ q. omega arith) ∙ m);
           }
 
-    module _ (l : own ≤ x) (gs : List Given) (us : List Value) (n : ℕ) (h : hands_over book s st x ≡ handed gs) (e : enter (callee_of s x) gs ≡ values us n)
+    module _ (l : own ≤ x) (gs : List (Option Value)) (us : List Value) (n : ℕ) (h : hands_over book s st x ≡ handed gs) (e : enter (callee_of s x) gs ≡ values us n)
         (inside : length st.called ≡ calls) where
       abbrev k : ℕ
       k = x - own
@@ -229,21 +226,21 @@ module _ (book : List Scope) (enter : ℕ → List Given → Entered) (s : Scope
       let split' = split ∙ append_more done x xs in
       by_step book enter s given (FinalOf done st) x xs st
       (λ l y e. variable_final x xs done split st l y e a (run_steps book enter s given xs (with_variable st x y))
-      (final xs (done ++ x ∷ []) (with_variable st x y) split' (length-set st.own x (Present y) ∙ a) b))
+      (final xs (done ++ x ∷ []) (with_variable st x y) split' (length-set st.own x (Some y) ∙ a) b))
       (λ l gs us n h e. call_final x xs done split st l gs us n h e b (run_steps book enter s given xs (with_call st (x - own) us n))
       (final xs (done ++ x ∷ []) (with_call st (x - own) us n) split' a (length-set st.called (x - own) us ∙ b)))
       (λ c. tt)
       (λ l gs c n h e. tt)
 
   -- what is handed over; nothing where an override has no value
-  abbrev handed_in : Handing → List Given
+  abbrev handed_in : Handing → List (Option Value)
   handed_in (handed gs) = gs
   handed_in (failed c) = []
 
   holding_last : (st : State) → holding (map held st.own) st.called ≡ env_of st
   holding_last st i =
       record {
-        own = λ x. get_or-map held st.own x Absent i;
+        own = λ x. get_or-map held st.own x None i;
         called = λ k x. get_or (get_or st.called k []) x (Truth false);
       }
 
@@ -251,7 +248,7 @@ module _ (book : List Scope) (enter : ℕ → List Given → Entered) (s : Scope
     abbrev last : State
     last = f.last
 
-    abbrev found : ℕ → List Given
+    abbrev found : ℕ → List (Option Value)
     found k = handed_in (handing (env_of last) s k 0 (callee k))
 
     call_of : (k : ℕ) → k < calls → Calls (env_of last) k (get_or last.called k [])
@@ -274,9 +271,9 @@ module _ (book : List Scope) (enter : ℕ → List Given → Entered) (s : Scope
           called_length = f.called_length;
           handed_length = λ k l. (each_of k l).size;
           variables = λ x l.
-              sym (step_default (get_or given x Absent) (holding (map held last.own) last.called) (tree s (own_target x)))
+              sym (step_default (get_or given x None) (holding (map held last.own) last.called) (tree s (own_target x)))
               ∙ rw (holding_last last) (f.variables x l refl)
-              ∙ ap Gives (sym (get_or-map held last.own x Absent));
+              ∙ ap Ok (sym (get_or-map held last.own x None));
           overrides = λ k l v h.
               let z : 0 + v ≡ v = omega arith in
               rw (holding_last last) (rw z at ((each_of k l).overrides v h));
@@ -295,13 +292,13 @@ module _ (book : List Scope) (enter : ℕ → List Given → Entered) (s : Scope
   run_solves vs n e =
       let f : Final [] (begin s) vs =
       subst (FinalOf [] (begin s)) e
-      (final order [] (begin s) refl (length-map s.variables (λ v. Absent)) (length-map s.sub_scopes (λ k. []))) in
+      (final order [] (begin s) refl (length-map s.variables (λ v. None)) (length-map s.sub_scopes (λ k. []))) in
       subst Solution f.ends (found_solution vs f)
 
   -- From a solution to a run
 
   module _ (vs : List Value) (solution : Solution vs) where
-    abbrev hands_out : ℕ → List Given
+    abbrev hands_out : ℕ → List (Option Value)
     hands_out = solution.hands_out
 
     abbrev cs : List (List Value)
@@ -314,7 +311,7 @@ module _ (book : List Scope) (enter : ℕ → List Given → Entered) (s : Scope
     record Along (done : List ℕ) (st : State) : Type 0 where
       own_length : length st.own ≡ length s.variables
       called_length : length st.called ≡ length s.sub_scopes
-      own : (w : ℕ) → w < length s.variables → among done w ≡ true → get_or st.own w Absent ≡ Present (get_or vs w (Truth false))
+      own : (w : ℕ) → w < length s.variables → among done w ≡ true → get_or st.own w None ≡ Some (get_or vs w (Truth false))
       called : (k : ℕ) → k < length s.sub_scopes → among done (length s.variables + k) ≡ true → get_or st.called k [] ≡ get_or cs k []
 
     module _ (x : ℕ) (xs done : List ℕ) (split : order ≡ done ++ x ∷ xs) (st : State) (a : Along done st) where
@@ -326,26 +323,26 @@ module _ (book : List Scope) (enter : ℕ → List Given → Entered) (s : Scope
             called = λ j l d v. ap (λ us. get_or us v (Truth false)) (a.called j l (before (own + j) (call_step j l) d));
           }
 
-      variable_gives : x < own → step (get_or given x Absent) (env_of st) (tree s (own_target x)) ≡ Gives (get_or vs x (Truth false))
+      variable_gives : x < own → step (get_or given x None) (env_of st) (tree s (own_target x)) ≡ Ok (get_or vs x (Truth false))
       variable_gives l =
-          ap (takes (get_or given x Absent)) (tree_same (env_of st) (holding vs cs) book s formed within x along_same l)
-          ∙ step_default (get_or given x Absent) (holding vs cs) (tree s (own_target x))
+          ap (takes (get_or given x None)) (tree_same (env_of st) (holding vs cs) book s formed within x along_same l)
+          ∙ step_default (get_or given x None) (holding vs cs) (tree s (own_target x))
           ∙ solves.variables x l
 
       variable_along : x < own → Along (done ++ x ∷ []) (with_variable st x (get_or vs x (Truth false)))
       variable_along l =
           let y = get_or vs x (Truth false) in
           record {
-            own_length = length-set st.own x (Present y) ∙ a.own_length;
+            own_length = length-set st.own x (Some y) ∙ a.own_length;
             called_length = a.called_length;
             own = λ w h m.
                 ⊎_elim
                 (λ (q : eqb w x ≡ true).
-                subst (λ (z : ℕ). get_or (set st.own x (Present y)) z Absent ≡ Present (get_or vs z (Truth false))) (sym (eqb-true w x q))
-                (get_or-set_same st.own x (Present y) Absent (omega (arith, a.own_length))))
+                subst (λ (z : ℕ). get_or (set st.own x (Some y)) z None ≡ Some (get_or vs z (Truth false))) (sym (eqb-true w x q))
+                (get_or-set_same st.own x (Some y) None (omega (arith, a.own_length))))
                 (λ (q : eqb w x ≡ false).
                 let ne : w ≡ x → ⊥ = eqb-false w x q in
-                get_or-set_other st.own x w (Present y) Absent ne ∙ a.own w h (sym (snoc_other done x w ne) ∙ m))
+                get_or-set_other st.own x w (Some y) None ne ∙ a.own w h (sym (snoc_other done x w ne) ∙ m))
                 (decide (eqb w x));
             called = λ k h m. a.called k h (sym (snoc_other done x (own + k) (λ q. omega arith)) ∙ m);
           }
@@ -416,7 +413,7 @@ module _ (book : List Scope) (enter : ℕ → List Given → Entered) (s : Scope
     solution_runs =
         runs order [] (begin s) refl
         (record {
-          own_length = length-map s.variables (λ v. Absent);
+          own_length = length-map s.variables (λ v. None);
           called_length = length-map s.sub_scopes (λ k. []);
           own = λ w l m. absurd (false≢true m);
           called = λ k l m. absurd (false≢true m);
@@ -424,9 +421,9 @@ module _ (book : List Scope) (enter : ℕ → List Given → Entered) (s : Scope
 
 -- Of an accepted book
 
-module _ (bytes : List ℕ) (n : ℕ) (accepted : judge bytes ≡ Accepted n) where
+module _ (bytes : List ℕ) (n : ℕ) (accepted : judge bytes ≡ Ok n) where
   -- a run of scope i's steps in this order, in which calls enter the book's scopes
-  abbrev pub run_in_order : ℕ → List Given → List ℕ → Entered
+  abbrev pub run_in_order : ℕ → List (Option Value) → List ℕ → Entered
   run_in_order i given xs =
       run_steps (scopes_of bytes) (run_scope (scopes_of bytes)) (scope_at (scopes_of bytes) i) given xs (begin (scope_at (scopes_of bytes) i))
 
@@ -439,12 +436,12 @@ module _ (bytes : List ℕ) (n : ℕ) (accepted : judge bytes ≡ Accepted n) wh
   OfCallees P i = (k : ℕ) → k < length (scope_at (scopes_of bytes) i).sub_scopes → P (get_or (scope_at (scopes_of bytes) i).sub_scopes k 0)
 
   abbrev RunMeans : ℕ → Type 0
-  RunMeans i = (given : List Given) (vs : List Value) (c : ℕ) → run_scope (scopes_of bytes) i given ≡ values vs c → Means (scopes_of bytes) i given vs
+  RunMeans i = (given : List (Option Value)) (vs : List Value) (c : ℕ) → run_scope (scopes_of bytes) i given ≡ values vs c → Means (scopes_of bytes) i given vs
 
   abbrev MeansRuns : ℕ → Type 0
-  MeansRuns i = (given : List Given) (vs : List Value) → Means (scopes_of bytes) i given vs → (c : ℕ) × (run_scope (scopes_of bytes) i given ≡ values vs c)
+  MeansRuns i = (given : List (Option Value)) (vs : List Value) → Means (scopes_of bytes) i given vs → (c : ℕ) × (run_scope (scopes_of bytes) i given ≡ values vs c)
 
-  module _ (i : ℕ) (l : i < n) (given : List Given) (xs : List ℕ) (complete : Complete i xs) (vs : List Value) where
+  module _ (i : ℕ) (l : i < n) (given : List (Option Value)) (xs : List ℕ) (complete : Complete i xs) (vs : List Value) where
     by_callees : OfCallees RunMeans i → (c : ℕ) → run_in_order i given xs ≡ values vs c → Means (scopes_of bytes) i given vs
     by_callees earlier c e =
         let book = scopes_of bytes in
@@ -460,7 +457,7 @@ module _ (bytes : List ℕ) (n : ℕ) (accepted : judge bytes ≡ Accepted n) wh
         solution_runs book (run_scope book) (scope_at book i) given (a.formed i l) (a.within i) xs complete vs
         (record { hands_out = hs; called_values = cs; solves = solves; entered = λ k h. earlier k h (hs k) (get_or cs k []) (calls k h) })
 
-  pub run_means : (i : ℕ) → i < n → (given : List Given) (vs : List Value) (c : ℕ) → run_scope (scopes_of bytes) i given ≡ values vs c
+  pub run_means : (i : ℕ) → i < n → (given : List (Option Value)) (vs : List Value) (c : ℕ) → run_scope (scopes_of bytes) i given ≡ values vs c
       → Means (scopes_of bytes) i given vs
   run_means =
       accepted_by_blocks bytes n accepted RunMeans (λ i l earlier given vs c e.
@@ -473,7 +470,7 @@ module _ (bytes : List ℕ) (n : ℕ) (accepted : judge bytes ≡ Accepted n) wh
       let r = to_callees i l given (step_order (scope_at (scopes_of bytes) i)) ((accepted_book bytes n accepted).step_orders i l) vs earlier m in
       (r.0, accepted_entered_steps bytes n accepted i l given ∙ r.1))
 
-  pub means_run : (i : ℕ) → i < n → (given : List Given) (vs : List Value) → Means (scopes_of bytes) i given vs
+  pub means_run : (i : ℕ) → i < n → (given : List (Option Value)) (vs : List Value) → Means (scopes_of bytes) i given vs
       → run_scope (scopes_of bytes) i given ≡ values vs (weight (scopes_of bytes) i)
   means_run i l given vs m =
       let r = means_runs i l given vs m in
@@ -484,13 +481,13 @@ module _ (bytes : List ℕ) (n : ℕ) (accepted : judge bytes ≡ Accepted n) wh
   values_in (values vs c) = vs
   values_in (ended d c) = []
 
-  pub means_unique : (i : ℕ) → i < n → (given : List Given) (vs ws : List Value) → Means (scopes_of bytes) i given vs
+  pub means_unique : (i : ℕ) → i < n → (given : List (Option Value)) (vs ws : List Value) → Means (scopes_of bytes) i given vs
       → Means (scopes_of bytes) i given ws → vs ≡ ws
   means_unique i l given vs ws p q = ap values_in (sym (means_run i l given vs p) ∙ means_run i l given ws q)
 
   -- Any order of the steps
 
-  module _ (i : ℕ) (l : i < n) (given : List Given) where
+  module _ (i : ℕ) (l : i < n) (given : List (Option Value)) where
     callee_below : (k : ℕ) → k < length (scope_at (scopes_of bytes) i).sub_scopes → get_or (scope_at (scopes_of bytes) i).sub_scopes k 0 < n
     callee_below k h = let a = accepted_book bytes n accepted in omega (arith, a.count, (a.formed i l).sub_scopes_named k h)
 

@@ -8,6 +8,7 @@
 -- Assumes nothing.
 use mathlib.Core.Path.{◌≡◌, refl, sym, ap, ◌∙◌}
 use mathlib.Core.Bool.{Bool, true, false, false≢true}
+use Rattle.std.specs.Prelude.{Result, Ok, Err, Option, None}
 use Rattle.calculus.specs.Terms.{Term, Terms, literal, default, none, also}
 use Rattle.calculus.specs.Defaults.{found, gather, settle}
 use Rattle.calculus.specs.Evaluation.{Env, eval, exceptions, step}
@@ -15,21 +16,16 @@ use Rattle.calculus.specs.declared.Value.{Value}
 use Rattle.calculus.specs.declared.Value.TheVariants.{Truth}
 use Rattle.answers.specs.declared.Cause.{Cause}
 use Rattle.answers.specs.declared.Cause.TheVariants.{Empty, Conflict, OutOfRange}
-use Rattle.calculus.specs.declared.Outcome.{Outcome}
-use Rattle.calculus.specs.declared.Outcome.TheVariants.{Gives, Ends}
-use Rattle.calculus.specs.declared.Given.{Given}
-use Rattle.calculus.specs.declared.Given.TheVariants.{Absent}
 use Rattle.calculus.specs.declared.Joined.TheVariants.{Nothing, One, Many}
-use Rattle.calculus.specs.declared.Gathered.{Gathered}
-use Rattle.calculus.specs.declared.Gathered.TheVariants.{SoFar, Ended}
 use Rattle.book.specs.Syntax.{Scope}
 use Rattle.book.specs.Trees.{has_rule, bases, tree}
 use Rattle.book.specs.declared.Target.{Target}
 use Rattle.evaluation.specs.Handing.{Handed, hands, stops, falls_back}
+use Rattle.calculus.specs.declared.Joined.{Joined}
 
-abbrev handed_in : Handed → Given
+abbrev handed_in : Handed → Option Value
 handed_in (hands g) = g
-handed_in (stops c) = Absent
+handed_in (stops c) = None
 
 abbrev cause_in : Handed → Cause
 cause_in (hands g) = Empty
@@ -39,66 +35,66 @@ abbrev is_handed : Handed → Bool
 is_handed (hands g) = true
 is_handed (stops c) = false
 
-pub override_settles : (o : Outcome) (g : Given) → falls_back o ≡ hands g → (e : Env) (t : Term) → step g e t ≡ settle (found o) (eval e t)
-override_settles (Gives y) g q e t = ap (λ (h : Given). step h e t) (ap handed_in (sym q))
-override_settles (Ends Empty) g q e t = ap (λ (h : Given). step h e t) (ap handed_in (sym q))
-override_settles (Ends Conflict) g q e t = absurd (false≢true (ap is_handed q))
-override_settles (Ends (OutOfRange s)) g q e t = absurd (false≢true (ap is_handed q))
+pub override_settles : (o : Result Value Cause) (g : Option Value) → falls_back o ≡ hands g → (e : Env) (t : Term) → step g e t ≡ settle (found o) (eval e t)
+override_settles (Ok y) g q e t = ap (λ (h : Option Value). step h e t) (ap handed_in (sym q))
+override_settles (Err Empty) g q e t = ap (λ (h : Option Value). step h e t) (ap handed_in (sym q))
+override_settles (Err Conflict) g q e t = absurd (false≢true (ap is_handed q))
+override_settles (Err (OutOfRange s)) g q e t = absurd (false≢true (ap is_handed q))
 
-pub override_stops : (o : Outcome) (c : Cause) → falls_back o ≡ stops c → (r : Outcome) → settle (found o) r ≡ Ends c
-override_stops (Gives y) c q r = absurd (false≢true (ap is_handed (sym q)))
-override_stops (Ends Empty) c q r = absurd (false≢true (ap is_handed (sym q)))
-override_stops (Ends Conflict) c q r = ap (λ (h : Handed). Ends (cause_in h)) q
-override_stops (Ends (OutOfRange s)) c q r = ap (λ (h : Handed). Ends (cause_in h)) q
+pub override_stops : (o : Result Value Cause) (c : Cause) → falls_back o ≡ stops c → (r : Result Value Cause) → settle (found o) r ≡ Err c
+override_stops (Ok y) c q r = absurd (false≢true (ap is_handed (sym q)))
+override_stops (Err Empty) c q r = absurd (false≢true (ap is_handed (sym q)))
+override_stops (Err Conflict) c q r = ap (λ (h : Handed). Err (cause_in h)) q
+override_stops (Err (OutOfRange s)) c q r = ap (λ (h : Handed). Err (cause_in h)) q
 
-first_found : (o : Outcome) → gather (SoFar Nothing) o ≡ found o
-first_found (Gives y) = refl
-first_found (Ends Empty) = refl
-first_found (Ends Conflict) = refl
-first_found (Ends (OutOfRange s)) = refl
+first_found : (o : Result Value Cause) → gather (Ok Nothing) o ≡ found o
+first_found (Ok y) = refl
+first_found (Err Empty) = refl
+first_found (Err Conflict) = refl
+first_found (Err (OutOfRange s)) = refl
 
-pub override_exception : (u : Term) (e : Env) (t : Term) (g : Given) → falls_back (eval e u) ≡ hands g
+pub override_exception : (u : Term) (e : Env) (t : Term) (g : Option Value) → falls_back (eval e u) ≡ hands g
     → step g e t ≡ eval e (default (also u none) (literal (Truth true)) t)
 unfolding eval exceptions
 override_exception u e t g q =
-    override_settles (eval e u) g q e t ∙ ap (λ (h : Gathered). settle h (eval e t)) (sym (first_found (eval e u)))
+    override_settles (eval e u) g q e t ∙ ap (λ (h : Result Joined Cause). settle h (eval e t)) (sym (first_found (eval e u)))
 
 -- Rules
 
 -- exceptions end by conflict or out of range, if they end
-abbrev NotEndedEmpty : Gathered → Type 0
-NotEndedEmpty (SoFar j) = Unit {0}
-NotEndedEmpty (Ended Empty) = ⊥
-NotEndedEmpty (Ended Conflict) = Unit {0}
-NotEndedEmpty (Ended (OutOfRange s)) = Unit {0}
+abbrev NotEndedEmpty : Result Joined Cause → Type 0
+NotEndedEmpty (Ok j) = Unit {0}
+NotEndedEmpty (Err Empty) = ⊥
+NotEndedEmpty (Err Conflict) = Unit {0}
+NotEndedEmpty (Err (OutOfRange s)) = Unit {0}
 
-not_ended_gather : (g : Gathered) (o : Outcome) → NotEndedEmpty g → NotEndedEmpty (gather g o)
-not_ended_gather (Ended c) o p = p
-not_ended_gather (SoFar j) (Gives v) p = tt
-not_ended_gather (SoFar j) (Ends Empty) p = tt
-not_ended_gather (SoFar j) (Ends Conflict) p = tt
-not_ended_gather (SoFar j) (Ends (OutOfRange s)) p = tt
+not_ended_gather : (g : Result Joined Cause) (o : Result Value Cause) → NotEndedEmpty g → NotEndedEmpty (gather g o)
+not_ended_gather (Err c) o p = p
+not_ended_gather (Ok j) (Ok v) p = tt
+not_ended_gather (Ok j) (Err Empty) p = tt
+not_ended_gather (Ok j) (Err Conflict) p = tt
+not_ended_gather (Ok j) (Err (OutOfRange s)) p = tt
 
-not_ended_exceptions : (e : Env) (g : Gathered) (ts : Terms) → NotEndedEmpty g → NotEndedEmpty (exceptions e g ts)
+not_ended_exceptions : (e : Env) (g : Result Joined Cause) (ts : Terms) → NotEndedEmpty g → NotEndedEmpty (exceptions e g ts)
 unfolding exceptions
 not_ended_exceptions e g none p = p
 not_ended_exceptions e g (also t ts) p = not_ended_exceptions e (gather g (eval e t)) ts (not_ended_gather g (eval e t) p)
 
-abbrev ends_empty : Outcome → Bool
-ends_empty (Gives v) = false
-ends_empty (Ends Empty) = true
-ends_empty (Ends Conflict) = false
-ends_empty (Ends (OutOfRange s)) = false
+abbrev ends_empty : Result Value Cause → Bool
+ends_empty (Ok v) = false
+ends_empty (Err Empty) = true
+ends_empty (Err Conflict) = false
+ends_empty (Err (OutOfRange s)) = false
 
-settled : (g : Gathered) (v : Value) → NotEndedEmpty g → settle g (Gives v) ≡ Ends Empty → ⊥
-settled (SoFar Nothing) v p q = false≢true (ap ends_empty q)
-settled (SoFar (One u)) v p q = false≢true (ap ends_empty q)
-settled (SoFar Many) v p q = false≢true (ap ends_empty q)
-settled (Ended Empty) v p q = p
-settled (Ended Conflict) v p q = false≢true (ap ends_empty q)
-settled (Ended (OutOfRange s)) v p q = false≢true (ap ends_empty q)
+settled : (g : Result Joined Cause) (v : Value) → NotEndedEmpty g → settle g (Ok v) ≡ Err Empty → ⊥
+settled (Ok Nothing) v p q = false≢true (ap ends_empty q)
+settled (Ok (One u)) v p q = false≢true (ap ends_empty q)
+settled (Ok Many) v p q = false≢true (ap ends_empty q)
+settled (Err Empty) v p q = p
+settled (Err Conflict) v p q = false≢true (ap ends_empty q)
+settled (Err (OutOfRange s)) v p q = false≢true (ap ends_empty q)
 
-pub rules_never_empty : (e : Env) (s : Scope) (t : Target) → has_rule s t ≡ true → eval e (tree s t) ≡ Ends Empty → ⊥
+pub rules_never_empty : (e : Env) (s : Scope) (t : Target) → has_rule s t ≡ true → eval e (tree s t) ≡ Err Empty → ⊥
 unfolding tree eval
 rules_never_empty e s t h q =
-    settled (exceptions e (SoFar Nothing) (bases s t)) (Truth false) (not_ended_exceptions e (SoFar Nothing) (bases s t) tt) (rw h at q)
+    settled (exceptions e (Ok Nothing) (bases s t)) (Truth false) (not_ended_exceptions e (Ok Nothing) (bases s t) tt) (rw h at q)

@@ -19,13 +19,10 @@ use lib.ListN.{length, get_or, set, length-set, length-map, get_or-map}
 use lib.Seq.{get_or-set_same, get_or-set_other}
 use lib.Dec.{eqb}
 use borrow.Author.Tests.{eqb-true, eqb-false, ne_eqb}
+use Rattle.std.specs.Prelude.{Result, Ok, Option, None, Some}
 use Rattle.calculus.specs.Terms.{Term}
 use Rattle.calculus.specs.Evaluation.{Env, eval, step, takes}
 use Rattle.calculus.specs.declared.Value.{Value}
-use Rattle.calculus.specs.declared.Outcome.{Outcome}
-use Rattle.calculus.specs.declared.Outcome.TheVariants.{Gives}
-use Rattle.calculus.specs.declared.Given.{Given}
-use Rattle.calculus.specs.declared.Given.TheVariants.{Absent, Present}
 use Rattle.cells.specs.Cells.{held}
 use Rattle.order.specs.Order.{among}
 use Rattle.calculus.proofs.Overriding.{step_default}
@@ -40,7 +37,6 @@ use Rattle.book.specs.Judge.{judge}
 use Rattle.book.specs.declared.ValueType.{ValueType}
 use Rattle.book.specs.declared.ValueType.TheVariants.{YesNo}
 use Rattle.book.specs.declared.Variable.{Variable}
-use Rattle.answers.specs.declared.Judged.TheVariants.{Accepted}
 use Rattle.acceptance.specs.Accepted.{WithinLimits, WellFormed, CompleteOrder}
 use Rattle.acceptance.proofs.Orders.{accepted_book}
 use Rattle.acceptance.proofs.Reading.{variable_depends, call_depends}
@@ -55,6 +51,7 @@ use Rattle.evaluation.proofs.Entering.{accepted_entered_steps, accepted_by_block
 use Rattle.evaluation.proofs.Soundness.{Passes, typed_map, held_type, ready_typed}
 use Rattle.evaluation.proofs.Trees.{tree_typed}
 use Rattle.evaluation.proofs.Environments.{Each, each_rest, handing_overrides}
+use Rattle.answers.specs.declared.Cause.{Cause}
 
 -- Lists of values
 
@@ -65,16 +62,16 @@ fit_at (y ∷ xs) [] x h l = absurd h
 fit_at (y ∷ xs) (v ∷ vs) zero h l = h.0
 fit_at (y ∷ xs) (v ∷ vs) (suc x) h l = fit_at xs vs x h.1 (omega arith)
 
-fitting_at : (xs : List Variable) (gs : List Given) (x : ℕ) → Fitting xs gs
-    → MayHold (get_or xs x (record { holds = YesNo })).holds (get_or gs x Absent)
+fitting_at : (xs : List Variable) (gs : List (Option Value)) (x : ℕ) → Fitting xs gs
+    → MayHold (get_or xs x (record { holds = YesNo })).holds (get_or gs x None)
 fitting_at [] [] x h = tt
 fitting_at [] (g ∷ gs) x h = absurd h
 fitting_at (y ∷ xs) [] x h = absurd h
 fitting_at (y ∷ xs) (g ∷ gs) zero h = h.0
 fitting_at (y ∷ xs) (g ∷ gs) (suc x) h = fitting_at xs gs x h.1
 
-all_held : (xs : List Variable) (gs : List Given) → length gs ≡ length xs
-    → ((w : ℕ) → w < length xs → Holds (get_or xs w (record { holds = YesNo })).holds (get_or gs w Absent)) → ValuesFit xs (map held gs)
+all_held : (xs : List Variable) (gs : List (Option Value)) → length gs ≡ length xs
+    → ((w : ℕ) → w < length xs → Holds (get_or xs w (record { holds = YesNo })).holds (get_or gs w None)) → ValuesFit xs (map held gs)
 all_held [] [] e h = tt
 all_held [] (g ∷ gs) e h = absurd (omega arith)
 all_held (x ∷ xs) [] e h = absurd (omega arith)
@@ -85,11 +82,11 @@ all_held (x ∷ xs) (g ∷ gs) e h = (held_type x.holds g (h 0 (omega arith)), a
 module _ (book : List Scope) (s : Scope) (formed : WellFormed book s) (within : WithinLimits s) where
   -- what a step depends on is there to be read
   passes : (x : ℕ) (st : State) → Ready book s x st → (r : ℕ → Bool) → ((w : ℕ) → r w ≡ true → depends_on s x w ≡ true)
-      → Passes (length s.variables) (OwnNamed s) (λ w t. Holds t (get_or st.own w Absent))
+      → Passes (length s.variables) (OwnNamed s) (λ w t. Holds t (get_or st.own w None))
       (CalledNamed book s) (λ k w t. HoldsAt t (get_or st.called k []) w) r
   passes x st ready r depends =
       record {
-        own = λ w t e n. subst (λ (a : ValueType). Holds a (get_or st.own w Absent)) n.1 (ready.variables w n.0 (depends w e));
+        own = λ w t e n. subst (λ (a : ValueType). Holds a (get_or st.own w None)) n.1 (ready.variables w n.0 (depends w e));
         calls = λ k w t e n.
             subst (λ (a : ValueType). HoldsAt a (get_or st.called k []) w) n.2
             (fit_at (scope_at book (get_or s.sub_scopes k 0)).variables (get_or st.called k []) w
@@ -99,7 +96,7 @@ module _ (book : List Scope) (s : Scope) (formed : WellFormed book s) (within : 
   term_ready : (x : ℕ) (st : State) → Ready book s x st → (t : Term) (u : ValueType)
       → ((w : ℕ) → reads (length s.variables) w t ≡ true → depends_on s x w ≡ true) → WellTyped book s t u → TermReady st t u
   term_ready x st ready t u depends =
-      typed_map (length s.variables) (OwnNamed s) (λ w t₁. Holds t₁ (get_or st.own w Absent))
+      typed_map (length s.variables) (OwnNamed s) (λ w t₁. Holds t₁ (get_or st.own w None))
       (CalledNamed book s) (λ k w t₁. HoldsAt t₁ (get_or st.called k []) w) t u
       (passes x st ready (λ w. reads (length s.variables) w t) depends)
 
@@ -129,18 +126,18 @@ unfolding step_count
 below_steps s w l = omega arith
 
 -- a variable's step gives a value of its type
-step_typed : (t : ValueType) (g : Given) (o : Outcome) (y : Value) → MayHold t g → OutcomeFits t o → takes g o ≡ Gives y → HasType t y
-step_typed t Absent o y h f e = subst (OutcomeFits t) e f
-step_typed t (Present v) o y h f e = subst (OutcomeFits t) e h
+step_typed : (t : ValueType) (g : Option Value) (o : Result Value Cause) (y : Value) → MayHold t g → OutcomeFits t o → takes g o ≡ Ok y → HasType t y
+step_typed t None o y h f e = subst (OutcomeFits t) e f
+step_typed t (Some v) o y h f e = subst (OutcomeFits t) e h
 
 -- so is what a call hands over for a variable
-override_typed : (t : ValueType) (e : Env) (s : Scope) (k v : ℕ) (g : Given) → OutcomeFits t (eval e (tree s (called_target k v)))
+override_typed : (t : ValueType) (e : Env) (s : Scope) (k v : ℕ) (g : Option Value) → OutcomeFits t (eval e (tree s (called_target k v)))
     → Overrides e s k v g → MayHold t g
 override_typed t e s k v g f (Overrides.without q) = tt
 override_typed t e s k v g f (Overrides.empty q p) = tt
-override_typed t e s k v g f (Overrides.with y q p) = subst (OutcomeFits t) (step_default Absent e (tree s (called_target k v)) ∙ p) f
+override_typed t e s k v g f (Overrides.with y q p) = subst (OutcomeFits t) (step_default None e (tree s (called_target k v)) ∙ p) f
 
-each_fits : (e : Env) (s : Scope) (k v : ℕ) (xs : List Variable) (gs : List Given)
+each_fits : (e : Env) (s : Scope) (k v : ℕ) (xs : List Variable) (gs : List (Option Value))
     → ((j : ℕ) → j < length xs → OutcomeFits (get_or xs j (record { holds = YesNo })).holds (eval e (tree s (called_target k (v + j)))))
     → Each e s k v xs gs → Fitting xs gs
 each_fits e s k v [] [] h r = tt
@@ -154,10 +151,10 @@ each_fits e s k v (x ∷ xs) (g ∷ gs) h r =
       each_fits e s k (suc v) xs gs (λ j l. let y : suc v + j ≡ v + suc j = omega arith in rw y (h (suc j) (omega arith))) p.1,
     )
 
-module _ (book : List Scope) (enter : ℕ → List Given → Entered) (s : Scope) (given : List Given)
+module _ (book : List Scope) (enter : ℕ → List (Option Value) → Entered) (s : Scope) (given : List (Option Value))
     (formed : WellFormed book s) (within : WithinLimits s) (orders : CompleteOrder (depends_on s) (step_count s) (step_order s))
     (fitting : Fitting s.variables given)
-    (fit : (k : ℕ) → k < length s.sub_scopes → (gs : List Given) → Fitting (scope_at book (get_or s.sub_scopes k 0)).variables gs
+    (fit : (k : ℕ) → k < length s.sub_scopes → (gs : List (Option Value)) → Fitting (scope_at book (get_or s.sub_scopes k 0)).variables gs
     → EnteredFits (scope_at book (get_or s.sub_scopes k 0)).variables (enter (get_or s.sub_scopes k 0) gs)) where
   pub progress_below : (x : ℕ) (xs : List ℕ) (st : State) → Progress book s (x ∷ xs) st → x < step_count s
   progress_below x xs st p = next_below (depends_on s) (step_count s) (step_order s) orders x xs p.steps p.split
@@ -183,23 +180,23 @@ module _ (book : List Scope) (enter : ℕ → List Given → Entered) (s : Scope
         split = refl;
         done =
             record {
-              own_length = length-map s.variables (λ v. Absent);
+              own_length = length-map s.variables (λ v. None);
               called_length = length-map s.sub_scopes (λ k. []);
               stored = λ w l m. absurd (false≢true m);
-              unset = λ w l m. get_or-map {B = Given} (λ (v : Variable). Absent) s.variables w (record { holds = YesNo });
+              unset = λ w l m. get_or-map {B = (Option Value)} (λ (v : Variable). None) s.variables w (record { holds = YesNo });
               entered = λ k l m. absurd (false≢true m);
               waiting = λ k l m. get_or-map {B = List Value} (λ (k : ℕ). []) s.sub_scopes k 0;
             };
       }
 
   variable_progress : (x : ℕ) (xs : List ℕ) (st : State) (y : Value) → Progress book s (x ∷ xs) st → x < length s.variables
-      → step (get_or given x Absent) (env_of st) (tree s (own_target x)) ≡ Gives y
+      → step (get_or given x None) (env_of st) (tree s (own_target x)) ≡ Ok y
       → Progress book s xs (with_variable st x y)
   variable_progress x xs st y p l e =
       let d = p.done in
       let ready = trees_ready book s formed within x st (progress_ready x xs st p) in
       let typed : HasType (type_at s x) y =
-      step_typed (type_at s x) (get_or given x Absent) (eval (env_of st) (tree s (own_target x))) y (fitting_at s.variables given x fitting)
+      step_typed (type_at s x) (get_or given x None) (eval (env_of st) (tree s (own_target x))) y (fitting_at s.variables given x fitting)
       (ready_typed st (tree s (own_target x)) (type_at s x) (ready.own l)) e in
       let inside : x < length st.own = omega (arith, d.own_length) in
       record {
@@ -207,17 +204,17 @@ module _ (book : List Scope) (enter : ℕ → List Given → Entered) (s : Scope
         split = p.split ∙ append_more p.steps x xs;
         done =
             record {
-              own_length = length-set st.own x (Present y) ∙ d.own_length;
+              own_length = length-set st.own x (Some y) ∙ d.own_length;
               called_length = d.called_length;
               stored = λ w h m.
                   ⊎_elim
                   (λ (q : eqb w x ≡ true).
                   let same : w ≡ x = eqb-true w x q in
-                  subst (λ (z : ℕ). Holds (type_at s z) (get_or (set st.own x (Present y)) z Absent)) (sym same)
-                  (rw (get_or-set_same st.own x (Present y) Absent inside) typed))
+                  subst (λ (z : ℕ). Holds (type_at s z) (get_or (set st.own x (Some y)) z None)) (sym same)
+                  (rw (get_or-set_same st.own x (Some y) None inside) typed))
                   (λ (q : eqb w x ≡ false).
                   let ne : w ≡ x → ⊥ = eqb-false w x q in
-                  rw (get_or-set_other st.own x w (Present y) Absent ne)
+                  rw (get_or-set_other st.own x w (Some y) None ne)
                   (d.stored w h (sym (snoc_other p.steps x w ne) ∙ m)))
                   (decide (eqb w x));
               unset = λ w h m.
@@ -226,14 +223,14 @@ module _ (book : List Scope) (enter : ℕ → List Given → Entered) (s : Scope
                   absurd (false≢true (sym m ∙ snoc_here p.steps x w (eqb-true w x q))))
                   (λ (q : eqb w x ≡ false).
                   let ne : w ≡ x → ⊥ = eqb-false w x q in
-                  get_or-set_other st.own x w (Present y) Absent ne ∙ d.unset w h (sym (snoc_other p.steps x w ne) ∙ m))
+                  get_or-set_other st.own x w (Some y) None ne ∙ d.unset w h (sym (snoc_other p.steps x w ne) ∙ m))
                   (decide (eqb w x));
               entered = λ k h m. d.entered k h (sym (snoc_other p.steps x (length s.variables + k) (λ q. omega arith)) ∙ m);
               waiting = λ k h m. d.waiting k h (sym (snoc_other p.steps x (length s.variables + k) (λ q. omega arith)) ∙ m);
             };
       }
 
-  handed_fit : (x : ℕ) (xs : List ℕ) (st : State) (gs : List Given) → Progress book s (x ∷ xs) st → length s.variables ≤ x
+  handed_fit : (x : ℕ) (xs : List ℕ) (st : State) (gs : List (Option Value)) → Progress book s (x ∷ xs) st → length s.variables ≤ x
       → hands_over book s st x ≡ handed gs → Fitting (scope_at book (callee_of s x)).variables gs
   unfolding step_count
   handed_fit x xs st gs p l e =
@@ -247,7 +244,7 @@ module _ (book : List Scope) (enter : ℕ → List Given → Entered) (s : Scope
       rw z (ready_typed st (tree s (called_target k j)) (called_type_at book s k j) (ready.overrides k (omega arith) (omega arith) j)))
       (handing_overrides (env_of st) s k 0 callee gs e)
 
-  call_progress : (x : ℕ) (xs : List ℕ) (st : State) (gs : List Given) (vs : List Value) (n : ℕ) → Progress book s (x ∷ xs) st
+  call_progress : (x : ℕ) (xs : List ℕ) (st : State) (gs : List (Option Value)) (vs : List Value) (n : ℕ) → Progress book s (x ∷ xs) st
       → length s.variables ≤ x
       → hands_over book s st x ≡ handed gs
       → enter (callee_of s x) gs ≡ values vs n
@@ -306,7 +303,7 @@ module _ (book : List Scope) (enter : ℕ → List Given → Entered) (s : Scope
   reached_ready x xs st r = progress_ready x xs st (reached_progress (x ∷ xs) st r)
 
   -- what a call hands over fits the variables of the scope that it enters
-  pub reached_handed : (x : ℕ) (xs : List ℕ) (st : State) (gs : List Given) → Reached book enter s given (x ∷ xs) st → length s.variables ≤ x
+  pub reached_handed : (x : ℕ) (xs : List ℕ) (st : State) (gs : List (Option Value)) → Reached book enter s given (x ∷ xs) st → length s.variables ≤ x
       → hands_over book s st x ≡ handed gs
       → Fitting (scope_at book (callee_of s x)).variables gs
   reached_handed x xs st gs r = handed_fit x xs st gs (reached_progress (x ∷ xs) st r)
@@ -329,21 +326,21 @@ module _ (book : List Scope) (enter : ℕ → List Given → Entered) (s : Scope
 
 -- Of an accepted book
 
-module _ (bytes : List ℕ) (n : ℕ) (accepted : judge bytes ≡ Accepted n) where
-  pub accepted_fit : (i : ℕ) → i < n → (given : List Given) → Fitting (scope_at (scopes_of bytes) i).variables given
+module _ (bytes : List ℕ) (n : ℕ) (accepted : judge bytes ≡ Ok n) where
+  pub accepted_fit : (i : ℕ) → i < n → (given : List (Option Value)) → Fitting (scope_at (scopes_of bytes) i).variables given
       → EnteredFits (scope_at (scopes_of bytes) i).variables (run_scope (scopes_of bytes) i given)
   accepted_fit =
       accepted_by_blocks bytes n accepted
-      (λ i. (given : List Given) → Fitting (scope_at (scopes_of bytes) i).variables given
+      (λ i. (given : List (Option Value)) → Fitting (scope_at (scopes_of bytes) i).variables given
       → EnteredFits (scope_at (scopes_of bytes) i).variables (run_scope (scopes_of bytes) i given))
       turn
     where
       turn : (i : ℕ) → i < n
-          → ((k : ℕ) → k < length (scope_at (scopes_of bytes) i).sub_scopes → (gs : List Given)
+          → ((k : ℕ) → k < length (scope_at (scopes_of bytes) i).sub_scopes → (gs : List (Option Value))
           → Fitting (scope_at (scopes_of bytes) (get_or (scope_at (scopes_of bytes) i).sub_scopes k 0)).variables gs
           → EnteredFits (scope_at (scopes_of bytes) (get_or (scope_at (scopes_of bytes) i).sub_scopes k 0)).variables
           (run_scope (scopes_of bytes) (get_or (scope_at (scopes_of bytes) i).sub_scopes k 0) gs))
-          → (given : List Given) → Fitting (scope_at (scopes_of bytes) i).variables given
+          → (given : List (Option Value)) → Fitting (scope_at (scopes_of bytes) i).variables given
           → EnteredFits (scope_at (scopes_of bytes) i).variables (run_scope (scopes_of bytes) i given)
       turn i l earlier given fitting =
           let book = scopes_of bytes in
@@ -354,8 +351,8 @@ module _ (bytes : List ℕ) (n : ℕ) (accepted : judge bytes ≡ Accepted n) wh
           (step_order s) (begin s) Reached.start)
 
   -- a run of scope i, entered with values that fit its variables
-  module _ (i : ℕ) (l : i < n) (given : List Given) (fitting : Fitting (scope_at (scopes_of bytes) i).variables given) where
-    sub_scopes_fit : (k : ℕ) → k < length (scope_at (scopes_of bytes) i).sub_scopes → (gs : List Given)
+  module _ (i : ℕ) (l : i < n) (given : List (Option Value)) (fitting : Fitting (scope_at (scopes_of bytes) i).variables given) where
+    sub_scopes_fit : (k : ℕ) → k < length (scope_at (scopes_of bytes) i).sub_scopes → (gs : List (Option Value))
         → Fitting (scope_at (scopes_of bytes) (get_or (scope_at (scopes_of bytes) i).sub_scopes k 0)).variables gs
         → EnteredFits (scope_at (scopes_of bytes) (get_or (scope_at (scopes_of bytes) i).sub_scopes k 0)).variables
         (run_scope (scopes_of bytes) (get_or (scope_at (scopes_of bytes) i).sub_scopes k 0) gs)
@@ -397,7 +394,7 @@ module _ (bytes : List ℕ) (n : ℕ) (accepted : judge bytes ≡ Accepted n) wh
         let a = accepted_book bytes n accepted in
         trees_ready book (scope_at book i) (a.formed i l) (a.within i) x st (accepted_ready x xs st r)
 
-    pub accepted_handed : (x : ℕ) (xs : List ℕ) (st : State) (gs : List Given)
+    pub accepted_handed : (x : ℕ) (xs : List ℕ) (st : State) (gs : List (Option Value))
         → Reached (scopes_of bytes) (run_scope (scopes_of bytes)) (scope_at (scopes_of bytes) i) given (x ∷ xs) st
         → length (scope_at (scopes_of bytes) i).variables ≤ x → hands_over (scopes_of bytes) (scope_at (scopes_of bytes) i) st x ≡ handed gs
         → Fitting (scope_at (scopes_of bytes) (callee_of (scope_at (scopes_of bytes) i) x)).variables gs

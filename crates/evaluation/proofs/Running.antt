@@ -15,13 +15,10 @@ use native.Mathlib.Omega.{arith}
 use lib.ListN.{length, get_or, set}
 use lib.Dec.{ltb}
 use borrow.Author.Tests.{ltb-true, ltb-false, lt-ltb, le-ltb}
+use Rattle.std.specs.Prelude.{Result, Ok, Err, Option, None}
 use Rattle.calculus.specs.Evaluation.{step}
 use Rattle.calculus.specs.declared.Value.{Value}
 use Rattle.answers.specs.declared.Cause.{Cause}
-use Rattle.calculus.specs.declared.Outcome.{Outcome}
-use Rattle.calculus.specs.declared.Outcome.TheVariants.{Gives, Ends}
-use Rattle.calculus.specs.declared.Given.{Given}
-use Rattle.calculus.specs.declared.Given.TheVariants.{Absent}
 use Rattle.laws.proofs.Booleans.{decide}
 use Rattle.book.specs.Syntax.{Scope}
 use Rattle.book.specs.References.{scope_at}
@@ -47,23 +44,23 @@ call_number s x l h = omega arith
 
 -- One step of a run
 
-module _ (book : List Scope) (enter : ℕ → List Given → Entered) (s : Scope) (given : List Given) (x : ℕ) (xs : List ℕ) (st : State) where
+module _ (book : List Scope) (enter : ℕ → List (Option Value) → Entered) (s : Scope) (given : List (Option Value)) (x : ℕ) (xs : List ℕ) (st : State) where
   module _ (l : x < length s.variables) where
-    pub variable_turn : (y : Value) → step (get_or given x Absent) (env_of st) (tree s (own_target x)) ≡ Gives y
+    pub variable_turn : (y : Value) → step (get_or given x None) (env_of st) (tree s (own_target x)) ≡ Ok y
         → run_steps book enter s given (x ∷ xs) st
         ≡ run_steps book enter s given xs (with_variable st x y)
     unfolding run_steps_by
     variable_turn y e =
         rw (lt-ltb x (length s.variables) l)
-        (ap (λ (o : Outcome). on_value o st.count (λ v. run_steps book enter s given xs (with_variable st x v))) e)
+        (ap (λ (o : Result Value Cause). on_value o st.count (λ v. run_steps book enter s given xs (with_variable st x v))) e)
 
-    pub variable_end : (c : Cause) → step (get_or given x Absent) (env_of st) (tree s (own_target x)) ≡ Ends c
+    pub variable_end : (c : Cause) → step (get_or given x None) (env_of st) (tree s (own_target x)) ≡ Err c
         → run_steps book enter s given (x ∷ xs) st ≡ ended c st.count
     unfolding run_steps_by
     variable_end c e = rw (lt-ltb x (length s.variables) l, e)
 
   module _ (l : length s.variables ≤ x) where
-    pub call_turn : (gs : List Given) (vs : List Value) (n : ℕ)
+    pub call_turn : (gs : List (Option Value)) (vs : List Value) (n : ℕ)
         → hands_over book s st x ≡ handed gs
         → enter (callee_of s x) gs ≡ values vs n
         → run_steps book enter s given (x ∷ xs) st
@@ -77,7 +74,7 @@ module _ (book : List Scope) (enter : ℕ → List Given → Entered) (s : Scope
     unfolding run_steps_by
     call_failed c h = rw (le-ltb x (length s.variables) l, h)
 
-    pub call_end : (gs : List Given) (c : Cause) (n : ℕ)
+    pub call_end : (gs : List (Option Value)) (c : Cause) (n : ℕ)
         → hands_over book s st x ≡ handed gs
         → enter (callee_of s x) gs ≡ ended c n
         → run_steps book enter s given (x ∷ xs) st ≡ ended c (st.count + n)
@@ -86,8 +83,8 @@ module _ (book : List Scope) (enter : ℕ → List Given → Entered) (s : Scope
 
 -- A whole run
 
-module _ (by : Outcome → Handed) (book : List Scope) (s : Scope) (given : List Given) (e f : ℕ → List Given → Entered)
-    (same : (k : ℕ) → k < length s.sub_scopes → (gs : List Given)
+module _ (by : Result Value Cause → Handed) (book : List Scope) (s : Scope) (given : List (Option Value)) (e f : ℕ → List (Option Value) → Entered)
+    (same : (k : ℕ) → k < length s.sub_scopes → (gs : List (Option Value))
     → e (get_or s.sub_scopes k 0) gs ≡ f (get_or s.sub_scopes k 0) gs) where
   pub steps_congruent : (xs : List ℕ) → Steps s xs → (st : State) → run_steps_by by book e s given xs st ≡ run_steps_by by book f s given xs st
   unfolding run_steps_by
@@ -99,7 +96,7 @@ module _ (by : Outcome → Handed) (book : List Scope) (s : Scope) (given : List
       ⊎_elim
       (λ (q : ltb x v ≡ true).
       rw q
-      (λ i. on_value (step (get_or given x Absent) (env_of st) (tree s (own_target x))) st.count
+      (λ i. on_value (step (get_or given x None) (env_of st) (tree s (own_target x))) st.count
       (λ y. rest (with_variable st x y) i)))
       (λ (q : ltb x v ≡ false).
       let k = x - v in
@@ -110,26 +107,26 @@ module _ (by : Outcome → Handed) (book : List Scope) (s : Scope) (given : List
       (λ vs n. rest (record { own = st.own; called = set st.called k vs; count = n }) i))))
       (decide (ltb x v))
 
-module _ (book : List Scope) (enter : ℕ → List Given → Entered) (s : Scope) (given : List Given) where
+module _ (book : List Scope) (enter : ℕ → List (Option Value) → Entered) (s : Scope) (given : List (Option Value)) where
   module _ (P : Entered → Type 0) (x : ℕ) (xs : List ℕ) (st : State)
-      (variable : x < length s.variables → (y : Value) → step (get_or given x Absent) (env_of st) (tree s (own_target x)) ≡ Gives y
+      (variable : x < length s.variables → (y : Value) → step (get_or given x None) (env_of st) (tree s (own_target x)) ≡ Ok y
       → P (run_steps book enter s given xs (with_variable st x y)))
-      (call : length s.variables ≤ x → (gs : List Given) (vs : List Value) (n : ℕ)
+      (call : length s.variables ≤ x → (gs : List (Option Value)) (vs : List Value) (n : ℕ)
       → hands_over book s st x ≡ handed gs
       → enter (callee_of s x) gs ≡ values vs n
       → P (run_steps book enter s given xs (with_call st (x - length s.variables) vs n)))
       (stops : (c : Cause) → P (ended c st.count))
-      (ends : length s.variables ≤ x → (gs : List Given) (c : Cause) (n : ℕ)
+      (ends : length s.variables ≤ x → (gs : List (Option Value)) (c : Cause) (n : ℕ)
       → hands_over book s st x ≡ handed gs
       → enter (callee_of s x) gs ≡ ended c n → P (ended c (st.count + n))) where
     abbrev Goal : Type 0
     Goal = P (run_steps book enter s given (x ∷ xs) st)
 
-    own_step_lem : x < length s.variables → (o : Outcome) → step (get_or given x Absent) (env_of st) (tree s (own_target x)) ≡ o → Goal
-    own_step_lem l (Gives y) e = subst P (sym (variable_turn book enter s given x xs st l y e)) (variable l y e)
-    own_step_lem l (Ends c) e = subst P (sym (variable_end book enter s given x xs st l c e)) (stops c)
+    own_step_lem : x < length s.variables → (o : Result Value Cause) → step (get_or given x None) (env_of st) (tree s (own_target x)) ≡ o → Goal
+    own_step_lem l (Ok y) e = subst P (sym (variable_turn book enter s given x xs st l y e)) (variable l y e)
+    own_step_lem l (Err c) e = subst P (sym (variable_end book enter s given x xs st l c e)) (stops c)
 
-    entered_step : length s.variables ≤ x → (gs : List Given)
+    entered_step : length s.variables ≤ x → (gs : List (Option Value))
         → hands_over book s st x ≡ handed gs
         → (r : Entered) → enter (callee_of s x) gs ≡ r → Goal
     entered_step l gs h (values vs n) e = subst P (sym (call_turn book enter s given x xs st l gs vs n h e)) (call l gs vs n h e)

@@ -11,6 +11,7 @@ use mathlib.Core.List.{List, [], ◌∷◌}
 use lib.ListN.{get_or}
 use lib.IntN.{ℤ, neg_ℤ, ◌+ℤ◌, ◌-ℤ◌}
 use borrow.Author.Tests.{eq-eqb}
+use Rattle.std.specs.Prelude.{Result, Ok, Err, Option, None, Some}
 use Rattle.calculus.specs.Values.{truth_of, number_of, ranged}
 use Rattle.calculus.specs.Operators.{unary_of, binary_of}
 use Rattle.calculus.specs.Outcomes.{bind, choose}
@@ -23,18 +24,12 @@ use Rattle.calculus.specs.Evaluation.{Env, eval, exceptions}
 use Rattle.calculus.specs.declared.Value.{Value}
 use Rattle.calculus.specs.declared.Value.TheVariants.{Truth}
 use Rattle.answers.specs.declared.Cause.TheVariants.{Empty, Conflict, OutOfRange}
-use Rattle.calculus.specs.declared.Outcome.{Outcome}
-use Rattle.calculus.specs.declared.Outcome.TheVariants.{Gives, Ends}
 use Rattle.calculus.specs.declared.Joined.{Joined}
 use Rattle.calculus.specs.declared.Joined.TheVariants.{Nothing, One, Many}
-use Rattle.calculus.specs.declared.Gathered.{Gathered}
-use Rattle.calculus.specs.declared.Gathered.TheVariants.{SoFar, Ended}
 use Rattle.calculus.specs.declared.Unary.{Unary}
 use Rattle.calculus.specs.declared.Unary.TheVariants.{Not, Negate}
 use Rattle.calculus.specs.declared.Binary.{Binary}
 use Rattle.calculus.specs.declared.Binary.TheVariants.{And, Add, Subtract, Equal, Less}
-use Rattle.calculus.specs.declared.Given.{Given}
-use Rattle.calculus.specs.declared.Given.TheVariants.{Absent, Present}
 use Rattle.cells.specs.Cells.{held}
 use Rattle.book.specs.Typing.{unary_type, binary_type}
 use Rattle.book.specs.Steps.{reads, reads_any}
@@ -43,6 +38,7 @@ use Rattle.book.specs.declared.ValueType.TheVariants.{YesNo, Numeric}
 use Rattle.evaluation.specs.Run.{State, env_of}
 use Rattle.evaluation.specs.Types.{HasType, Holds, HoldsAt, OutcomeFits, Typed, AllTyped}
 use Rattle.evaluation.specs.Readiness.{TermReady}
+use Rattle.answers.specs.declared.Cause.{Cause}
 
 -- Typings under other facts on the variables
 
@@ -100,9 +96,9 @@ JoinedFits t Nothing = Unit {0}
 JoinedFits t (One v) = HasType t v
 JoinedFits t Many = Unit {0}
 
-abbrev GatheredFits : ValueType → Gathered → Type 0
-GatheredFits t (SoFar j) = JoinedFits t j
-GatheredFits t (Ended c) = Unit {0}
+abbrev GatheredFits : ValueType → Result Joined Cause → Type 0
+GatheredFits t (Ok j) = JoinedFits t j
+GatheredFits t (Err c) = Unit {0}
 
 ranged_fits : (z : ℤ) → OutcomeFits Numeric (ranged z)
 ranged_fits z = ranged_cases z (OutcomeFits Numeric) (λ s. tt) (λ f. refl)
@@ -118,11 +114,11 @@ binary_fits Subtract y z = ranged_fits (number_of y -ℤ number_of z)
 binary_fits Equal y z = refl
 binary_fits Less y z = refl
 
-bind_fits : (t : ValueType) (o : Outcome) (f : Value → Outcome) → ((y : Value) → OutcomeFits t (f y)) → OutcomeFits t (bind o f)
-bind_fits t (Gives y) f h = h y
-bind_fits t (Ends c) f h = tt
+bind_fits : (t : ValueType) (o : Result Value Cause) (f : Value → Result Value Cause) → ((y : Value) → OutcomeFits t (f y)) → OutcomeFits t (bind o f)
+bind_fits t (Ok y) f h = h y
+bind_fits t (Err c) f h = tt
 
-choose_fits : (t : ValueType) (c a b : Outcome) → OutcomeFits t a → OutcomeFits t b → OutcomeFits t (choose c a b)
+choose_fits : (t : ValueType) (c a b : Result Value Cause) → OutcomeFits t a → OutcomeFits t b → OutcomeFits t (choose c a b)
 choose_fits t c a b p q = bind_fits t c (λ v. cond (truth_of v) a b) (λ v. go (truth_of v))
   where
     go : (d : Bool) → OutcomeFits t (cond d a b)
@@ -136,22 +132,22 @@ join_fits t (One u) (One v) p q = tt
 join_fits t (One u) Many p q = tt
 join_fits t Many b p q = rw (join_many_left b) tt
 
-found_fits : (t : ValueType) (o : Outcome) → OutcomeFits t o → GatheredFits t (found o)
-found_fits t (Gives v) h = h
-found_fits t (Ends Empty) h = tt
-found_fits t (Ends Conflict) h = tt
-found_fits t (Ends (OutOfRange s)) h = tt
+found_fits : (t : ValueType) (o : Result Value Cause) → OutcomeFits t o → GatheredFits t (found o)
+found_fits t (Ok v) h = h
+found_fits t (Err Empty) h = tt
+found_fits t (Err Conflict) h = tt
+found_fits t (Err (OutOfRange s)) h = tt
 
-together_fits : (t : ValueType) (a b : Gathered) → GatheredFits t a → GatheredFits t b → GatheredFits t (together a b)
-together_fits t (Ended c) b p q = tt
-together_fits t (SoFar j) (Ended c) p q = tt
-together_fits t (SoFar j) (SoFar k) p q = join_fits t j k p q
+together_fits : (t : ValueType) (a b : Result Joined Cause) → GatheredFits t a → GatheredFits t b → GatheredFits t (together a b)
+together_fits t (Err c) b p q = tt
+together_fits t (Ok j) (Err c) p q = tt
+together_fits t (Ok j) (Ok k) p q = join_fits t j k p q
 
-settle_fits : (t : ValueType) (g : Gathered) (o : Outcome) → GatheredFits t g → OutcomeFits t o → OutcomeFits t (settle g o)
-settle_fits t (Ended c) o p q = tt
-settle_fits t (SoFar Nothing) o p q = q
-settle_fits t (SoFar (One v)) o p q = p
-settle_fits t (SoFar Many) o p q = tt
+settle_fits : (t : ValueType) (g : Result Joined Cause) (o : Result Value Cause) → GatheredFits t g → OutcomeFits t o → OutcomeFits t (settle g o)
+settle_fits t (Err c) o p q = tt
+settle_fits t (Ok Nothing) o p q = q
+settle_fits t (Ok (One v)) o p q = p
+settle_fits t (Ok Many) o p q = tt
 
 module _ (e : Env) where
   -- what the variables hold is of their types
@@ -176,19 +172,19 @@ module _ (e : Env) where
         (λ y. bind_fits (binary_type op) (eval e b) (binary_of op y) (binary_fits op y)))
     eval_typed (choice c a b) u h = choose_fits u (eval e c) (eval e a) (eval e b) (eval_typed a u h.1) (eval_typed b u h.2)
     eval_typed (default es j c) u h =
-        settle_fits u (exceptions e (SoFar Nothing) es) (choose (eval e j) (eval e c) (Ends Empty))
-        (exceptions_typed es u (SoFar Nothing) h.0 tt)
-        (choose_fits u (eval e j) (eval e c) (Ends Empty) (eval_typed c u h.2) tt)
+        settle_fits u (exceptions e (Ok Nothing) es) (choose (eval e j) (eval e c) (Err Empty))
+        (exceptions_typed es u (Ok Nothing) h.0 tt)
+        (choose_fits u (eval e j) (eval e c) (Err Empty) (eval_typed c u h.2) tt)
 
-    exceptions_typed : (es : Terms) (u : ValueType) (g : Gathered) → ReadsAll es u → GatheredFits u g → GatheredFits u (exceptions e g es)
+    exceptions_typed : (es : Terms) (u : ValueType) (g : Result Joined Cause) → ReadsAll es u → GatheredFits u g → GatheredFits u (exceptions e g es)
     exceptions_typed none u g h p = p
     exceptions_typed (also t es) u g h p =
         exceptions_typed es u (gather g (eval e t)) h.1
         (together_fits u g (found (eval e t)) p (found_fits u (eval e t) (eval_typed t u h.0)))
 
-pub held_type : (t : ValueType) (g : Given) → Holds t g → HasType t (held g)
-held_type t Absent h = absurd h
-held_type t (Present v) h = h
+pub held_type : (t : ValueType) (g : Option Value) → Holds t g → HasType t (held g)
+held_type t None h = absurd h
+held_type t (Some v) h = h
 
 at_type : (t : ValueType) (vs : List Value) (x : ℕ) → HoldsAt t vs x → HasType t (get_or vs x (Truth false))
 at_type t [] x h = absurd h
@@ -198,10 +194,10 @@ at_type t (v ∷ vs) (suc x) h = at_type t vs x h
 pub ready_typed : (st : State) (t : Term) (u : ValueType) → TermReady st t u → OutcomeFits u (eval (env_of st) t)
 ready_typed st t u h =
     eval_typed (env_of st) t u
-    (typed_map 0 (λ x t₁. Holds t₁ (get_or st.own x Absent)) (λ x t₁. HasType t₁ ((env_of st).own x))
+    (typed_map 0 (λ x t₁. Holds t₁ (get_or st.own x None)) (λ x t₁. HasType t₁ ((env_of st).own x))
     (λ k x t₁. HoldsAt t₁ (get_or st.called k []) x) (λ k x t₁. HasType t₁ ((env_of st).called k x)) t u
     (record {
-      own = λ x t₁ r p. held_type t₁ (get_or st.own x Absent) p;
+      own = λ x t₁ r p. held_type t₁ (get_or st.own x None) p;
       calls = λ k x t₁ r p. at_type t₁ (get_or st.called k []) x p;
     })
     h)

@@ -9,16 +9,14 @@ use mathlib.Core.Path.{◌≡◌, refl, sym, subst}
 use mathlib.Core.List.{List, [], ◌∷◌, map}
 use native.Mathlib.Omega.{arith}
 use lib.ListN.{length, get_or}
+use Rattle.std.specs.Prelude.{Option, None, Some, Ok}
 use Rattle.calculus.specs.declared.Value.{Value}
-use Rattle.calculus.specs.declared.Given.{Given}
-use Rattle.calculus.specs.declared.Given.TheVariants.{Absent, Present}
 use Rattle.book.specs.Decode.{scopes_of}
 use Rattle.book.specs.References.{scope_at}
 use Rattle.book.specs.Judge.{judge}
 use Rattle.book.specs.declared.ValueType.{ValueType}
 use Rattle.book.specs.declared.ValueType.TheVariants.{YesNo}
 use Rattle.book.specs.declared.Variable.{Variable}
-use Rattle.answers.specs.declared.Judged.TheVariants.{Accepted}
 use Rattle.lists.specs.Inputs.{good, inputs}
 use Rattle.lists.specs.Results.{result_length, results}
 use Rattle.lists.specs.Writing.{value_type}
@@ -28,18 +26,18 @@ use Rattle.evaluation.specs.Run.{values, run_scope}
 use Rattle.evaluation.specs.Types.{MayHold, Fitting, ValuesFit, EnteredFits}
 use Rattle.evaluation.proofs.Readiness.{accepted_fit}
 
-may_hold : (t : ValueType) (g : Given) → ((y : Value) → g ≡ Present y → value_type y ≡ t) → MayHold t g
-may_hold t Absent h = tt
-may_hold t (Present y) h = h y refl
+may_hold : (t : ValueType) (g : Option Value) → ((y : Value) → g ≡ Some y → value_type y ≡ t) → MayHold t g
+may_hold t None h = tt
+may_hold t (Some y) h = h y refl
 
-each_fits : (xs : List Variable) (gs : List Given) → length gs ≡ length xs
-    → ((v : ℕ) (y : Value) → get_or gs v Absent ≡ Present y → value_type y ≡ (get_or xs v (record { holds = YesNo })).holds) → Fitting xs gs
+each_fits : (xs : List Variable) (gs : List (Option Value)) → length gs ≡ length xs
+    → ((v : ℕ) (y : Value) → get_or gs v None ≡ Some y → value_type y ≡ (get_or xs v (record { holds = YesNo })).holds) → Fitting xs gs
 each_fits [] [] e h = tt
 each_fits [] (g ∷ gs) e h = absurd (omega arith)
 each_fits (x ∷ xs) [] e h = absurd (omega arith)
 each_fits (x ∷ xs) (g ∷ gs) e h = (may_hold x.holds g (h 0), each_fits xs gs (omega arith) (λ v. h (suc v)))
 
-pub inputs_fitting : (variables : List Variable) (bytes : List ℕ) (given : List Given) → inputs variables bytes ≡ good given
+pub inputs_fitting : (variables : List Variable) (bytes : List ℕ) (given : List (Option Value)) → inputs variables bytes ≡ good given
     → Fitting variables given
 inputs_fitting variables bytes given e =
     each_fits variables given (good_number variables bytes given e) (good_typed variables bytes given e)
@@ -53,7 +51,7 @@ value_types (x ∷ xs) (v ∷ vs) h = rw (h.0, value_types xs vs h.1)
 pub results_size : (variables : List Variable) (vs : List Value) → ValuesFit variables vs → result_length variables ≡ length (results vs)
 results_size variables vs h = sym (results_length variables vs (value_types variables vs h))
 
-module _ (bytes : List ℕ) (n : ℕ) (accepted : judge bytes ≡ Accepted n) (i : ℕ) (l : i < n) (given : List Given)
+module _ (bytes : List ℕ) (n : ℕ) (accepted : judge bytes ≡ Ok n) (i : ℕ) (l : i < n) (given : List (Option Value))
     (fitting : Fitting (scope_at (scopes_of bytes) i).variables given) (vs : List Value) (c : ℕ)
     (run : run_scope (scopes_of bytes) i given ≡ values vs c) where
   pub values_typed : ValuesFit (scope_at (scopes_of bytes) i).variables vs

@@ -1,11 +1,8 @@
 -- What holds of the state before a step: every read meets a value that is set and of its type.
-use Rattle.std.specs.Prelude.{ℕ, ◌+◌, ◌-◌, ◌<◌, ◌≤◌, ◌≡◌, true, false, List, [], ◌∷◌, ◌++◌, length, get_or, set}
+use Rattle.std.specs.Prelude.{ℕ, ◌+◌, ◌-◌, ◌<◌, ◌≤◌, ◌≡◌, true, false, List, [], ◌∷◌, ◌++◌, length, get_or, set, Ok, Option, None, Some}
 use Rattle.calculus.specs.Terms.{Term}
 use Rattle.calculus.specs.Evaluation.{step}
 use Rattle.calculus.specs.declared.Value.{Value}
-use Rattle.calculus.specs.declared.Outcome.TheVariants.{Gives}
-use Rattle.calculus.specs.declared.Given.{Given}
-use Rattle.calculus.specs.declared.Given.TheVariants.{Absent, Present}
 use Rattle.order.specs.Order.{among}
 use Rattle.book.specs.Syntax.{Scope}
 use Rattle.book.specs.References.{scope_at}
@@ -26,18 +23,18 @@ hands_over book s st x = handing (env_of st) s (x - length s.variables) 0 (scope
 
 -- the state after own variable x has got a value, and after sub-scope k has been entered
 abbrev pub with_variable : State → ℕ → Value → State
-with_variable st x y = record { own = set st.own x (Present y); called = st.called; count = st.count }
+with_variable st x y = record { own = set st.own x (Some y); called = st.called; count = st.count }
 
 abbrev pub with_call : State → ℕ → List Value → ℕ → State
 with_call st k vs n = record { own = st.own; called = set st.called k vs; count = st.count + n }
 
 -- a run of the scope's steps reaches this state, with these steps left; `enter` is what entering a scope with given variables comes to
-pub data Reached (book : List Scope) (enter : ℕ → List Given → Entered) (s : Scope) (given : List Given) : List ℕ → State → Type 0 where
+pub data Reached (book : List Scope) (enter : ℕ → List (Option Value) → Entered) (s : Scope) (given : List (Option Value)) : List ℕ → State → Type 0 where
   start : Reached book enter s given (step_order s) (begin s)
   variable : {x : ℕ} {xs : List ℕ} {st : State} (y : Value) → Reached book enter s given (x ∷ xs) st → x < length s.variables
-      → step (get_or given x Absent) (env_of st) (tree s (own_target x)) ≡ Gives y
+      → step (get_or given x None) (env_of st) (tree s (own_target x)) ≡ Ok y
       → Reached book enter s given xs (with_variable st x y)
-  call : {x : ℕ} {xs : List ℕ} {st : State} (gs : List Given) (vs : List Value) (n : ℕ) → Reached book enter s given (x ∷ xs) st
+  call : {x : ℕ} {xs : List ℕ} {st : State} (gs : List (Option Value)) (vs : List Value) (n : ℕ) → Reached book enter s given (x ∷ xs) st
       → length s.variables ≤ x
       → hands_over book s st x ≡ handed gs
       → enter (callee_of s x) gs ≡ values vs n
@@ -45,13 +42,13 @@ pub data Reached (book : List Scope) (enter : ℕ → List Given → Entered) (s
 
 -- all that step x depends on is there: own variables set and of their types, sub-scopes entered with values of their variables' types
 pub record Ready (book : List Scope) (s : Scope) (x : ℕ) (st : State) : Type 0 where
-  pub variables : (w : ℕ) → w < length s.variables → depends_on s x w ≡ true → Holds (type_at s w) (get_or st.own w Absent)
+  pub variables : (w : ℕ) → w < length s.variables → depends_on s x w ≡ true → Holds (type_at s w) (get_or st.own w None)
   pub calls : (k : ℕ) → k < length s.sub_scopes → depends_on s x (length s.variables + k) ≡ true
       → ValuesFit (scope_at book (get_or s.sub_scopes k 0)).variables (get_or st.called k [])
 
 -- every variable that the term reads is set and of its type, and the term is of the type
 abbrev pub TermReady : State → Term → ValueType → Type 0
-TermReady st = Typed (λ x t. Holds t (get_or st.own x Absent)) (λ k x t. HoldsAt t (get_or st.called k []) x)
+TermReady st = Typed (λ x t. Holds t (get_or st.own x None)) (λ k x t. HoldsAt t (get_or st.called k []) x)
 
 -- the trees of step x can be evaluated: an own variable's, or those of the overrides of call k
 pub record TreesReady (book : List Scope) (s : Scope) (x : ℕ) (st : State) : Type 0 where
@@ -63,8 +60,8 @@ pub record TreesReady (book : List Scope) (s : Scope) (x : ℕ) (st : State) : T
 pub record Done (book : List Scope) (s : Scope) (steps : List ℕ) (st : State) : Type 0 where
   pub own_length : length st.own ≡ length s.variables
   pub called_length : length st.called ≡ length s.sub_scopes
-  pub stored : (w : ℕ) → w < length s.variables → among steps w ≡ true → Holds (type_at s w) (get_or st.own w Absent)
-  pub unset : (w : ℕ) → w < length s.variables → among steps w ≡ false → get_or st.own w Absent ≡ Absent
+  pub stored : (w : ℕ) → w < length s.variables → among steps w ≡ true → Holds (type_at s w) (get_or st.own w None)
+  pub unset : (w : ℕ) → w < length s.variables → among steps w ≡ false → get_or st.own w None ≡ None
   pub entered : (k : ℕ) → k < length s.sub_scopes → among steps (length s.variables + k) ≡ true
       → ValuesFit (scope_at book (get_or s.sub_scopes k 0)).variables (get_or st.called k [])
   pub waiting : (k : ℕ) → k < length s.sub_scopes → among steps (length s.variables + k) ≡ false → get_or st.called k [] ≡ []

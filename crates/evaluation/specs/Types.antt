@@ -1,11 +1,7 @@
 -- Types: of values, of what is given, of what a run comes to, and of terms.
-use Rattle.std.specs.Prelude.{ℕ, zero, suc, ◌<◌, ◌≡◌, List, [], ◌∷◌, length, get_or}
+use Rattle.std.specs.Prelude.{ℕ, zero, suc, ◌<◌, ◌≡◌, List, [], ◌∷◌, length, get_or, Result, Ok, Err, Option, None, Some}
 use Rattle.calculus.specs.Terms.{Term, Terms, literal, own, called, error, unary, binary, choice, default, none, also}
 use Rattle.calculus.specs.declared.Value.{Value}
-use Rattle.calculus.specs.declared.Outcome.{Outcome}
-use Rattle.calculus.specs.declared.Outcome.TheVariants.{Gives, Ends}
-use Rattle.calculus.specs.declared.Given.{Given}
-use Rattle.calculus.specs.declared.Given.TheVariants.{Absent, Present}
 use Rattle.book.specs.Syntax.{Scope}
 use Rattle.book.specs.References.{scope_at}
 use Rattle.book.specs.Typing.{type_at, called_type_at, unary_type, binary_type, operand_type}
@@ -14,19 +10,20 @@ use Rattle.book.specs.declared.ValueType.TheVariants.{YesNo}
 use Rattle.book.specs.declared.Variable.{Variable}
 use Rattle.lists.specs.Writing.{value_type}
 use Rattle.evaluation.specs.Run.{Entered, values, ended}
+use Rattle.answers.specs.declared.Cause.{Cause}
 
 abbrev pub HasType : ValueType → Value → Type 0
 HasType t v = value_type v ≡ t
 
 -- set, with a value of the type
-abbrev pub Holds : ValueType → Given → Type 0
-Holds t Absent = ⊥
-Holds t (Present v) = HasType t v
+abbrev pub Holds : ValueType → Option Value → Type 0
+Holds t None = ⊥
+Holds t (Some v) = HasType t v
 
 -- not set, or with a value of the type
-abbrev pub MayHold : ValueType → Given → Type 0
-MayHold t Absent = Unit {0}
-MayHold t (Present v) = HasType t v
+abbrev pub MayHold : ValueType → Option Value → Type 0
+MayHold t None = Unit {0}
+MayHold t (Some v) = HasType t v
 
 -- place x of a list holds a value of the type
 abbrev pub HoldsAt : ValueType → List Value → ℕ → Type 0
@@ -35,7 +32,7 @@ HoldsAt t (v ∷ vs) zero = HasType t v
 HoldsAt t (v ∷ vs) (suc x) = HoldsAt t vs x
 
 -- for each variable whether it is given, and what is given is of its type
-abbrev pub Fitting : List Variable → List Given → Type 0
+abbrev pub Fitting : List Variable → List (Option Value) → Type 0
 Fitting [] [] = Unit {0}
 Fitting [] (g ∷ gs) = ⊥
 Fitting (x ∷ xs) [] = ⊥
@@ -49,9 +46,9 @@ ValuesFit (x ∷ xs) [] = ⊥
 ValuesFit (x ∷ xs) (v ∷ vs) = HasType x.holds v × ValuesFit xs vs
 
 -- an end, or a value of the type
-abbrev pub OutcomeFits : ValueType → Outcome → Type 0
-OutcomeFits t (Gives v) = HasType t v
-OutcomeFits t (Ends c) = Unit {0}
+abbrev pub OutcomeFits : ValueType → Result Value Cause → Type 0
+OutcomeFits t (Ok v) = HasType t v
+OutcomeFits t (Err c) = Unit {0}
 
 -- an end, or one value for each variable, of its type
 abbrev pub EnteredFits : List Variable → Entered → Type 0

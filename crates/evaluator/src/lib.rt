@@ -6,7 +6,9 @@ ghost use Rattle.links.specs.Links.{Blanks};
 ghost use Rattle.loaded.specs.Loaded.{Replied};
 ghost use Rattle.evaluator.specs.Service.{Tabled, Asked, Evaluated};
 
-use answers::{Answer, Judged, Refusal};
+use answers::{Answer, Refusal};
+use cells::VARIABLES;
+use index::IndexedBook;
 use inputs::read_inputs;
 use judge::load;
 use links::fill_all_links;
@@ -14,85 +16,79 @@ use loaded::run_loaded;
 use results::result_length;
 use scan::has_few_scopes;
 
-// Runs scope i of an accepted book of n scopes with what is given, and writes the results. No link is set yet. Few rows are kept where there are
-// few scopes.
+// Runs scope i of an accepted book with what is given, and writes the results. No link is set yet. Few rows are kept where there are few
+// scopes.
 fn run_in(
-    book: &[u8],
-    index: &[u16],
+    book: &IndexedBook,
     orders: &[u8],
-    n: usize,
     i: usize,
     given: &[u64],
     links: &mut [u8],
     results: &mut [u8],
-) -> Answer
-    requires asked { Asked book.now index.now orders.now n i given.now results.old }
-    requires blanks { Blanks book.now index.now n links.old }
-    ensures { Replied book.now i given.now results.old result results.new }
+) -> Result<Answer, Refusal>
+    requires asked { Asked book.now.bytes.now book.now.index.now orders.now book.now.scopes i given.now results.old }
+    requires blanks { Blanks book.now.bytes.now book.now.index.now book.now.scopes links.old }
+    ensures { Replied book.now.bytes.now i given.now results.old result results.new }
 {
-    fill_all_links(book, index, n, links);
-    if n <= 1 {
+    fill_all_links(book, links);
+    if book.scopes <= 1 {
         let mut row = [0u64; 33];
-        return run_loaded(book, index, links, orders, i, given, &mut row, results);
+        return run_loaded(book, links, orders, i, given, &mut row, results);
     }
-    if n <= 8 {
+    if book.scopes <= 8 {
         let mut few = [0u64; 264];
-        return run_loaded(book, index, links, orders, i, given, &mut few, results);
+        return run_loaded(book, links, orders, i, given, &mut few, results);
     }
     let mut all = [0u64; 1056];
-    run_loaded(book, index, links, orders, i, given, &mut all, results)
+    run_loaded(book, links, orders, i, given, &mut all, results)
 }
 
-// Runs scope i of an accepted book of n scopes with what is given, and writes the results: with few links where there are few scopes.
+// Runs scope i of an accepted book with what is given, and writes the results: with few links where there are few scopes.
 fn run(
-    book: &[u8],
-    index: &[u16],
+    book: &IndexedBook,
     orders: &[u8],
-    n: usize,
     i: usize,
     given: &[u64],
     results: &mut [u8],
-) -> Answer
-    requires { Asked book.now index.now orders.now n i given.now results.old }
-    ensures { Replied book.now i given.now results.old result results.new }
+) -> Result<Answer, Refusal>
+    requires { Asked book.now.bytes.now book.now.index.now orders.now book.now.scopes i given.now results.old }
+    ensures { Replied book.now.bytes.now i given.now results.old result results.new }
 {
-    if n <= 1 {
+    if book.scopes <= 1 {
         let mut row = [255u8; 834];
-        return run_in(book, index, orders, n, i, given, &mut row, results);
+        return run_in(book, orders, i, given, &mut row, results);
     }
-    if n <= 8 {
+    if book.scopes <= 8 {
         let mut few = [255u8; 6672];
-        return run_in(book, index, orders, n, i, given, &mut few, results);
+        return run_in(book, orders, i, given, &mut few, results);
     }
     let mut all = [255u8; 26688];
-    run_in(book, index, orders, n, i, given, &mut all, results)
+    run_in(book, orders, i, given, &mut all, results)
 }
 
-// Evaluates scope i of an accepted book of n scopes.
+// Evaluates scope i of an accepted book.
 fn evaluate_accepted(
-    book: &[u8],
-    index: &[u16],
+    book: &IndexedBook,
     orders: &[u8],
-    n: usize,
     i: usize,
     inputs: &[u8],
     results: &mut [u8],
-) -> Answer
-    requires { Tabled book.now index.now orders.now n }
-    ensures { Evaluated book.now i inputs.now results.old result results.new }
+) -> Result<Answer, Refusal>
+    requires { Tabled book.now.bytes.now book.now.index.now orders.now book.now.scopes }
+    ensures { Evaluated book.now.bytes.now i inputs.now results.old result results.new }
 {
-    if n <= i {
-        return Answer::Refused(Refusal::NoSuchScope);
+    if book.scopes <= i {
+        return Err(Refusal::NoSuchScope);
     }
-    let mut given = [0u64; 32];
-    if !read_inputs(book, index, i, inputs, &mut given) {
-        return Answer::Refused(Refusal::BadInput);
+    let mut given = [0u64; VARIABLES];
+    if !read_inputs(book, i, inputs, &mut given) {
+        return Err(Refusal::BadInput);
     }
-    let length = result_length(book, index, i);
+    let length = result_length(book, i);
     if results.len() < length {
-        return Answer::Refused(Refusal::BufferTooSmall);
+        return Err(Refusal::BufferTooSmall);
     }
-    run(book, index, orders, n, i, &given, results)
+    run(book, orders, i, &given, results)
 }
 
 // Evaluates a scope of a book with an empty index.
@@ -102,24 +98,29 @@ fn evaluate_in(
     scope: usize,
     inputs: &[u8],
     results: &mut [u8],
-) -> Answer
+) -> Result<Answer, Refusal>
     requires { Unfilled book.now index.old }
     ensures { Evaluated book.now scope inputs.now results.old result results.new }
 {
     let mut blocks = [0u8; 32];
     let mut weights = [0u16; 32];
     let mut orders = [0u8; 1280];
-    let judged = load(book, index, &mut blocks, &mut weights, &mut orders);
-    match judged {
-        Judged::Accepted(n) => {
-            evaluate_accepted(book, index, &orders, n, scope, inputs, results)
-        }
-        Judged::Refused(f) => Answer::Refused(Refusal::Book(f)),
-    }
+    let scopes = load(book, index, &mut blocks, &mut weights, &mut orders)?;
+    let indexed = IndexedBook {
+        bytes: book,
+        index,
+        scopes,
+    };
+    evaluate_accepted(&indexed, &orders, scope, inputs, results)
 }
 
 // Evaluates a scope of a book with an input list. The results are written only where the run ends in values.
-pub fn evaluate(book: &[u8], scope: usize, inputs: &[u8], results: &mut [u8]) -> Answer
+pub fn evaluate(
+    book: &[u8],
+    scope: usize,
+    inputs: &[u8],
+    results: &mut [u8],
+) -> Result<Answer, Refusal>
     ensures { Evaluated book.now scope inputs.now results.old result results.new }
 {
     if has_few_scopes(book) {

@@ -37,6 +37,7 @@ pub const NODES: usize = 44;
 pub const CLAUSES: usize = 294;
 
 // The node whose record begins at a position.
+#[tactic(auto, using(crate::proofs::Bodies::after), unfolding(book::specs::Positions::node_from, book::specs::Syntax::node_of))]
 fn node_of(book: &[u8], at: usize) -> Node
     requires { at + node_length (get_or book.now at 0) < length book.now }
     ensures { result ≡ node_from book.now at }
@@ -63,6 +64,7 @@ fn node_of(book: &[u8], at: usize) -> Node
 }
 
 // The clause whose record begins at a position.
+#[tactic(auto, using(crate::proofs::Bodies::after), unfolding(book::specs::Positions::clause_from, book::specs::Syntax::clause_of))]
 fn clause_of(book: &[u8], at: usize) -> Clause
     requires { at + 5 < length book.now }
     ensures { result ≡ clause_from book.now at }
@@ -92,7 +94,7 @@ fn cell_at(index: &[u16], at: usize) -> usize
     requires { at < length index.now }
     ensures { result ≡ get_or index.now at 0 }
 {
-    index[at] as usize
+    usize::from(index[at])
 }
 
 // The position in column k of scope i's row.
@@ -114,99 +116,102 @@ fn count_at(index: &[u16], i: usize, sort: usize) -> usize
     cell_at(index, i * SORTS + sort)
 }
 
-// How many variables scope i has.
-pub fn variable_count(book: &[u8], index: &[u16], i: usize) -> usize
-    requires { Laid book.now index.now }
-    ensures { result ≡ length (scope_at (scopes_of book.now) i).variables }
-{
-    count_at(index, i, 0)
+// A book within the limits, the index by which its records are found, and a number of scopes: the book's, where a function asks for that.
+#[derive(Clone, Copy)]
+pub struct IndexedBook<'a> {
+    pub bytes: &'a [u8],
+    pub index: &'a [u16],
+    pub scopes: usize,
+    pub ghost laid: { Laid bytes.now index.now },
 }
 
-// How many sub-scopes scope i has.
-pub fn sub_scope_count(book: &[u8], index: &[u16], i: usize) -> usize
-    requires { Laid book.now index.now }
-    ensures { result ≡ length (scope_at (scopes_of book.now) i).sub_scopes }
-{
-    count_at(index, i, 1)
-}
+impl<'a> IndexedBook<'a> {
+    // How many variables scope i has.
+    pub fn variable_count(&self, i: usize) -> usize
+        ensures { result ≡ length (scope_at (scopes_of self.now.bytes.now) i).variables }
+    {
+        count_at(self.index, i, 0)
+    }
 
-// How many nodes scope i has.
-pub fn node_count(book: &[u8], index: &[u16], i: usize) -> usize
-    requires { Laid book.now index.now }
-    ensures { result ≡ length (scope_at (scopes_of book.now) i).nodes }
-{
-    count_at(index, i, 2)
-}
+    // How many sub-scopes scope i has.
+    pub fn sub_scope_count(&self, i: usize) -> usize
+        ensures { result ≡ length (scope_at (scopes_of self.now.bytes.now) i).sub_scopes }
+    {
+        count_at(self.index, i, 1)
+    }
 
-// How many clauses scope i has.
-pub fn clause_count(book: &[u8], index: &[u16], i: usize) -> usize
-    requires { Laid book.now index.now }
-    ensures { result ≡ length (scope_at (scopes_of book.now) i).clauses }
-{
-    count_at(index, i, 3)
-}
+    // How many nodes scope i has.
+    pub fn node_count(&self, i: usize) -> usize
+        ensures { result ≡ length (scope_at (scopes_of self.now.bytes.now) i).nodes }
+    {
+        count_at(self.index, i, 2)
+    }
 
-// Variable v of scope i.
-pub fn variable_at(book: &[u8], index: &[u16], i: usize, v: usize) -> Variable
-    requires { Laid book.now index.now }
-    ensures { result ≡ variable_at (scopes_of book.now) i v }
-{
-    if v < count_at(index, i, 0) {
-        let at = column_at(index, i, VARIABLES + v);
-        Variable {
-            holds: type_of(book[at + 1]),
+    // How many clauses scope i has.
+    pub fn clause_count(&self, i: usize) -> usize
+        ensures { result ≡ length (scope_at (scopes_of self.now.bytes.now) i).clauses }
+    {
+        count_at(self.index, i, 3)
+    }
+
+    // Variable v of scope i.
+    pub fn variable_at(&self, i: usize, v: usize) -> Variable
+        ensures { result ≡ variable_at (scopes_of self.now.bytes.now) i v }
+    {
+        if v < count_at(self.index, i, 0) {
+            let at = column_at(self.index, i, VARIABLES + v);
+            Variable {
+                holds: type_of(self.bytes[at + 1]),
+            }
+        } else {
+            Variable {
+                holds: ValueType::YesNo,
+            }
         }
-    } else {
-        Variable {
-            holds: ValueType::YesNo,
+    }
+
+    // The scope number of sub-scope k of scope i.
+    pub fn sub_scope_at(&self, i: usize, k: usize) -> usize
+        ensures { result ≡ sub_scope_at (scopes_of self.now.bytes.now) i k }
+    {
+        if k < count_at(self.index, i, 1) {
+            let at = column_at(self.index, i, SUB_SCOPES + k);
+            usize::from(self.bytes[at + 1])
+        } else {
+            0
         }
     }
-}
 
-// The scope number of sub-scope k of scope i.
-pub fn sub_scope_at(book: &[u8], index: &[u16], i: usize, k: usize) -> usize
-    requires { Laid book.now index.now }
-    ensures { result ≡ sub_scope_at (scopes_of book.now) i k }
-{
-    if k < count_at(index, i, 1) {
-        let at = column_at(index, i, SUB_SCOPES + k);
-        book[at + 1] as usize
-    } else {
-        0
+    // Node n of scope i.
+    pub fn node_at(&self, i: usize, n: usize) -> Node
+        ensures { result ≡ node_at (scopes_of self.now.bytes.now) i n }
+    {
+        if n < count_at(self.index, i, 2) {
+            let at = column_at(self.index, i, NODES + n);
+            node_of(self.bytes, at)
+        } else {
+            Node::Constant(false)
+        }
     }
-}
 
-// Node n of scope i.
-pub fn node_at(book: &[u8], index: &[u16], i: usize, n: usize) -> Node
-    requires { Laid book.now index.now }
-    ensures { result ≡ node_at (scopes_of book.now) i n }
-{
-    if n < count_at(index, i, 2) {
-        let at = column_at(index, i, NODES + n);
-        node_of(book, at)
-    } else {
-        Node::Constant(false)
-    }
-}
-
-// Clause c of scope i.
-pub fn clause_at(book: &[u8], index: &[u16], i: usize, c: usize) -> Clause
-    requires { Laid book.now index.now }
-    ensures { result ≡ clause_at (scopes_of book.now) i c }
-{
-    if c < count_at(index, i, 3) {
-        let at = column_at(index, i, CLAUSES + c);
-        clause_of(book, at)
-    } else {
-        let target = Target {
-            sub: 255,
-            variable: 255,
-        };
-        Clause {
-            target,
-            parent: 255,
-            condition: 255,
-            consequence: Consequence::Fixed(false),
+    // Clause c of scope i.
+    pub fn clause_at(&self, i: usize, c: usize) -> Clause
+        ensures { result ≡ clause_at (scopes_of self.now.bytes.now) i c }
+    {
+        if c < count_at(self.index, i, 3) {
+            let at = column_at(self.index, i, CLAUSES + c);
+            clause_of(self.bytes, at)
+        } else {
+            let target = Target {
+                sub: 255,
+                variable: 255,
+            };
+            Clause {
+                target,
+                parent: 255,
+                condition: 255,
+                consequence: Consequence::Fixed(false),
+            }
         }
     }
 }

@@ -5,29 +5,27 @@ ghost use Rattle.std.specs.Prelude.{◌≡◌, ◌≤◌, length, replicate, map
 ghost use Rattle.cells.specs.Cells.{given_of};
 ghost use Rattle.book.specs.Decode.{scopes_of};
 ghost use Rattle.book.specs.References.{scope_at};
-ghost use Rattle.index.specs.Index.{Laid};
-ghost use Rattle.lists.specs.Inputs.{input_length, input_type, input_value, is_given, cannot_give, bad_record};
+ghost use Rattle.lists.specs.Inputs.{input_length, input_type, input_value, cannot_give, bad_record};
 ghost use Rattle.lists.specs.Reading.{malformed, typed, Reading};
 
 use book::ValueType;
-use calculus::{Given, Value};
+use calculus::Value;
 use cells::{cell_of, given_at};
+use index::IndexedBook;
 use integers::number_at;
 use signatures::fill_types;
 use slices::byte_at;
-use types::{same_type, type_of};
+use types::type_of;
 
-// How many bytes follow the kind of an input record; 0: no such kind.
+// How many bytes follow the kind of an input record; 0: no such kind, as in the definition. `read_by` would only have to unwrap an Option.
 fn input_length(kind: u8) -> usize
     ensures { result ≡ input_length kind }
 {
-    if kind == 1 {
-        return 2;
+    match kind {
+        1 => 2,
+        2 => 5,
+        _ => 0,
     }
-    if kind == 2 {
-        return 5;
-    }
-    0
 }
 
 // The type of an input record.
@@ -52,30 +50,13 @@ fn input_value(kind: u8, rest: &[u8]) -> Value
     }
 }
 
-fn is_given(g: Given) -> bool
-    ensures { result ≡ is_given g }
-{
-    match g {
-        Given::Absent => false,
-        Given::Present(_) => true,
-    }
-}
-
 // Whether an input record is of no known kind, is truncated, or has a yes/no other than 0 and 1.
+#[tactic(auto, unfolding(lists::specs::Reading::malformed))]
 fn is_malformed(kind: u8, rest: &[u8]) -> bool
     ensures { result ≡ malformed kind rest.now }
 {
     let length = input_length(kind);
-    if length == 0 {
-        return true;
-    }
-    if rest.len() < length {
-        return true;
-    }
-    if kind == 1 {
-        return 1 < byte_at(rest, 1);
-    }
-    false
+    length == 0 || rest.len() < length || (kind == 1 && 1 < byte_at(rest, 1))
 }
 
 // Whether a variable cannot be given a value of a type, by the type bytes and the cells so far: there is none, it is of another type, or it is given.
@@ -83,23 +64,18 @@ pub fn cannot_give(types: &[u8], given: &[u64], t: ValueType, v: u8) -> bool
     ensures { result ≡ cannot_give (typed types.now) (map given_of given.now) t v }
 {
     let at = v as usize;
-    if types.len() <= at {
+    let Some(b) = types.get(at) else {
         return true;
-    }
-    if !same_type(t, type_of(types[at])) {
-        return true;
-    }
-    is_given(given_at(given, at))
+    };
+    t != type_of(*b) || given_at(given, at).is_some()
 }
 
 // Whether an input record is bad, by the type bytes, its kind, the bytes after it and the cells so far.
+#[tactic(auto, using(lists::proofs::Reading::tests))]
 fn is_bad(types: &[u8], given: &[u64], kind: u8, rest: &[u8]) -> bool
     ensures { result ≡ bad_record (typed types.now) (map given_of given.now) kind rest.now }
 {
-    if is_malformed(kind, rest) {
-        return true;
-    }
-    cannot_give(types, given, input_type(kind), byte_at(rest, 0))
+    is_malformed(kind, rest) || cannot_give(types, given, input_type(kind), byte_at(rest, 0))
 }
 
 // Reads the inputs into cells that are unset, by one type byte for each variable; whether the list is good.
@@ -109,6 +85,7 @@ pub fn read_by(types: &[u8], inputs: &[u8], given: &mut [u64]) -> bool
     ensures { Reading (typed types.now) inputs.now result given.new }
 {
     let mut at: usize = 0;
+    // No index loop: the position moves by a record's length.
     while at < inputs.len() {
         let kind = inputs[at];
         let start = at + 1;
@@ -124,13 +101,11 @@ pub fn read_by(types: &[u8], inputs: &[u8], given: &mut [u64]) -> bool
 }
 
 // Reads the inputs of scope i into cells that are unset; whether the list is good.
-pub fn read_inputs(book: &[u8], index: &[u16], i: usize, inputs: &[u8], given: &mut [u64]) -> bool
-    requires laid { Laid book.now index.now }
-    requires i_len_bound { length (scope_at (scopes_of book.now) i).variables ≤ 32 }
-    requires given_value { given.old ≡ replicate 32 0 }
-    ensures { Reading (scope_at (scopes_of book.now) i).variables inputs.now result given.new }
+pub fn read_inputs(book: &IndexedBook, i: usize, inputs: &[u8], given: &mut [u64]) -> bool
+    requires { given.old ≡ replicate 32 0 }
+    ensures { Reading (scope_at (scopes_of book.now.bytes.now) i).variables inputs.now result given.new }
 {
     let mut types = [0u8; 32];
-    let n = fill_types(book, index, i, &mut types);
+    let n = fill_types(book, i, &mut types);
     read_by(&types[..n], inputs, given)
 }

@@ -11,11 +11,10 @@ use lib.ListN.{length, get_or, set}
 use lib.Seq.{get_or-set_same, get_or-set_other}
 use lib.Dec.{eqb}
 use borrow.Author.Tests.{ne_eqb, le-ltb, not-true, not-false}
+use Rattle.std.specs.Prelude.{Option, None, Some, Ok, Err}
 use Rattle.calculus.specs.declared.Value.{Value}
 use Rattle.calculus.specs.declared.Joined.{Joined}
 use Rattle.calculus.specs.declared.Joined.TheVariants.{One}
-use Rattle.calculus.specs.declared.Given.{Given}
-use Rattle.calculus.specs.declared.Given.TheVariants.{Absent, Present}
 use Rattle.cells.specs.Codec.{no_cell, zero_cell, many_cell, value_of}
 use Rattle.cells.specs.Cells.{given_of, held}
 use Rattle.cells.specs.Joining.{joined_of}
@@ -24,7 +23,7 @@ use Rattle.book.specs.Syntax.{same_type}
 use Rattle.book.specs.declared.ValueType.{ValueType}
 use Rattle.lists.specs.Writing.{value_type}
 use Rattle.machine.specs.Machine.{unset, stored, Callee, waiting, Memory, Try, Next, go, stop, stuck, taking, wanting, pushed, read_from, read_in, value_at, stored_to, overridden, jumped_if_given}
-use Rattle.instructions.specs.declared.Move.TheVariants as move
+use Rattle.instructions.specs.declared.Stop.TheVariants as halts
 use Rattle.instructions.specs.Views.{entries, opened, tab, cell_with, own_cell, givens_at, values_in, callee_at, memory}
 use Rattle.instructions.specs.Effects.{Room, Encodes, Takes, InFrame, Storing, Handing}
 use Rattle.instructions.proofs.Stack.{value_entry}
@@ -71,11 +70,11 @@ tab_set f g v (suc n) (suc x) y p e k =
 
 -- Cells
 
-pub absent : {c : ℕ} → c ≡ 0 → given_of c ≡ Absent
+pub absent : {c : ℕ} → c ≡ 0 → given_of c ≡ None
 unfolding given_of
 absent e = rw e
 
-pub present : (c : ℕ) → (c ≡ 0 → ⊥) → given_of c ≡ Present (held (given_of c))
+pub present : (c : ℕ) → (c ≡ 0 → ⊥) → given_of c ≡ Some (held (given_of c))
 unfolding given_of
 present c p = rw (ne_eqb c 0 p)
 
@@ -104,7 +103,7 @@ module _ (own frame : List ℕ) (x : ℕ) where
   unfolding own_cell
   own_unset e = rw (absent e)
 
-  own_set : (get_or own x 0 ≡ 0 → ⊥) → own_cell own frame x ≡ cell_with (eqb (get_or frame x 0) 0) (Present (held (given_of (get_or own x 0))))
+  own_set : (get_or own x 0 ≡ 0 → ⊥) → own_cell own frame x ≡ cell_with (eqb (get_or frame x 0) 0) (Some (held (given_of (get_or own x 0))))
   unfolding own_cell
   own_set p = ap (cell_with (eqb (get_or frame x 0) 0)) (present (get_or own x 0) p)
 
@@ -115,7 +114,7 @@ module _ (own frame : List ℕ) (x : ℕ) where
       → read_from (own_cell own frame x) es ts m ≡ pushed (One (held (given_of (get_or own x 0)))) es ts m
   read_set es ts m p = rw (own_set p) (either (eqb (get_or frame x 0) 0) (held (given_of (get_or own x 0))))
     where
-      either : (b : Bool) (v : Value) → read_from (cell_with b (Present v)) es ts m ≡ pushed (One v) es ts m
+      either : (b : Bool) (v : Value) → read_from (cell_with b (Some v)) es ts m ≡ pushed (One v) es ts m
       either true v = refl
       either false v = refl
 
@@ -133,7 +132,7 @@ module _ (own frame : List ℕ) (x : ℕ) where
   stored_twice : (v : Value) (es : List Joined) (ts : List Try) (m : Memory) → (get_or own x 0 ≡ 0 → ⊥) → stored_to (own_cell own frame x) x v es ts m ≡ stop stuck
   stored_twice v es ts m p = rw (own_set p) (either (eqb (get_or frame x 0) 0) (held (given_of (get_or own x 0))))
     where
-      either : (b : Bool) (w : Value) → stored_to (cell_with b (Present w)) x v es ts m ≡ stop stuck
+      either : (b : Bool) (w : Value) → stored_to (cell_with b (Some w)) x v es ts m ≡ stop stuck
       either true w = refl
       either false w = refl
 
@@ -158,11 +157,11 @@ module _ (frame : List ℕ) (n k x : ℕ) (es : List Joined) (ts : List Try) (m 
 
 -- Storing
 
-module _ {g : Given} {st : List ℕ} {h : ℕ} (top : Takes g st h) (wanted : ValueType) where
-  pub take_none : (f : Value → List Joined → Next) → g ≡ Absent → taking (entries st h) (λ y st₁. wanting wanted y (f y st₁)) ≡ stop stuck
+module _ {g : Option Value} {st : List ℕ} {h : ℕ} (top : Takes g st h) (wanted : ValueType) where
+  pub take_none : (f : Value → List Joined → Next) → g ≡ None → taking (entries st h) (λ y st₁. wanting wanted y (f y st₁)) ≡ stop stuck
   take_none f e = top.none e _
 
-  module _ {v : Value} (e : g ≡ Present v) {r : Bool} (a : r ≡ same_type wanted (value_type v)) (f : Value → List Joined → Next) where
+  module _ {v : Value} (e : g ≡ Some v) {r : Bool} (a : r ≡ same_type wanted (value_type v)) (f : Value → List Joined → Next) where
     pub take_other : not r ≡ true → taking (entries st h) (λ y st₁. wanting wanted y (f y st₁)) ≡ stop stuck
     take_other n = rw ((top.some v e).0, ← a, not-true r n)
 
@@ -210,16 +209,16 @@ put_off own frame x b i w =
     let z : 0 + i ≡ i = omega arith in
     rw (z, get_or-set_other own x i b 0 w, get_or-set_other frame x i 1 0 w)
 
-module _ (wanted : ValueType) (x : ℕ) {st : List ℕ} {h : ℕ} (t : ℕ) (own frame : List ℕ) {g : Given} (top : Takes g st h) where
-  pub store_none : g ≡ Absent → Storing wanted x st h t own frame move.Stuck own frame
+module _ (wanted : ValueType) (x : ℕ) {st : List ℕ} {h : ℕ} (t : ℕ) (own frame : List ℕ) {g : Option Value} (top : Takes g st h) where
+  pub store_none : g ≡ None → Storing wanted x st h t own frame (Err halts.Stuck) own frame
   store_none e = record { same = λ v s sizes tr c l q. take_none top wanted _ e }
 
-  module _ {y : Value} (e : g ≡ Present y) {r : Bool} (a : r ≡ same_type wanted (value_type y)) where
-    pub store_other : not r ≡ true → Storing wanted x st h t own frame move.Stuck own frame
+  module _ {y : Value} (e : g ≡ Some y) {r : Bool} (a : r ≡ same_type wanted (value_type y)) where
+    pub store_other : not r ≡ true → Storing wanted x st h t own frame (Err halts.Stuck) own frame
     store_other n = record { same = λ v s sizes tr c l q. take_other top wanted e a _ n }
 
     module _ (n : not r ≡ false) where
-      pub store_twice : (get_or own x 0 ≡ 0 → ⊥) → Storing wanted x st h t own frame move.Stuck own frame
+      pub store_twice : (get_or own x 0 ≡ 0 → ⊥) → Storing wanted x st h t own frame (Err halts.Stuck) own frame
       unfolding memory
       store_twice p =
           record {
@@ -231,7 +230,7 @@ module _ (wanted : ValueType) (x : ℕ) {st : List ℕ} {h : ℕ} (t : ℕ) (own
           }
 
       pub store_go : {b : ℕ} → get_or own x 0 ≡ 0 → Encodes y b → (h ≤ length st) × (h ≤ 1024) → x < 32 → x < length own → x < length frame
-          → Storing wanted x st h t own frame (move.Go (record { passed = 1; height = h - 1; tries = t })) (set own x b) (set frame x 1)
+          → Storing wanted x st h t own frame (Ok (record { passed = 1; height = h - 1; tries = t })) (set own x b) (set frame x 1)
       unfolding memory
       store_go {b} p k room few lo lf =
           record {
@@ -250,7 +249,7 @@ module _ (wanted : ValueType) (x : ℕ) {st : List ℕ} {h : ℕ} (t : ℕ) (own
 
 -- Handing over
 
-givens_put : (frame : List ℕ) (k x n b : ℕ) {g : Given} → given_of b ≡ g → x < n → 40 + k * 32 + x < length frame
+givens_put : (frame : List ℕ) (k x n b : ℕ) {g : Option Value} → given_of b ≡ g → x < n → 40 + k * 32 + x < length frame
     → givens_at (set frame (40 + k * 32 + x) b) (40 + k * 32) n ≡ set (givens_at frame (40 + k * 32) n) x g
 unfolding givens_at
 givens_put frame k x n b {g} e l room =
@@ -273,12 +272,12 @@ hand_off frame k x b i sizes few v small eight =
     let z : 0 + i ≡ i = omega arith in
     rw z (callee_off frame (40 + k * 32 + x) b (sizes i) i (λ e. absurd (omega arith)) (λ y l q. v (omega arith)))
 
-module _ (wanted : ValueType) (k x : ℕ) {st : List ℕ} {h : ℕ} (t : ℕ) (frame : List ℕ) {g : Given} (top : Takes g st h) where
-  pub hand_none : g ≡ Absent → Handing wanted k x st h t frame move.Stuck frame
+module _ (wanted : ValueType) (k x : ℕ) {st : List ℕ} {h : ℕ} (t : ℕ) (frame : List ℕ) {g : Option Value} (top : Takes g st h) where
+  pub hand_none : g ≡ None → Handing wanted k x st h t frame (Err halts.Stuck) frame
   hand_none e = record { same = λ v s sizes tr own c u o l m b q. take_none top wanted _ e }
 
-  module _ {y : Value} (e : g ≡ Present y) {r : Bool} (a : r ≡ same_type wanted (value_type y)) where
-    pub hand_other : not r ≡ true → Handing wanted k x st h t frame move.Stuck frame
+  module _ {y : Value} (e : g ≡ Some y) {r : Bool} (a : r ≡ same_type wanted (value_type y)) where
+    pub hand_other : not r ≡ true → Handing wanted k x st h t frame (Err halts.Stuck) frame
     hand_other n = record { same = λ v s sizes tr own c u o l m b q. take_other top wanted e a _ n }
 
     module _ (n : not r ≡ false) where
@@ -287,7 +286,7 @@ module _ (wanted : ValueType) (k x : ℕ) {st : List ℕ} {h : ℕ} (t : ℕ) (f
           let z : 0 + k ≡ k = omega arith in
           tab_at (λ i. callee_at frame (sizes i) i) 0 s k (waiting []) l ∙ ap (λ (i : ℕ). callee_at frame (sizes i) i) z
 
-      pub hand_late : (get_or frame (32 + k) 0 ≡ 0 → ⊥) → Handing wanted k x st h t frame move.Stuck frame
+      pub hand_late : (get_or frame (32 + k) 0 ≡ 0 → ⊥) → Handing wanted k x st h t frame (Err halts.Stuck) frame
       unfolding memory
       hand_late p =
           record {
@@ -296,36 +295,36 @@ module _ (wanted : ValueType) (k x : ℕ) {st : List ℕ} {h : ℕ} (t : ℕ) (f
           }
 
       module _ (w : get_or frame (32 + k) 0 ≡ 0) where
-        handed : (z : ℕ) → x < z → get_or (givens_at frame (40 + k * 32) z) x Absent ≡ given_of (get_or frame (40 + k * 32 + x) 0)
+        handed : (z : ℕ) → x < z → get_or (givens_at frame (40 + k * 32) z) x None ≡ given_of (get_or frame (40 + k * 32 + x) 0)
         unfolding givens_at
-        handed z l = let o : 0 + x ≡ x = omega arith in tab_at (λ i. given_of (get_or frame (40 + k * 32 + i) 0)) 0 z x Absent l ∙ rw o
+        handed z l = let o : 0 + x ≡ x = omega arith in tab_at (λ i. given_of (get_or frame (40 + k * 32 + i) 0)) 0 z x None l ∙ rw o
 
-        pub hand_twice : (get_or frame (40 + k * 32 + x) 0 ≡ 0 → ⊥) → Handing wanted k x st h t frame move.Stuck frame
+        pub hand_twice : (get_or frame (40 + k * 32 + x) 0 ≡ 0 → ⊥) → Handing wanted k x st h t frame (Err halts.Stuck) frame
         unfolding memory
         hand_twice p =
             record {
               same = λ v s sizes tr own c u o l m b q.
-                  let there : get_or (givens_at frame (40 + k * 32) (sizes k)) x Absent ≡ Present (held (given_of (get_or frame (40 + k * 32 + x) 0))) =
+                  let there : get_or (givens_at frame (40 + k * 32) (sizes k)) x None ≡ Some (held (given_of (get_or frame (40 + k * 32 + x) 0))) =
                   handed (sizes k) m ∙ present (get_or frame (40 + k * 32 + x) 0) p in
                   take_right top wanted e a _ n ∙ rw (at_k s sizes l, waits_in frame k (sizes k) w, there);
             }
 
         pub hand_go : {b : ℕ} → get_or frame (40 + k * 32 + x) 0 ≡ 0 → Encodes y b → (h ≤ length st) × (h ≤ 1024) → InFrame k x frame
-            → Handing wanted k x st h t frame (move.Go (record { passed = 2; height = h - 1; tries = t })) (set frame (40 + k * 32 + x) b)
+            → Handing wanted k x st h t frame (Ok (record { passed = 2; height = h - 1; tries = t })) (set frame (40 + k * 32 + x) b)
         unfolding memory
         hand_go {b} p code room inside =
             record {
               same = λ v s sizes tr own c u eight l m few q.
                   let old : ℕ → Callee = λ i. callee_at frame (sizes i) i in
                   let new : ℕ → Callee = λ i. callee_at (set frame (40 + k * 32 + x) b) (sizes i) i in
-                  let there : get_or (givens_at frame (40 + k * 32) (sizes k)) x Absent ≡ Absent = handed (sizes k) m ∙ absent p in
+                  let there : get_or (givens_at frame (40 + k * 32) (sizes k)) x None ≡ None = handed (sizes k) m ∙ absent p in
                   let z : 0 + k ≡ k = omega arith in
                   let o : c + 0 ≡ c = omega arith in
                   let marked : get_or (set frame (40 + k * 32 + x) b) (32 + k) 0 ≡ 0 =
                   get_or-set_other frame (40 + k * 32 + x) (32 + k) b 0 (λ f. let i = inside.sub_scope in absurd (omega arith)) ∙ w in
-                  let here : new (0 + k) ≡ waiting (set (givens_at frame (40 + k * 32) (sizes k)) x (Present y)) =
+                  let here : new (0 + k) ≡ waiting (set (givens_at frame (40 + k * 32) (sizes k)) x (Some y)) =
                   ap new z ∙ waits_in (set frame (40 + k * 32 + x) b) k (sizes k) marked ∙ ap waiting (givens_put frame k x (sizes k) b code.cell m inside.cell) in
-                  let all = tab_set old new 0 s k (waiting (set (givens_at frame (40 + k * 32) (sizes k)) x (Present y))) l here
+                  let all = tab_set old new 0 s k (waiting (set (givens_at frame (40 + k * 32) (sizes k)) x (Some y))) l here
                   (λ i y w. hand_off frame k x b i sizes (few i y) w inside.variable (omega arith)) in (
                     take_right top wanted e a (λ y st₁. overridden (get_or (tab old 0 s) k (waiting [])) k x y st₁ (opened tr t) (memory v s sizes own frame c)) n
                         ∙ rw (at_k s sizes l, waits_in frame k (sizes k) w, there, all, o, owns_off own frame (40 + k * 32 + x) b v (omega arith)),

@@ -16,17 +16,14 @@ use borrow.Author.Tests.{lt-ltb, le-ltb, ne_eqb, not-true, not-false}
 use mir.Syntax.{w32}
 use mir.Val.{SFits}
 use lib.ListN.{length-set}
+use Rattle.std.specs.Prelude.{Result, Ok, Err, Option, None, Some}
 use Rattle.calculus.specs.Values.{number_of, truth_of}
 use Rattle.calculus.specs.Operators.{unary_of, binary_of}
 use Rattle.calculus.specs.declared.Value.{Value}
 use Rattle.answers.specs.declared.Cause.{Cause}
 use Rattle.answers.specs.declared.Cause.TheVariants.{Conflict}
-use Rattle.calculus.specs.declared.Outcome.{Outcome}
-use Rattle.calculus.specs.declared.Outcome.TheVariants.{Gives, Ends}
 use Rattle.calculus.specs.declared.Joined.{Joined}
 use Rattle.calculus.specs.declared.Joined.TheVariants.{Nothing, One, Many}
-use Rattle.calculus.specs.declared.Given.{Given}
-use Rattle.calculus.specs.declared.Given.TheVariants.{Absent, Present}
 use Rattle.calculus.specs.declared.Unary.{Unary}
 use Rattle.calculus.specs.declared.Binary.{Binary}
 use Rattle.cells.specs.Codec.{many_cell, value_cell, value_of}
@@ -44,7 +41,7 @@ use Rattle.lists.specs.Writing.{value_type}
 use Rattle.evaluation.specs.Run.{ended}
 use Rattle.machine.specs.Instructions.{Instruction}
 use Rattle.machine.specs.Machine.{Memory, Try, Next, stop, ran, stuck, taking, pushed, answered, Surroundings, effect}
-use Rattle.instructions.specs.declared.Move.TheVariants as move
+use Rattle.instructions.specs.declared.Stop.TheVariants as halts
 use Rattle.instructions.specs.Views.{entries, opened}
 use Rattle.instructions.specs.Effects.{Room, Moves, Encodes, Takes, suitable}
 
@@ -90,27 +87,27 @@ encodes v f =
 
 -- The top
 
-absent_not : {v : Value} → Absent ≡ Present v → ⊥
-absent_not e = true≢false (ap (λ (g : Given). is_given g) (sym e))
+absent_not : {v : Value} → None ≡ Some v → ⊥
+absent_not e = true≢false (ap (λ (g : Option Value). is_given g) (sym e))
 
-same_value : {v w : Value} → Present v ≡ Present w → v ≡ w
+same_value : {v w : Value} → Some v ≡ Some w → v ≡ w
 same_value e = ap held e
 
 module _ (st : List ℕ) (h : ℕ) where
-  no_value_lem : ((f : Value → List Joined → Next) → taking (entries st h) f ≡ stop stuck) → Takes Absent st h
+  no_value_lem : ((f : Value → List Joined → Next) → taking (entries st h) f ≡ stop stuck) → Takes None st h
   no_value_lem k = record { none = λ e. k; some = λ v e. absurd (absent_not e) }
 
-  pub take_empty : h ≡ 0 → Takes Absent st h
+  pub take_empty : h ≡ 0 → Takes None st h
   unfolding entries
   take_empty e = no_value_lem (λ f. rw e)
 
-  pub take_nothing : 0 < h → get_or st (h - 1) 0 ≡ 0 → Takes Absent st h
+  pub take_nothing : 0 < h → get_or st (h - 1) 0 ≡ 0 → Takes None st h
   take_nothing p e = no_value_lem (λ f. rw (entries_top st h p, nothing_entry e))
 
-  pub take_many : 0 < h → many_cell ≤ get_or st (h - 1) 0 → Takes Absent st h
+  pub take_many : 0 < h → many_cell ≤ get_or st (h - 1) 0 → Takes None st h
   take_many p e = no_value_lem (λ f. rw (entries_top st h p, many_entry (get_or st (h - 1) 0) e))
 
-  pub take_value : 0 < h → (get_or st (h - 1) 0 ≡ 0 → ⊥) → get_or st (h - 1) 0 < many_cell → Takes (Present (value_of (get_or st (h - 1) 0))) st h
+  pub take_value : 0 < h → (get_or st (h - 1) 0 ≡ 0 → ⊥) → get_or st (h - 1) 0 < many_cell → Takes (Some (value_of (get_or st (h - 1) 0))) st h
   take_value p q r =
       record {
         none = λ e. absurd (absent_not (sym e));
@@ -129,19 +126,19 @@ put_room : (st : List ℕ) (h e t : ℕ) {tr : List ℕ} → h < 1024 → h < le
 put_room st h e t p q r = let l = length-set st h e in record { height = omega arith; stack = omega arith; tries = r.0; pairs = r.1 }
 
 pub push_go : (st : List ℕ) (h e n t : ℕ) → h < 1024 → h < length st → (tr : List ℕ) (m : Memory) → Room h t st tr
-    → Moves (move.Go (record { passed = n; height = h + 1; tries = t })) n (set st h e) tr m (pushed (joined_of e) (entries st h) (opened tr t) m)
+    → Moves (Ok (record { passed = n; height = h + 1; tries = t })) n (set st h e) tr m (pushed (joined_of e) (entries st h) (opened tr t) m)
 push_go st h e n t p q tr m r =
     let z : n - n ≡ 0 = omega arith in
     (rw (entries_length st h, lt-ltb h 1024 p, entries_put st h e q, z), omega arith, put_room st h e t p q (r.tries, r.pairs))
 
-pub answer_go : (st : List ℕ) (h c t : ℕ) {o : Outcome} {v : Value} → o ≡ Gives v → Encodes v c → (h < length st) × (h < 1024)
+pub answer_go : (st : List ℕ) (h c t : ℕ) {o : Result Value Cause} {v : Value} → o ≡ Ok v → Encodes v c → (h < length st) × (h < 1024)
     → (tr : List ℕ) (m : Memory) → (t ≤ 512) × (t * 2 ≤ length tr)
-    → Moves (move.Go (record { passed = 0; height = h + 1; tries = t })) 0 (set st h c) tr m (answered o (entries st h) (opened tr t) m)
+    → Moves (Ok (record { passed = 0; height = h + 1; tries = t })) 0 (set st h c) tr m (answered o (entries st h) (opened tr t) m)
 answer_go st h c t e k p tr m q =
     (rw (e, entries_put st h c p.0, k.entry), omega arith, put_room st h c t p.1 p.0 q)
 
-pub answer_ends : (st : List ℕ) (h t : ℕ) {o : Outcome} {c : Cause} → o ≡ Ends c
-    → (tr : List ℕ) (m : Memory) → (t ≤ 512) × (t * 2 ≤ length tr) → Moves (move.Ended c) 0 st tr m (answered o (entries st h) (opened tr t) m)
+pub answer_ends : (st : List ℕ) (h t : ℕ) {o : Result Value Cause} {c : Cause} → o ≡ Err c
+    → (tr : List ℕ) (m : Memory) → (t ≤ 512) × (t * 2 ≤ length tr) → Moves (Err (halts.Ended c)) 0 st tr m (answered o (entries st h) (opened tr t) m)
 answer_ends st h t e tr m q = rw e
 
 -- Operators
@@ -163,13 +160,13 @@ module _ {u t : ValueType} {r : Bool} (op : Binary) (v w : Value) (e : u ≡ val
   pub suits_both : {q : Bool} → not r ≡ false → q ≡ same_type t (value_type w) → q ≡ suitable op v w
   suits_both n h = let a : t ≡ operand_type op (value_type v) = f ∙ ap (operand_type op) e in rw (← a, ← g, not-false r n) h
 
-module _ {st : List ℕ} {h : ℕ} {g : Given} (k : Takes g st h) (env : Surroundings) (left : ℕ) (ts : List Try) (m : Memory) where
+module _ {st : List ℕ} {h : ℕ} {g : Option Value} (k : Takes g st h) (env : Surroundings) (left : ℕ) (ts : List Try) (m : Memory) where
   module _ (op : Unary) where
-    pub unary_none : g ≡ Absent → effect env (Instruction.unary op) left (entries st h) ts m ≡ stop stuck
+    pub unary_none : g ≡ None → effect env (Instruction.unary op) left (entries st h) ts m ≡ stop stuck
     unfolding effect
     unary_none e = k.none e _
 
-    module _ {v : Value} (e : g ≡ Present v) {t : ValueType} {r : Bool} (a : t ≡ unary_type op) (b : r ≡ same_type t (value_type v)) where
+    module _ {v : Value} (e : g ≡ Some v) {t : ValueType} {r : Bool} (a : t ≡ unary_type op) (b : r ≡ same_type t (value_type v)) where
       pub unary_wrong : not r ≡ true → effect env (Instruction.unary op) left (entries st h) ts m ≡ stop stuck
       unfolding effect
       unary_wrong n = rw ((k.some v e).0, ← a, ← b, not-true r n)
@@ -180,16 +177,16 @@ module _ {st : List ℕ} {h : ℕ} {g : Given} (k : Takes g st h) (env : Surroun
       unary_right n = rw ((k.some v e).0, ← a, ← b, not-false r n)
 
   module _ (op : Binary) where
-    pub binary_none : g ≡ Absent → effect env (Instruction.binary op) left (entries st h) ts m ≡ stop stuck
+    pub binary_none : g ≡ None → effect env (Instruction.binary op) left (entries st h) ts m ≡ stop stuck
     unfolding effect
     binary_none e = k.none e _
 
-    module _ {w : Value} (e : g ≡ Present w) {g₂ : Given} (k₂ : Takes g₂ st (h - 1)) where
-      pub binary_one : g₂ ≡ Absent → effect env (Instruction.binary op) left (entries st h) ts m ≡ stop stuck
+    module _ {w : Value} (e : g ≡ Some w) {g₂ : Option Value} (k₂ : Takes g₂ st (h - 1)) where
+      pub binary_one : g₂ ≡ None → effect env (Instruction.binary op) left (entries st h) ts m ≡ stop stuck
       unfolding effect
       binary_one e₂ = rw (k.some w e).0 (k₂.none e₂ _)
 
-      module _ {v : Value} (e₂ : g₂ ≡ Present v) where
+      module _ {v : Value} (e₂ : g₂ ≡ Some v) where
         pub binary_wrong : suitable op v w ≡ false → effect env (Instruction.binary op) left (entries st h) ts m ≡ stop stuck
         unfolding effect
         binary_wrong f =
@@ -221,7 +218,7 @@ module _ (env : Surroundings) (left : ℕ) (m : Memory) where
   pub join_go : (st : List ℕ) (h e t : ℕ) → 2 ≤ h → (h ≤ length st) × (h ≤ 1024)
       → e ≡ join_cell (get_or st (h - 2) 0) (get_or st (h - 1) 0)
       → (tr : List ℕ) → (t ≤ 512) × (t * 2 ≤ length tr)
-      → Moves (move.Go (record { passed = 0; height = h - 1; tries = t })) 0 (set st (h - 2) e) tr m (effect env Instruction.join left (entries st h) (opened tr t) m)
+      → Moves (Ok (record { passed = 0; height = h - 1; tries = t })) 0 (set st (h - 2) e) tr m (effect env Instruction.join left (entries st h) (opened tr t) m)
   unfolding effect
   join_go st h e t p q k tr r =
       let l = length-set st (h - 2) e in
@@ -232,13 +229,13 @@ module _ (env : Surroundings) (left : ℕ) (m : Memory) where
 
   -- Jumps
 
-  module _ {st : List ℕ} {h : ℕ} {g : Given} (k : Takes g st h) (d t : ℕ) (p : (h ≤ length st) × (h ≤ 1024) × (d < 65536))
+  module _ {st : List ℕ} {h : ℕ} {g : Option Value} (k : Takes g st h) (d t : ℕ) (p : (h ≤ length st) × (h ≤ 1024) × (d < 65536))
       (tr : List ℕ) (q : (t ≤ 512) × (t * 2 ≤ length tr)) where
-    pub branch_none : g ≡ Absent → effect env (Instruction.jump_if_no d) left (entries st h) (opened tr t) m ≡ stop stuck
+    pub branch_none : g ≡ None → effect env (Instruction.jump_if_no d) left (entries st h) (opened tr t) m ≡ stop stuck
     unfolding effect
     branch_none e = k.none e _
 
-    module _ {v : Value} (e : g ≡ Present v) {r : Bool} (a : r ≡ same_type YesNo (value_type v)) where
+    module _ {v : Value} (e : g ≡ Some v) {r : Bool} (a : r ≡ same_type YesNo (value_type v)) where
       pub branch_other : not r ≡ true → effect env (Instruction.jump_if_no d) left (entries st h) (opened tr t) m ≡ stop stuck
       unfolding effect
       branch_other n = rw ((k.some v e).0, ← a, not-true r n)
@@ -247,11 +244,11 @@ module _ (env : Surroundings) (left : ℕ) (m : Memory) where
         below : Room (h - 1) t st tr
         below = record { height = omega arith; stack = omega arith; tries = q.0; pairs = q.1 }
 
-        pub branch_yes : y ≡ true → Moves (move.Go (record { passed = 2; height = h - 1; tries = t })) 2 st tr m (effect env (Instruction.jump_if_no d) left (entries st h) (opened tr t) m)
+        pub branch_yes : y ≡ true → Moves (Ok (record { passed = 2; height = h - 1; tries = t })) 2 st tr m (effect env (Instruction.jump_if_no d) left (entries st h) (opened tr t) m)
         unfolding effect
         branch_yes f = (rw ((k.some v e).0, ← a, not-false r n, ← b, f), omega arith, below)
 
-        pub branch_no : y ≡ false → Moves (move.Go (record { passed = 2 + d; height = h - 1; tries = t })) 2 st tr m (effect env (Instruction.jump_if_no d) left (entries st h) (opened tr t) m)
+        pub branch_no : y ≡ false → Moves (Ok (record { passed = 2 + d; height = h - 1; tries = t })) 2 st tr m (effect env (Instruction.jump_if_no d) left (entries st h) (opened tr t) m)
         unfolding effect
         branch_no f = let z : 2 + d - 2 ≡ d = omega arith in (rw ((k.some v e).0, ← a, not-false r n, ← b, f, z), omega arith, below)
 
@@ -267,13 +264,13 @@ module _ (env : Surroundings) (left : ℕ) (m : Memory) where
 
     module _ (tr : List ℕ) (q : (t ≤ 512) × (t * 2 ≤ length tr)) (l : 0 < h) where
       pub settle_nothing : get_or st (h - 1) 0 ≡ 0
-          → Moves (move.Go (record { passed = 2; height = h - 1; tries = t })) 2 st tr m (effect env (Instruction.settle d) left (entries st h) (opened tr t) m)
+          → Moves (Ok (record { passed = 2; height = h - 1; tries = t })) 2 st tr m (effect env (Instruction.settle d) left (entries st h) (opened tr t) m)
       unfolding effect
       settle_nothing e =
           (rw (entries_top st h l, nothing_entry e), omega arith, record { height = omega arith; stack = omega arith; tries = q.0; pairs = q.1 })
 
       pub settle_value : (get_or st (h - 1) 0 ≡ 0 → ⊥) → get_or st (h - 1) 0 < many_cell
-          → Moves (move.Go (record { passed = 2 + d; height = h; tries = t })) 2 st tr m (effect env (Instruction.settle d) left (entries st h) (opened tr t) m)
+          → Moves (Ok (record { passed = 2 + d; height = h; tries = t })) 2 st tr m (effect env (Instruction.settle d) left (entries st h) (opened tr t) m)
       unfolding effect
       settle_value e f =
           let z : 2 + d - 2 ≡ d = omega arith in

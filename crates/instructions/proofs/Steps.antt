@@ -11,6 +11,7 @@ use lib.ListN.{length, get_or, drop, length-drop}
 use lib.Dec.{eqb}
 use borrow.Author.Tests.{ne_eqb, eqb-true, eqb-false}
 use mathlib.Core.Logic.{⊎_elim}
+use Rattle.std.specs.Prelude.{Err}
 use Rattle.laws.proofs.Booleans.{decide}
 use Rattle.record.specs.Kinds.{kinds, shapes_of, shape_in}
 use Rattle.record.proofs.Decision.{NoneOf}
@@ -21,11 +22,10 @@ use Rattle.machine.specs.Instructions.{binary, unknown, instruction_of}
 use Rattle.machine.specs.Blocks.{body_length}
 use Rattle.machine.specs.Machine.{unset, waiting, Memory, read_from, read_in, jumped_if_given, tried, Surroundings, effect}
 use Rattle.instructions.specs.declared.Place.{Place}
-use Rattle.instructions.specs.declared.Move.{Move}
-use Rattle.instructions.specs.declared.Move.TheVariants as move
+use Rattle.instructions.specs.declared.Stop.TheVariants as halts
 use Rattle.instructions.specs.Views.{entries, opened, own_cell, callee_at, memory}
 use Rattle.directory.specs.Layout.{variables_in, sub_scopes_in, type_in, block_in, size_in}
-use Rattle.instructions.specs.Effects.{Moves, InFrame, Storing, Handing, StoreAt, OverrideAt, rest_at, kind_at, Stepping, Does, Stepped, memory_in}
+use Rattle.instructions.specs.Effects.{Move, Moves, InFrame, Storing, Handing, StoreAt, OverrideAt, rest_at, kind_at, Stepping, Does, Stepped, memory_in}
 use Rattle.instructions.proofs.Memory.{tab_at}
 
 module _ {directory : List ℕ} {p : ℕ} {body : List ℕ} {s : Place} {st tr own frame : List ℕ} (w : Stepping directory p body s st tr own frame) where
@@ -193,7 +193,7 @@ module _ {directory : List ℕ} {p k : ℕ} {rest st : List ℕ} {h : ℕ} {tr :
   unfolding effect instruction_of shape_in shapes_of kinds
   pass_try e tr' f = record { same = λ env c ty. rw e (rw (length-drop 2 rest) (f (memory_in directory p own frame c))) }
 
-  pub pass_stuck : instruction_of k rest ≡ unknown → Does directory p k rest st h tr t own frame move.Stuck st tr own frame
+  pub pass_stuck : instruction_of k rest ≡ unknown → Does directory p k rest st h tr t own frame (Err halts.Stuck) st tr own frame
   unfolding effect
   pass_stuck e = record { same = λ env c ty. rw e }
 

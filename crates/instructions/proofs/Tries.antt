@@ -11,12 +11,13 @@ use lib.ListN.{length, get_or, set, drop, length-set}
 use lib.Seq.{get_or-set_same, get_or-set_other}
 use lib.Dec.{leb}
 use borrow.Author.Tests.{lt-ltb, le-ltb, le-leb, lt-leb, leb-true, leb-false}
+use Rattle.std.specs.Prelude.{Ok, Err}
 use Rattle.answers.specs.declared.Cause.TheVariants.{Empty}
 use Rattle.calculus.specs.declared.Joined.{Joined}
 use Rattle.laws.proofs.Booleans.{decide}
 use Rattle.evaluation.specs.Run.{ended}
 use Rattle.machine.specs.Machine.{Memory, go, stop, ran, stuck, raised, tried, closed}
-use Rattle.instructions.specs.declared.Move.TheVariants as move
+use Rattle.instructions.specs.declared.Stop.TheVariants as halts
 use Rattle.instructions.specs.Views.{entries, opened}
 use Rattle.instructions.specs.Effects.{Room, Moves}
 use Rattle.instructions.proofs.Stack.{entries_length}
@@ -99,15 +100,15 @@ module _ {left : ℕ} {tr : List ℕ} {t i : ℕ} (k : Passed left tr t i) where
   pub pass : 0 < i → left < get_or tr ((i - 1) * 2) 0 → Passed left tr t (i - 1)
   pass p q = let b = k.below in record { below = omega arith; rest = λ es m. k.rest es m ∙ raise_on left tr i es m p q }
 
-  pub pass_end : (st : List ℕ) (h : ℕ) (m : Memory) → i ≤ 0 → Moves (move.Ended Empty) 0 st tr m (raised left (entries st h) (opened tr t) m)
+  pub pass_end : (st : List ℕ) (h : ℕ) (m : Memory) → i ≤ 0 → Moves (Err (halts.Ended Empty)) 0 st tr m (raised left (entries st h) (opened tr t) m)
   pass_end st h m e = let z : i ≡ 0 = omega arith in k.rest (entries st h) m ∙ raise_end left tr i (entries st h) m z
 
   module _ (st : List ℕ) (h : ℕ) (m : Memory) (p : 0 < i) (q : get_or tr ((i - 1) * 2) 0 ≤ left) where
-    pub pass_stuck : h < get_or tr ((i - 1) * 2 + 1) 0 → Moves move.Stuck 0 st tr m (raised left (entries st h) (opened tr t) m)
+    pub pass_stuck : h < get_or tr ((i - 1) * 2 + 1) 0 → Moves (Err halts.Stuck) 0 st tr m (raised left (entries st h) (opened tr t) m)
     pass_stuck r = k.rest (entries st h) m ∙ raise_stuck left tr i (entries st h) m p q (rw (entries_length st h) r)
 
     pub pass_lands : get_or tr ((i - 1) * 2 + 1) 0 ≤ h → Room h t st tr
-        → Moves (move.Go (record { passed = left - get_or tr ((i - 1) * 2) 0; height = get_or tr ((i - 1) * 2 + 1) 0; tries = i - 1 })) 0 st tr m (raised left (entries st h) (opened tr t) m)
+        → Moves (Ok (record { passed = left - get_or tr ((i - 1) * 2) 0; height = get_or tr ((i - 1) * 2 + 1) 0; tries = i - 1 })) 0 st tr m (raised left (entries st h) (opened tr t) m)
     pass_lands r o =
         let keep = get_or tr ((i - 1) * 2 + 1) 0 in
         let b = k.below in
@@ -125,7 +126,7 @@ module _ (tr : List ℕ) (t : ℕ) (st : List ℕ) (h : ℕ) (m : Memory) (x : �
   try_full p = rw (opened_length tr t, le-ltb t 512 p)
 
   pub try_go : t < 512 → t * 2 + 1 < length tr → (h ≤ length st) × (h ≤ 1024)
-      → Moves (move.Go (record { passed = 2; height = h; tries = t + 1 })) 2 st (set (set tr (t * 2) x) (t * 2 + 1) h) m (tried x (entries st h) (opened tr t) m)
+      → Moves (Ok (record { passed = 2; height = h; tries = t + 1 })) 2 st (set (set tr (t * 2) x) (t * 2 + 1) h) m (tried x (entries st h) (opened tr t) m)
   try_go p q r =
       let a = length-set tr (t * 2) x in
       let b = length-set (set tr (t * 2) x) (t * 2 + 1) h in (
@@ -135,11 +136,11 @@ module _ (tr : List ℕ) (t : ℕ) (st : List ℕ) (h : ℕ) (m : Memory) (x : �
       )
 
 module _ (st tr : List ℕ) (h t : ℕ) (m : Memory) (o : Room h t st tr) where
-  pub close_none : t ≡ 0 → Moves move.Stuck 0 st tr m (closed (entries st h) (opened tr t) m)
+  pub close_none : t ≡ 0 → Moves (Err halts.Stuck) 0 st tr m (closed (entries st h) (opened tr t) m)
   unfolding opened
   close_none e = rw e
 
-  pub close_go : 0 < t → Moves (move.Go (record { passed = 0; height = h; tries = t - 1 })) 0 st tr m (closed (entries st h) (opened tr t) m)
+  pub close_go : 0 < t → Moves (Ok (record { passed = 0; height = h; tries = t - 1 })) 0 st tr m (closed (entries st h) (opened tr t) m)
   close_go p = (
     rw (opened_top tr t p),
     omega arith,

@@ -1,10 +1,8 @@
 -- What the functions of the machine ensure.
-use Rattle.std.specs.Prelude.{ℕ, ◌+◌, ◌-◌, ◌*◌, ◌<◌, ◌≤◌, ◌≡◌, Bool, false, cond, List, [], ◌∷◌, length, get_or, take, drop}
+use Rattle.std.specs.Prelude.{ℕ, ◌+◌, ◌-◌, ◌*◌, ◌<◌, ◌≤◌, ◌≡◌, Bool, false, cond, List, [], ◌∷◌, length, get_or, take, drop, Option, None, Some, Result, Ok, Err}
 use Rattle.calculus.specs.declared.Value.{Value}
 use Rattle.calculus.specs.declared.Joined.{Joined}
 use Rattle.calculus.specs.declared.Joined.TheVariants.{One}
-use Rattle.calculus.specs.declared.Given.{Given}
-use Rattle.calculus.specs.declared.Given.TheVariants.{Absent, Present}
 use Rattle.cells.specs.Cells.{given_of}
 use Rattle.cells.specs.Joining.{joined_of}
 use Rattle.calculus.specs.declared.Binary.{Binary}
@@ -18,8 +16,9 @@ use Rattle.machine.specs.Blocks.{body_length}
 use Rattle.machine.specs.Machine.{unset, waiting, Memory, Next, go, stop, ran, stuck, taking, wanting, stored_to, overridden, Surroundings, effect}
 use Rattle.directory.specs.Layout.{variables_in, sub_scopes_in, type_in, block_in, size_in}
 use Rattle.instructions.specs.declared.Place.{Place}
-use Rattle.instructions.specs.declared.Move.{Move}
-use Rattle.instructions.specs.declared.Move.TheVariants.{Go, Ended, Stuck, NoRoom}
+use Rattle.instructions.specs.declared.Onward.{Onward}
+use Rattle.instructions.specs.declared.Stop.{Stop}
+use Rattle.instructions.specs.declared.Stop.TheVariants.{Ended, Stuck, NoRoom}
 use Rattle.instructions.specs.Views.{entries, opened, memory}
 
 -- height and tries are within the limits and within the slices
@@ -34,22 +33,26 @@ pub record Ample (st tr : List ℕ) : Type 0 where
   pub stack : 1024 ≤ length st
   pub tries : 1024 ≤ length tr
 
+-- how the run goes on after an instruction, or what stops it
+abbrev pub Move : Type 0
+Move = Result Onward Stop
+
 -- an answer and the slices stand for what follows an instruction of l bytes after its kind
 abbrev pub Moves : Move → ℕ → List ℕ → List ℕ → Memory → Next → Type 0
-Moves (Go x) l st tr m s = (s ≡ go (x.passed - l) (entries st x.height) (opened tr x.tries) m) × (l ≤ x.passed) × Room x.height x.tries st tr
-Moves (Ended c) l st tr m s = s ≡ stop (ran (ended c m.count))
-Moves Stuck l st tr m s = s ≡ stop stuck
-Moves NoRoom l st tr m s = Ample st tr → ⊥
+Moves (Ok x) l st tr m s = (s ≡ go (x.passed - l) (entries st x.height) (opened tr x.tries) m) × (l ≤ x.passed) × Room x.height x.tries st tr
+Moves (Err (Ended c)) l st tr m s = s ≡ stop (ran (ended c m.count))
+Moves (Err Stuck) l st tr m s = s ≡ stop stuck
+Moves (Err NoRoom) l st tr m s = Ample st tr → ⊥
 
 -- a cell and an entry that holds a value
 pub record Encodes (v : Value) (c : ℕ) : Type 0 where
-  pub cell : given_of c ≡ Present v
+  pub cell : given_of c ≡ Some v
   pub entry : joined_of c ≡ One v
 
 -- the value on top of a stack, if there is one
-pub record Takes (g : Given) (st : List ℕ) (h : ℕ) : Type 0 where
-  pub none : g ≡ Absent → (f : Value → List Joined → Next) → taking (entries st h) f ≡ stop stuck
-  pub some : (v : Value) → g ≡ Present v → (entries st h ≡ One v ∷ entries st (h - 1)) × (0 < h)
+pub record Takes (g : Option Value) (st : List ℕ) (h : ℕ) : Type 0 where
+  pub none : g ≡ None → (f : Value → List Joined → Next) → taking (entries st h) f ≡ stop stuck
+  pub some : (v : Value) → g ≡ Some v → (entries st h ≡ One v ∷ entries st (h - 1)) × (0 < h)
 
 -- two values have the types that an operator wants
 abbrev pub suitable : Binary → Value → Value → Bool

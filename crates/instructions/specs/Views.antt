@@ -3,11 +3,9 @@
 --   marks    for each of 8 sub-scopes, from 32 on, whether it was entered
 --   cells    from 40 on 32 for each sub-scope, of its variables
 -- What a sub-scope works on as its own variables are its cells in the frame of the scope that enters it.
-use Rattle.std.specs.Prelude.{ℕ, zero, suc, ◌+◌, ◌*◌, Bool, true, false, List, [], ◌∷◌, get_or, eqb}
+use Rattle.std.specs.Prelude.{ℕ, zero, suc, ◌+◌, ◌*◌, Bool, true, false, List, [], ◌∷◌, get_or, eqb, Option, None, Some}
 use Rattle.calculus.specs.declared.Value.{Value}
 use Rattle.calculus.specs.declared.Joined.{Joined}
-use Rattle.calculus.specs.declared.Given.{Given}
-use Rattle.calculus.specs.declared.Given.TheVariants.{Absent, Present}
 use Rattle.cells.specs.Cells.{given_of, held}
 use Rattle.cells.specs.Joining.{joined_of}
 use Rattle.machine.specs.Machine.{Cell, unset, given, stored, Callee, waiting, entered, Memory, Try}
@@ -28,23 +26,23 @@ tab f v zero = []
 tab f v (suc n) = f v ∷ tab f (suc v) n
 
 -- an own variable, from its cell and whether it was given
-abbrev pub cell_with : Bool → Given → Cell
-cell_with b Absent = unset
-cell_with true (Present v) = given v
-cell_with false (Present v) = stored v
+abbrev pub cell_with : Bool → Option Value → Cell
+cell_with b None = unset
+cell_with true (Some v) = given v
+cell_with false (Some v) = stored v
 
 -- own variable x
 unfoldable pub own_cell : List ℕ → List ℕ → ℕ → Cell
 own_cell own frame x = cell_with (eqb (get_or frame x 0) 0) (given_of (get_or own x 0))
 
 -- what n cells from a place on hold, as what is given and as values
-unfoldable pub givens_at : List ℕ → ℕ → ℕ → List Given
+unfoldable pub givens_at : List ℕ → ℕ → ℕ → List (Option Value)
 givens_at cells at n = tab (λ x. given_of (get_or cells (at + x) 0)) 0 n
 
 unfoldable pub values_in : List ℕ → ℕ → ℕ → List Value
 values_in cells at n = tab (λ x. held (given_of (get_or cells (at + x) 0))) 0 n
 
-abbrev pub callee_with : Bool → List Given → List Value → Callee
+abbrev pub callee_with : Bool → List (Option Value) → List Value → Callee
 callee_with true gs vs = waiting gs
 callee_with false gs vs = entered vs
 

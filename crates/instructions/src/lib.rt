@@ -17,8 +17,8 @@ ghost use Rattle.instructions.specs.Effects.{Room, Moves, Encodes, Takes, suitab
 
 use answers::Cause;
 use book::ValueType;
-use calculus::{Binary, Given, Outcome, Unary, Value};
-use cells::{MANY, NO, NOTHING, ZERO, cell_of, join, value_in};
+use calculus::{Binary, Unary, Value};
+use cells::{MANY, NO, NOTHING, VARIABLES, ZERO, cell_of, join, value_in};
 use directory::{block_of, type_at};
 use integers::{distance_at, number_at};
 use operators::{apply_binary, apply_unary, operator_of, truth_of};
@@ -30,7 +30,7 @@ use record::{
     LENGTH_NUMBER, LENGTH_OWN, LENGTH_OWN_DISTANCE,
 };
 use slices::byte_at;
-use types::{operand_type, same_type, unary_type};
+use types::{operand_type, unary_type};
 
 // A place in the run of a block: the byte, the stack's height, the open tries, and the count of scopes entered.
 #[derive(Clone, Copy)]
@@ -49,10 +49,9 @@ pub struct Onward {
     pub tries: usize,
 }
 
-// After an instruction: the run goes on, or stops.
+// What stops a run at an instruction; the lent slices may be too short.
 #[derive(Clone, Copy)]
-pub enum Move {
-    Go(Onward),
+pub enum Stop {
     Ended(Cause),
     Stuck,
     NoRoom,
@@ -63,9 +62,7 @@ pub const MARKS: usize = 32;
 
 pub const CALLED: usize = 40;
 
-// The cells of a scope's variables, and the limits of one entry.
-const VARIABLES: usize = 32;
-
+// The limits of one entry.
 const STACK: usize = 1024;
 
 const TRIES: usize = 512;
@@ -89,40 +86,40 @@ fn type_in(v: Value) -> ValueType
 fn has_type(t: ValueType, v: Value) -> bool
     ensures { result ≡ same_type t (value_type v) }
 {
-    same_type(t, type_in(v))
+    t == type_in(v)
 }
 
 // The value on top of the stack.
-fn top_value(st: &[u64], h: usize) -> Given
+fn top_value(st: &[u64], h: usize) -> Option<Value>
     requires { h ≤ length st.now }
     ensures { Takes result st.now h }
 {
     if h == 0 {
-        return Given::Absent;
+        return None;
     }
     let c = st[h - 1];
     if c == NOTHING {
-        return Given::Absent;
+        return None;
     }
     if c < MANY {
-        return Given::Present(value_in(c));
+        return Some(value_in(c));
     }
-    Given::Absent
+    None
 }
 
 // Pushes an entry, n bytes passed behind the kind.
-fn push(st: &mut [u64], h: usize, e: u64, n: usize, t: usize) -> Move
+fn push(st: &mut [u64], h: usize, e: u64, n: usize, t: usize) -> Result<Onward, Stop>
     ensures { (tr : List ℕ) (m : Memory) → Room h t st.old tr
         → Moves result n st.new tr m (pushed (joined_of e) (entries st.old h) (opened tr t) m) }
 {
     if STACK <= h {
-        return Move::Stuck;
+        return Err(Stop::Stuck);
     }
     if st.len() <= h {
-        return Move::NoRoom;
+        return Err(Stop::NoRoom);
     }
     st[h] = e;
-    Move::Go(Onward {
+    Ok(Onward {
         passed: n,
         height: h + 1,
         tries: t,
@@ -130,62 +127,56 @@ fn push(st: &mut [u64], h: usize, e: u64, n: usize, t: usize) -> Move
 }
 
 // Pushes what an operator gives onto a stack that had more.
-fn answer(o: Outcome, st: &mut [u64], h: usize, t: usize) -> Move
+fn answer(o: Result<Value, Cause>, st: &mut [u64], h: usize, t: usize) -> Result<Onward, Stop>
     requires { (h < length st.old) × (h < 1024) }
     ensures { (tr : List ℕ) (m : Memory) → (t ≤ 512) × (t * 2 ≤ length tr)
         → Moves result 0 st.new tr m (answered o (entries st.old h) (opened tr t) m) }
 {
     match o {
-        Outcome::Gives(v) => {
+        Ok(v) => {
             st[h] = encode(v);
-            Move::Go(Onward {
+            Ok(Onward {
                 passed: 0,
                 height: h + 1,
                 tries: t,
             })
         }
-        Outcome::Ends(c) => Move::Ended(c),
+        Err(c) => Err(Stop::Ended(c)),
     }
 }
 
 // An operator on the value on top.
-fn unary(op: Unary, st: &mut [u64], h: usize, t: usize) -> Move
+fn unary(op: Unary, st: &mut [u64], h: usize, t: usize) -> Result<Onward, Stop>
     requires { (h ≤ length st.old) × (h ≤ 1024) }
     ensures { (env : Surroundings) (tr : List ℕ) (m : Memory) (left : ℕ) → (t ≤ 512) × (t * 2 ≤ length tr)
         → Moves result 0 st.new tr m (effect env (Instruction.unary op) left (entries st.old h) (opened tr t) m) }
 {
-    match top_value(st, h) {
-        Given::Absent => Move::Stuck,
-        Given::Present(v) => {
-            if !has_type(unary_type(op), v) {
-                return Move::Stuck;
-            }
-            answer(apply_unary(op, v), st, h - 1, t)
-        }
+    let Some(v) = top_value(st, h) else {
+        return Err(Stop::Stuck);
+    };
+    if !has_type(unary_type(op), v) {
+        return Err(Stop::Stuck);
     }
+    answer(apply_unary(op, v), st, h - 1, t)
 }
 
 // An operator on the top two, the right operand on top.
-fn binary(op: Binary, st: &mut [u64], h: usize, t: usize) -> Move
+fn binary(op: Binary, st: &mut [u64], h: usize, t: usize) -> Result<Onward, Stop>
     requires { (h ≤ length st.old) × (h ≤ 1024) }
     ensures { (env : Surroundings) (tr : List ℕ) (m : Memory) (left : ℕ) → (t ≤ 512) × (t * 2 ≤ length tr)
         → Moves result 0 st.new tr m (effect env (Instruction.binary op) left (entries st.old h) (opened tr t) m) }
 {
-    match top_value(st, h) {
-        Given::Absent => Move::Stuck,
-        Given::Present(w) => {
-            let less = h - 1;
-            match top_value(st, less) {
-                Given::Absent => Move::Stuck,
-                Given::Present(v) => {
-                    if !suits(op, v, w) {
-                        return Move::Stuck;
-                    }
-                    answer(apply_binary(op, v, w), st, less - 1, t)
-                }
-            }
-        }
+    let Some(w) = top_value(st, h) else {
+        return Err(Stop::Stuck);
+    };
+    let less = h - 1;
+    let Some(v) = top_value(st, less) else {
+        return Err(Stop::Stuck);
+    };
+    if !suits(op, v, w) {
+        return Err(Stop::Stuck);
     }
+    answer(apply_binary(op, v, w), st, less - 1, t)
 }
 
 // Whether two values have the types that an operator wants.
@@ -193,25 +184,22 @@ fn suits(op: Binary, v: Value, w: Value) -> bool
     ensures { result ≡ suitable op v w }
 {
     let wanted = operand_type(op, type_in(v));
-    if !has_type(wanted, v) {
-        return false;
-    }
-    has_type(wanted, w)
+    has_type(wanted, v) && has_type(wanted, w)
 }
 
 // Joins the top two, the right one on top.
-fn join_top(st: &mut [u64], h: usize, t: usize) -> Move
+fn join_top(st: &mut [u64], h: usize, t: usize) -> Result<Onward, Stop>
     requires { (h ≤ length st.old) × (h ≤ 1024) }
     ensures { (env : Surroundings) (tr : List ℕ) (m : Memory) (left : ℕ) → (t ≤ 512) × (t * 2 ≤ length tr)
         → Moves result 0 st.new tr m (effect env Instruction.join left (entries st.old h) (opened tr t) m) }
 {
     if h < 2 {
-        return Move::Stuck;
+        return Err(Stop::Stuck);
     }
     let a = st[h - 2];
     let b = st[h - 1];
     st[h - 2] = join(a, b);
-    Move::Go(Onward {
+    Ok(Onward {
         passed: 0,
         height: h - 1,
         tries: t,
@@ -219,11 +207,11 @@ fn join_top(st: &mut [u64], h: usize, t: usize) -> Move
 }
 
 // Jumps.
-fn jump(d: usize, h: usize, t: usize) -> Move
+fn jump(d: usize, h: usize, t: usize) -> Result<Onward, Stop>
     requires { d < 65536 }
     ensures { (st tr : List ℕ) (m : Memory) → Room h t st tr → Moves result 2 st tr m (go d (entries st h) (opened tr t) m) }
 {
-    Move::Go(Onward {
+    Ok(Onward {
         passed: LENGTH_DISTANCE + d,
         height: h,
         tries: t,
@@ -231,83 +219,79 @@ fn jump(d: usize, h: usize, t: usize) -> Move
 }
 
 // Takes a yes/no, and jumps on no.
-fn branch(d: usize, st: &[u64], h: usize, t: usize) -> Move
+fn branch(d: usize, st: &[u64], h: usize, t: usize) -> Result<Onward, Stop>
     requires { (h ≤ length st.now) × (h ≤ 1024) × (d < 65536) }
     ensures { (env : Surroundings) (tr : List ℕ) (m : Memory) (left : ℕ) → (t ≤ 512) × (t * 2 ≤ length tr)
         → Moves result 2 st.now tr m (effect env (Instruction.jump_if_no d) left (entries st.now h) (opened tr t) m) }
 {
-    match top_value(st, h) {
-        Given::Absent => Move::Stuck,
-        Given::Present(v) => {
-            if !has_type(ValueType::YesNo, v) {
-                return Move::Stuck;
-            }
-            if truth_of(v) {
-                return Move::Go(Onward {
-                    passed: LENGTH_DISTANCE,
-                    height: h - 1,
-                    tries: t,
-                });
-            }
-            Move::Go(Onward {
-                passed: LENGTH_DISTANCE + d,
-                height: h - 1,
-                tries: t,
-            })
-        }
+    let Some(v) = top_value(st, h) else {
+        return Err(Stop::Stuck);
+    };
+    if !has_type(ValueType::YesNo, v) {
+        return Err(Stop::Stuck);
     }
+    if truth_of(v) {
+        return Ok(Onward {
+            passed: LENGTH_DISTANCE,
+            height: h - 1,
+            tries: t,
+        });
+    }
+    Ok(Onward {
+        passed: LENGTH_DISTANCE + d,
+        height: h - 1,
+        tries: t,
+    })
 }
 
 // Many ends the run, a value stays and jumps, nothing is removed.
-fn settle(d: usize, st: &[u64], h: usize, t: usize) -> Move
+fn settle(d: usize, st: &[u64], h: usize, t: usize) -> Result<Onward, Stop>
     requires { (h ≤ length st.now) × (h ≤ 1024) × (d < 65536) }
     ensures { (env : Surroundings) (tr : List ℕ) (m : Memory) (left : ℕ) → (t ≤ 512) × (t * 2 ≤ length tr)
         → Moves result 2 st.now tr m (effect env (Instruction.settle d) left (entries st.now h) (opened tr t) m) }
 {
     if h == 0 {
-        return Move::Stuck;
+        return Err(Stop::Stuck);
     }
     let c = st[h - 1];
     if c == NOTHING {
-        return Move::Go(Onward {
+        return Ok(Onward {
             passed: LENGTH_DISTANCE,
             height: h - 1,
             tries: t,
         });
     }
     if c < MANY {
-        return Move::Go(Onward {
+        return Ok(Onward {
             passed: LENGTH_DISTANCE + d,
             height: h,
             tries: t,
         });
     }
-    Move::Ended(Cause::Conflict)
+    Err(Stop::Ended(Cause::Conflict))
 }
 
 // Raises empty, with so many bytes of the block left behind the raise.
-fn raise(left: usize, st: &[u64], h: usize, tr: &[usize], t: usize) -> Move
+fn raise(left: usize, st: &[u64], h: usize, tr: &[usize], t: usize) -> Result<Onward, Stop>
     requires { Room h t st.now tr.now }
     ensures { (m : Memory)
         → Moves result 0 st.now tr.now m (raised left (entries st.now h) (opened tr.now t) m) }
 {
-    let mut i = t;
-    while 0 < i {
-        i -= 1;
+    for i in (0..t).rev() {
         let land = tr[i * 2];
         if land <= left {
             let keep = tr[i * 2 + 1];
             if keep <= h {
-                return Move::Go(Onward {
+                return Ok(Onward {
                     passed: left - land,
                     height: keep,
                     tries: i,
                 });
             }
-            return Move::Stuck;
+            return Err(Stop::Stuck);
         }
     }
-    Move::Ended(Cause::Empty)
+    Err(Stop::Ended(Cause::Empty))
 }
 
 // How many bytes of the block remain where a try of distance d lands.
@@ -315,27 +299,24 @@ fn landing(left: usize, d: usize) -> usize
     requires { d < 65536 }
     ensures { result ≡ left - 2 - d }
 {
-    if left < LENGTH_DISTANCE + d {
-        return 0;
-    }
-    left - (LENGTH_DISTANCE + d)
+    left.saturating_sub(LENGTH_DISTANCE + d)
 }
 
 // Opens a try that lands d bytes behind the instruction, of whose block so many bytes are left behind the kind.
-fn begin_try(left: usize, d: usize, h: usize, tr: &mut [usize], t: usize) -> Move
+fn begin_try(left: usize, d: usize, h: usize, tr: &mut [usize], t: usize) -> Result<Onward, Stop>
     requires { (t ≤ 512) × (t * 2 ≤ length tr.old) × (d < 65536) }
     ensures { (st : List ℕ) (m : Memory) → (h ≤ length st) × (h ≤ 1024)
         → Moves result 2 st tr.new m (tried (left - 2 - d) (entries st h) (opened tr.old t) m) }
 {
     if TRIES <= t {
-        return Move::Stuck;
+        return Err(Stop::Stuck);
     }
     if tr.len() - t * 2 < 2 {
-        return Move::NoRoom;
+        return Err(Stop::NoRoom);
     }
     tr[t * 2] = landing(left, d);
     tr[t * 2 + 1] = h;
-    Move::Go(Onward {
+    Ok(Onward {
         passed: LENGTH_DISTANCE,
         height: h,
         tries: t + 1,
@@ -343,14 +324,14 @@ fn begin_try(left: usize, d: usize, h: usize, tr: &mut [usize], t: usize) -> Mov
 }
 
 // Closes the latest try.
-fn end_try(h: usize, t: usize) -> Move
+fn end_try(h: usize, t: usize) -> Result<Onward, Stop>
     ensures { (st tr : List ℕ) (m : Memory) → Room h t st tr
         → Moves result 0 st tr m (closed (entries st h) (opened tr t) m) }
 {
     if t == 0 {
-        Move::Stuck
+        Err(Stop::Stuck)
     } else {
-        Move::Go(Onward {
+        Ok(Onward {
             passed: 0,
             height: h,
             tries: t - 1,
@@ -374,13 +355,13 @@ fn value_cell(c: u64) -> u64
 fn first(rest: &[u8]) -> usize
     ensures { result ≡ get_or rest.now 0 0 }
 {
-    byte_at(rest, 0) as usize
+    usize::from(byte_at(rest, 0))
 }
 
 fn second(rest: &[u8]) -> usize
     ensures { result ≡ get_or rest.now 1 0 }
 {
-    byte_at(rest, 1) as usize
+    usize::from(byte_at(rest, 1))
 }
 
 // A distance that stands behind so many bytes.
@@ -390,7 +371,7 @@ fn distance(rest: &[u8], at: usize) -> usize
     distance_at(rest, at)
 }
 
-fn push_truth(rest: &[u8], st: &mut [u64], h: usize, t: usize) -> Move
+fn push_truth(rest: &[u8], st: &mut [u64], h: usize, t: usize) -> Result<Onward, Stop>
     ensures { (tr : List ℕ) (m : Memory) → Room h t st.old tr
         → Moves result 1 st.new tr m
         (pushed (One (Value.Truth (eqb (get_or rest.now 0 0) 1))) (entries st.old h) (opened tr t) m) }
@@ -404,7 +385,7 @@ fn push_truth(rest: &[u8], st: &mut [u64], h: usize, t: usize) -> Move
     )
 }
 
-fn push_number(rest: &[u8], st: &mut [u64], h: usize, t: usize) -> Move
+fn push_number(rest: &[u8], st: &mut [u64], h: usize, t: usize) -> Result<Onward, Stop>
     ensures { (tr : List ℕ) (m : Memory) → Room h t st.old tr
         → Moves result 4 st.new tr m
         (pushed (One (Value.Number (number_at rest.now 0))) (entries st.old h) (opened tr t) m) }
@@ -419,27 +400,34 @@ fn push_number(rest: &[u8], st: &mut [u64], h: usize, t: usize) -> Move
 }
 
 // Pushes own variable x.
-fn read_own(x: usize, own: &[u64], st: &mut [u64], h: usize, t: usize) -> Move
+fn read_own(x: usize, own: &[u64], st: &mut [u64], h: usize, t: usize) -> Result<Onward, Stop>
     requires { x < length own.now }
     ensures { (flags tr : List ℕ) (m : Memory) → Room h t st.old tr
         → Moves result 1 st.new tr m (read_from (own_cell own.now flags x) (entries st.old h) (opened tr t) m) }
 {
     let c = own[x];
     if c == NOTHING {
-        return Move::Stuck;
+        return Err(Stop::Stuck);
     }
     push(st, h, value_cell(c), LENGTH_OWN, t)
 }
 
 // Pushes variable x of sub-scope k.
-fn read_called(k: usize, x: usize, frame: &[u64], st: &mut [u64], h: usize, t: usize) -> Move
+fn read_called(
+    k: usize,
+    x: usize,
+    frame: &[u64],
+    st: &mut [u64],
+    h: usize,
+    t: usize,
+) -> Result<Onward, Stop>
     requires { InFrame k x frame.now }
     ensures { (n : ℕ) (tr : List ℕ) (m : Memory) → x < n → Room h t st.old tr
         → Moves result 2 st.new tr m
         (read_in (callee_at frame.now n k) x (entries st.old h) (opened tr t) m) }
 {
     if frame[MARKS + k] == 0 {
-        return Move::Stuck;
+        return Err(Stop::Stuck);
     }
     push(
         st,
@@ -459,28 +447,26 @@ fn store(
     t: usize,
     own: &mut [u64],
     frame: &mut [u64],
-) -> Move
+) -> Result<Onward, Stop>
     requires { (h ≤ length st.now) × (h ≤ 1024) × (x < 32) × (x < length own.old) × (x < length frame.old) }
     ensures { Storing wanted x st.now h t own.old frame.old result own.new frame.new }
 {
-    match top_value(st, h) {
-        Given::Absent => Move::Stuck,
-        Given::Present(v) => {
-            if !has_type(wanted, v) {
-                return Move::Stuck;
-            }
-            if own[x] != NOTHING {
-                return Move::Stuck;
-            }
-            own[x] = encode(v);
-            frame[x] = 1;
-            Move::Go(Onward {
-                passed: LENGTH_OWN,
-                height: h - 1,
-                tries: t,
-            })
-        }
+    let Some(v) = top_value(st, h) else {
+        return Err(Stop::Stuck);
+    };
+    if !has_type(wanted, v) {
+        return Err(Stop::Stuck);
     }
+    if own[x] != NOTHING {
+        return Err(Stop::Stuck);
+    }
+    own[x] = encode(v);
+    frame[x] = 1;
+    Ok(Onward {
+        passed: LENGTH_OWN,
+        height: h - 1,
+        tries: t,
+    })
 }
 
 // Hands over to variable x, of a type, of sub-scope k.
@@ -492,54 +478,59 @@ fn hand_over(
     h: usize,
     t: usize,
     frame: &mut [u64],
-) -> Move
+) -> Result<Onward, Stop>
     requires { (h ≤ length st.now) × (h ≤ 1024) × InFrame k x frame.old }
     ensures { Handing wanted k x st.now h t frame.old result frame.new }
 {
-    match top_value(st, h) {
-        Given::Absent => Move::Stuck,
-        Given::Present(v) => {
-            if !has_type(wanted, v) {
-                return Move::Stuck;
-            }
-            if frame[MARKS + k] != 0 {
-                return Move::Stuck;
-            }
-            let at = CALLED + k * VARIABLES + x;
-            if frame[at] != NOTHING {
-                return Move::Stuck;
-            }
-            frame[at] = encode(v);
-            Move::Go(Onward {
-                passed: LENGTH_CALLED,
-                height: h - 1,
-                tries: t,
-            })
-        }
+    let Some(v) = top_value(st, h) else {
+        return Err(Stop::Stuck);
+    };
+    if !has_type(wanted, v) {
+        return Err(Stop::Stuck);
     }
+    if frame[MARKS + k] != 0 {
+        return Err(Stop::Stuck);
+    }
+    let at = CALLED + k * VARIABLES + x;
+    if frame[at] != NOTHING {
+        return Err(Stop::Stuck);
+    }
+    frame[at] = encode(v);
+    Ok(Onward {
+        passed: LENGTH_CALLED,
+        height: h - 1,
+        tries: t,
+    })
 }
 
 // Jumps where own variable x is given.
-fn jump_if_given(x: usize, d: usize, own: &[u64], frame: &[u64], h: usize, t: usize) -> Move
+fn jump_if_given(
+    x: usize,
+    d: usize,
+    own: &[u64],
+    frame: &[u64],
+    h: usize,
+    t: usize,
+) -> Result<Onward, Stop>
     requires { (x < length own.now) × (x < length frame.now) × (d < 65536) }
     ensures { (st tr : List ℕ) (m : Memory) → Room h t st tr
         → Moves result 3 st tr m (jumped_if_given (own_cell own.now frame.now x) d (entries st h) (opened tr t) m) }
 {
     if own[x] == NOTHING {
-        return Move::Go(Onward {
+        return Ok(Onward {
             passed: LENGTH_OWN_DISTANCE,
             height: h,
             tries: t,
         });
     }
     if frame[x] == 0 {
-        return Move::Go(Onward {
+        return Ok(Onward {
             passed: LENGTH_OWN_DISTANCE + d,
             height: h,
             tries: t,
         });
     }
-    Move::Go(Onward {
+    Ok(Onward {
         passed: LENGTH_OWN_DISTANCE,
         height: h,
         tries: t,
@@ -555,7 +546,7 @@ fn override_at(
     h: usize,
     t: usize,
     frame: &mut [u64],
-) -> Move
+) -> Result<Onward, Stop>
     requires { OverrideAt rest.now directory.now p st.now h frame.old }
     ensures { Handing (type_in directory.now (block_in directory.now p (get_or rest.now 0 0)) (get_or rest.now 1 0))
         (get_or rest.now 0 0) (get_or rest.now 1 0) st.now h t frame.old result frame.new }
@@ -576,7 +567,7 @@ fn store_at(
     t: usize,
     own: &mut [u64],
     frame: &mut [u64],
-) -> Move
+) -> Result<Onward, Stop>
     requires { StoreAt rest.now p st.now h own.old frame.old }
     ensures { Storing (type_in directory.now p (get_or rest.now 0 0)) (get_or rest.now 0 0)
         st.now h t own.old frame.old result own.new frame.new }
@@ -595,7 +586,7 @@ pub fn step(
     tr: &mut [usize],
     own: &mut [u64],
     frame: &mut [u64],
-) -> Move
+) -> Result<Onward, Stop>
     requires { Stepping directory.now p body.now s st.old tr.old own.old frame.old }
     ensures { Stepped directory.now p body.now s st.old tr.old own.old frame.old
         result st.new tr.new own.new frame.new }
@@ -616,7 +607,7 @@ pub fn step(
             binary(operator_of(kind), st, h, t)
         }
         KIND_RAISE_EMPTY => raise(rest.len(), st, h, tr, t),
-        KIND_RAISE_CONFLICT => Move::Ended(Cause::Conflict),
+        KIND_RAISE_CONFLICT => Err(Stop::Ended(Cause::Conflict)),
         KIND_JUMP => jump(distance(rest, 0), h, t),
         KIND_JUMP_IF_NO => branch(distance(rest, 0), st, h, t),
         KIND_TRY => begin_try(rest.len(), distance(rest, 0), h, tr, t),
@@ -628,6 +619,6 @@ pub fn step(
         KIND_OVERRIDE => override_at(rest, directory, p, st, h, t, frame),
         KIND_JUMP_IF_GIVEN => jump_if_given(first(rest), distance(rest, 1), own, frame, h, t),
         // Never met: accepted code has no other kind, and the entry of a sub-scope is none of these.
-        _ => Move::Stuck,
+        _ => Err(Stop::Stuck),
     }
 }

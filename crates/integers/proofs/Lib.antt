@@ -1,3 +1,3 @@
-mod Signs
+mod Library
 pub mod Endian
 pub mod RoundTrip

@@ -8,62 +8,37 @@ ghost use Rattle.slices.specs.Bytes.{big_endian, number_at, number_bytes, overwr
 
 use slices::{byte_at, fits, part_of};
 
-fn wide(b: u8) -> u32
-    ensures { result ≡ b }
-{
-    b as u32
-}
-
-// The number of the first two bytes.
-fn two_bytes(s: &[u8]) -> usize
-    ensures { result ≡ big_endian 2 s.now 0 }
-{
-    let a = wide(byte_at(s, 0));
-    let b = wide(byte_at(s, 1));
-    (a * 256 + b) as usize
-}
-
 // The number of the first four bytes.
 fn four_bytes(s: &[u8]) -> u32
     ensures { result ≡ big_endian 4 s.now 0 }
 {
-    if 3 < s.len() {
-        return ((wide(s[0]) * 256 + wide(s[1])) * 256 + wide(s[2])) * 256 + wide(s[3]);
+    // Four bytes at once where there are so many: one test in place of four.
+    if let Some(bytes) = s.first_chunk::<4>() {
+        return u32::from_be_bytes(*bytes);
     }
-    let a = wide(byte_at(s, 0));
-    let b = wide(byte_at(s, 1));
-    let c = wide(byte_at(s, 2));
-    let d = wide(byte_at(s, 3));
-    ((a * 256 + b) * 256 + c) * 256 + d
+    u32::from_be_bytes([byte_at(s, 0), byte_at(s, 1), byte_at(s, 2), byte_at(s, 3)])
 }
 
 // A distance: two bytes, high byte first.
 pub fn distance_at(s: &[u8], at: usize) -> usize
     ensures { result ≡ big_endian 2 s.now at }
 {
-    two_bytes(part_of(s, at, 2))
+    let part = part_of(s, at, 2);
+    usize::from(u16::from_be_bytes([byte_at(part, 0), byte_at(part, 1)]))
 }
 
 // The number whose bits are u.
 pub fn number_of(u: u32) -> i32
     ensures { result ≡ to_z w32 u }
 {
-    if u < 2147483648 {
-        u as i32
-    } else {
-        -1 - ((4294967295 - u) as i32)
-    }
+    u.cast_signed()
 }
 
 // The bits of n.
 pub fn bits_of(n: i32) -> u32
     ensures { result ≡ of_z w32 n }
 {
-    if n < 0 {
-        4294967295 - ((-1 - n) as u32)
-    } else {
-        n as u32
-    }
+    n.cast_unsigned()
 }
 
 // A signed number: four bytes, two's complement, high byte first.
@@ -77,11 +52,12 @@ pub fn number_at(s: &[u8], at: usize) -> i32
 pub fn put_number(s: &mut [u8], at: usize, n: i32)
     ensures { s.new ≡ overwrite s.old at (number_bytes n) }
 {
-    let u = bits_of(n);
     if fits(s.len(), at, 4) {
-        s[at] = (u / 256 / 256 / 256 % 256) as u8;
-        s[at + 1] = (u / 256 / 256 % 256) as u8;
-        s[at + 2] = (u / 256 % 256) as u8;
-        s[at + 3] = (u % 256) as u8;
+        // `copy_from_slice` is slower here: it looks first whether the two overlap.
+        let [a, b, c, d] = n.to_be_bytes();
+        s[at] = a;
+        s[at + 1] = b;
+        s[at + 2] = c;
+        s[at + 3] = d;
     }
 }

@@ -2,12 +2,14 @@
 -- Assumes nothing.
 use Prim.Native.Nat.{ℕ, ◌<◌, ◌≤◌}
 use mathlib.Core.Path.{◌≡◌, sym, ap, ◌∙◌}
-use mathlib.Core.Bool.{true, false}
+use mathlib.Core.Bool.{Bool, true, false}
 use mathlib.Core.List.{List}
 use native.Mathlib.Omega.{arith}
 use lib.ListN.{length, take, drop}
 use lib.Seq.{take_at}
 use borrow.Author.Tests.{eq-eqb, ne_eqb, lt-ltb, le-ltb}
+use Rattle.std.specs.Prelude.{Option, None, Some, Result, Ok, Err}
+use Rattle.std.specs.Result.{result_ok}
 use Rattle.book.specs.Syntax.{Scope}
 use Rattle.book.specs.Records.{records, too_long}
 use Rattle.book.specs.Decode.{scopes_of}
@@ -20,30 +22,44 @@ use Rattle.book.specs.Steps.{dependency_cycle}
 use Rattle.book.specs.Judge.{judge, scan, whole_book}
 use Rattle.answers.specs.declared.Fault.{Fault}
 use Rattle.answers.specs.declared.Fault.TheVariants.{LimitExceeded, DanglingReference, SharedNode, TypeMismatch, MixedClauses, ScopeCycle, WeightExceeded, DependencyCycle}
-use Rattle.book.specs.declared.Scanned.TheVariants.{Sound, Faulty}
-use Rattle.answers.specs.declared.Judged.{Judged}
-use Rattle.answers.specs.declared.Judged.TheVariants.{Accepted, Refused}
 use Rattle.steps.specs.Answers.{Written}
 use Rattle.scan.specs.Filling.{scanned_by, Recorded}
-use Rattle.scan.specs.declared.Reading.{Reading}
-use Rattle.scan.specs.declared.Reading.TheVariants.{Complete}
-use Rattle.scan.specs.declared.Reading.TheVariants.{Faulty as Reading-as-Faulty}
-use Rattle.judge.specs.Verdict.{SoundRecords, Loads, order_faults}
+use Rattle.checks.specs.declared.Findings.{Findings}
+use Rattle.checks.specs.Findings.{says_dangling, OfBook}
+use Rattle.judge.specs.Verdict.{Loads, order_faults}
 
-never : (f : Fault) (n : ℕ) → Refused f ≡ Accepted n → ⊥
+never : (f : Fault) (n : ℕ) → Err f ≡ Ok n → ⊥
 never f n q = let z : ◌≡◌ {A = ℕ} 0 1 = cc in omega arith
 
 -- a refused book has no tables
-pub refused : {bytes index blocks weights orders : List ℕ} {expected : Judged} {f : Fault} → Refused f ≡ expected
-    → Loads bytes index blocks weights orders expected (Refused f)
+pub refused : {bytes index blocks weights orders : List ℕ} {expected : Result ℕ Fault} {f : Fault} → Err f ≡ expected
+    → Loads bytes index blocks weights orders expected (Err f)
 refused {f = f} e = record { answer = e; tables = λ n q. absurd (never f n q) }
 
 -- what reading the records told
-pub read_sound : {bytes index : List ℕ} {r : Reading} {n : ℕ} → Recorded bytes index r → r ≡ Complete n → SoundRecords bytes index n
-read_sound {n = n} x e = record { sound = sym x.answer ∙ ap (λ (y : Reading). scanned_by y) e; filled = x.laid n e }
+pub read_sound : {bytes index : List ℕ} {r : Result ℕ Fault} {n : ℕ} → Recorded bytes index r → r ≡ Ok n → scan (records bytes) ≡ None
+read_sound x e = sym x.answer ∙ ap (λ (y : Result ℕ Fault). scanned_by y) e
 
-pub read_fault : {bytes index : List ℕ} {r : Reading} {f : Fault} → Recorded bytes index r → r ≡ Reading-as-Faulty f → scan (records bytes) ≡ Faulty f
-read_fault x e = sym x.answer ∙ ap (λ (y : Reading). scanned_by y) e
+pub read_fault : {bytes index : List ℕ} {r : Result ℕ Fault} {f : Fault} → Recorded bytes index r → r ≡ Err f → scan (records bytes) ≡ Some f
+read_fault x e = sym x.answer ∙ ap (λ (y : Result ℕ Fault). scanned_by y) e
+
+-- what the pass of faults 6 to 8 found, where its answer became a result
+module _ {book : List Scope} {o : Option Findings} {r : Result Findings Fault} (told : OfBook book o) (part : o ≡ result_ok r) where
+  pub found_dangling : {f : Fault} → r ≡ Err f → dangles book ≡ true
+  found_dangling e = sym told.dangling ∙ ap says_dangling part ∙ ap (λ (y : Result Findings Fault). says_dangling (result_ok y)) e
+
+  module _ {f : Findings} (e : r ≡ Ok f) where
+    some : o ≡ Some f
+    some = part ∙ ap (λ (y : Result Findings Fault). result_ok y) e
+
+    pub found_sound : dangles book ≡ false
+    found_sound = sym told.dangling ∙ ap says_dangling some
+
+    pub found_shares : {b : Bool} → f.shares ≡ b → shares book ≡ b
+    found_shares q = sym (told.shared f some) ∙ q
+
+    pub found_mismatches : {b : Bool} → f.mismatches ≡ b → mismatches book ≡ b
+    found_mismatches q = sym (told.mismatched f some) ∙ q
 
 -- the order that was written, where it is whole
 pub whole_order : {xs from to : List ℕ} {k n : ℕ} → Written xs from k to → k ≡ n → take n to ≡ xs
@@ -59,35 +75,35 @@ module _ (book : List Scope) where
   unfolding scope_cycle
   no_cycle p q e = rw (eq-eqb (length (blocks book)) (length book) (sym p ∙ e ∙ q))
 
-  pub cycle_first : scope_cycle book ≡ true → Refused ScopeCycle ≡ order_faults book
+  pub cycle_first : scope_cycle book ≡ true → Err ScopeCycle ≡ order_faults book
   unfolding order_faults
   cycle_first a = rw a
 
-  pub weight_next : scope_cycle book ≡ false → weight_exceeded book ≡ true → Refused WeightExceeded ≡ order_faults book
+  pub weight_next : scope_cycle book ≡ false → weight_exceeded book ≡ true → Err WeightExceeded ≡ order_faults book
   unfolding order_faults
   weight_next a b = rw (a, b)
 
-  pub steps_last : scope_cycle book ≡ false → weight_exceeded book ≡ false → dependency_cycle book ≡ true → Refused DependencyCycle ≡ order_faults book
+  pub steps_last : scope_cycle book ≡ false → weight_exceeded book ≡ false → dependency_cycle book ≡ true → Err DependencyCycle ≡ order_faults book
   unfolding order_faults
   steps_last a b c = rw (a, b, c)
 
-  pub none_left : {n : ℕ} → scope_cycle book ≡ false → weight_exceeded book ≡ false → dependency_cycle book ≡ false → n ≡ length book → Accepted n ≡ order_faults book
+  pub none_left : {n : ℕ} → scope_cycle book ≡ false → weight_exceeded book ≡ false → dependency_cycle book ≡ false → n ≡ length book → Ok n ≡ order_faults book
   unfolding order_faults
   none_left a b c e = rw (a, b, c, e)
 
-  pub dangling : dangles book ≡ true → Refused DanglingReference ≡ whole_book book
+  pub dangling : dangles book ≡ true → Err DanglingReference ≡ whole_book book
   unfolding whole_book
   dangling a = rw a
 
-  pub shared : dangles book ≡ false → shares book ≡ true → Refused SharedNode ≡ whole_book book
+  pub shared : dangles book ≡ false → shares book ≡ true → Err SharedNode ≡ whole_book book
   unfolding whole_book
   shared a b = rw (a, b)
 
-  pub mismatched : dangles book ≡ false → shares book ≡ false → mismatches book ≡ true → Refused TypeMismatch ≡ whole_book book
+  pub mismatched : dangles book ≡ false → shares book ≡ false → mismatches book ≡ true → Err TypeMismatch ≡ whole_book book
   unfolding whole_book
   mismatched a b c = rw (a, b, c)
 
-  pub mixed : dangles book ≡ false → shares book ≡ false → mismatches book ≡ false → mixes book ≡ true → Refused MixedClauses ≡ whole_book book
+  pub mixed : dangles book ≡ false → shares book ≡ false → mismatches book ≡ false → mixes book ≡ true → Err MixedClauses ≡ whole_book book
   unfolding whole_book
   mixed a b c d = rw (a, b, c, d)
 
@@ -96,14 +112,14 @@ module _ (book : List Scope) where
   orders_left a b c d = rw (a, b, c, d)
 
 module _ (bytes : List ℕ) where
-  pub long : 32768 < length bytes → Refused LimitExceeded ≡ judge bytes
+  pub long : 32768 < length bytes → Err LimitExceeded ≡ judge bytes
   unfolding judge too_long
   long h = rw (lt-ltb 32768 (length bytes) h)
 
-  pub faulty : {f : Fault} → length bytes ≤ 32768 → scan (records bytes) ≡ Faulty f → Refused f ≡ judge bytes
+  pub faulty : {f : Fault} → length bytes ≤ 32768 → scan (records bytes) ≡ Some f → Err f ≡ judge bytes
   unfolding judge too_long
   faulty h e = rw (le-ltb 32768 (length bytes) h, e)
 
-  pub sound : length bytes ≤ 32768 → scan (records bytes) ≡ Sound → whole_book (scopes_of bytes) ≡ judge bytes
+  pub sound : length bytes ≤ 32768 → scan (records bytes) ≡ None → whole_book (scopes_of bytes) ≡ judge bytes
   unfolding judge too_long
   sound h e = rw (le-ltb 32768 (length bytes) h, e)

@@ -1,70 +1,71 @@
 // Judging a book: the first fault in the order written, or the number of its scopes; and the tables of an accepted book.
 #![tactic(auto)]
 
-ghost use Rattle.std.specs.Prelude.{◌≡◌};
+ghost use Rattle.std.specs.Prelude.{◌≡◌, length};
 ghost use Rattle.book.specs.Decode.{scopes_of};
 ghost use Rattle.book.specs.Judge.{whole_book};
 ghost use Rattle.book.specs.Judge.{judge as Judge·judge};
 ghost use Rattle.scan.specs.Filling.{Unfilled};
-ghost use Rattle.judge.specs.Verdict.{Room, SoundRecords, Checked, Loads, order_faults};
+ghost use Rattle.steps.specs.Limits.{WellNamed};
+ghost use Rattle.judge.specs.Verdict.{Room, Loads, order_faults};
 
-use answers::{Fault, Judged};
+use answers::Fault;
 use checks::find_faults;
+use index::IndexedBook;
 use mixing::has_mixed;
-use scan::{Reading, has_few_scopes, read_records};
+use scan::{has_few_scopes, read_records};
 use steps::{block_order, fill_steps};
 use weights::fill_weights;
 
+// The bytes that a book may have.
+const BYTES: usize = 32768;
+
 // Faults 10 to 12, over calls and steps: fills the orders and the weights.
 fn judge_orders(
-    book: &[u8],
-    index: &[u16],
-    scopes: usize,
+    book: &IndexedBook,
     blocks: &mut [u8],
     weights: &mut [u16],
     orders: &mut [u8],
-) -> Judged
-    requires { Checked book.now index.now scopes × Room blocks.old weights.old orders.old }
-    ensures { Loads book.now index.now blocks.new weights.new orders.new (order_faults (scopes_of book.now)) result }
+) -> Result<usize, Fault>
+    requires counted { book.now.scopes ≡ length (scopes_of book.now.bytes.now) }
+    requires named { WellNamed book.now.bytes.now }
+    requires room { Room blocks.old weights.old orders.old }
+    ensures { Loads book.now.bytes.now book.now.index.now blocks.new weights.new orders.new (order_faults (scopes_of book.now.bytes.now)) result }
 {
-    if block_order(book, index, scopes, blocks) != scopes {
-        return Judged::Refused(Fault::ScopeCycle);
+    if block_order(book, blocks) != book.scopes {
+        return Err(Fault::ScopeCycle);
     }
-    if fill_weights(book, index, blocks, scopes, weights) {
-        return Judged::Refused(Fault::WeightExceeded);
+    if fill_weights(book, blocks, weights) {
+        return Err(Fault::WeightExceeded);
     }
-    if fill_steps(book, index, scopes, orders) {
-        return Judged::Refused(Fault::DependencyCycle);
+    if fill_steps(book, orders) {
+        return Err(Fault::DependencyCycle);
     }
-    Judged::Accepted(scopes)
+    Ok(book.scopes)
 }
 
 // Faults 6 to 12 of a book whose records are sound, each over the whole book: fills the orders and the weights.
 fn judge_whole(
-    book: &[u8],
-    index: &[u16],
-    scopes: usize,
+    book: &IndexedBook,
     blocks: &mut [u8],
     weights: &mut [u16],
     orders: &mut [u8],
-) -> Judged
-    requires { SoundRecords book.now index.now scopes × Room blocks.old weights.old orders.old }
-    ensures { Loads book.now index.now blocks.new weights.new orders.new (whole_book (scopes_of book.now)) result }
+) -> Result<usize, Fault>
+    requires counted { book.now.scopes ≡ length (scopes_of book.now.bytes.now) }
+    requires room { Room blocks.old weights.old orders.old }
+    ensures { Loads book.now.bytes.now book.now.index.now blocks.new weights.new orders.new (whole_book (scopes_of book.now.bytes.now)) result }
 {
-    let found = find_faults(book, index, scopes);
-    if found.dangles {
-        return Judged::Refused(Fault::DanglingReference);
-    }
+    let found = find_faults(book).ok_or(Fault::DanglingReference)?;
     if found.shares {
-        return Judged::Refused(Fault::SharedNode);
+        return Err(Fault::SharedNode);
     }
     if found.mismatches {
-        return Judged::Refused(Fault::TypeMismatch);
+        return Err(Fault::TypeMismatch);
     }
-    if has_mixed(book, index, scopes) {
-        return Judged::Refused(Fault::MixedClauses);
+    if has_mixed(book) {
+        return Err(Fault::MixedClauses);
     }
-    judge_orders(book, index, scopes, blocks, weights, orders)
+    judge_orders(book, blocks, weights, orders)
 }
 
 // Loads a book: judges it, and fills the tables of an accepted one. They are lent empty.
@@ -74,21 +75,24 @@ pub fn load(
     blocks: &mut [u8],
     weights: &mut [u16],
     orders: &mut [u8],
-) -> Judged
+) -> Result<usize, Fault>
     requires { Unfilled book.now index.old × Room blocks.old weights.old orders.old }
     ensures { Loads book.now index.new blocks.new weights.new orders.new (Judge·judge book.now) result }
 {
-    if 32768 < book.len() {
-        return Judged::Refused(Fault::LimitExceeded);
+    if BYTES < book.len() {
+        return Err(Fault::LimitExceeded);
     }
-    match read_records(book, index) {
-        Reading::Complete(n) => judge_whole(book, index, n, blocks, weights, orders),
-        Reading::Faulty(f) => Judged::Refused(f),
-    }
+    let scopes = read_records(book, index)?;
+    let indexed = IndexedBook {
+        bytes: book,
+        index,
+        scopes,
+    };
+    judge_whole(&indexed, blocks, weights, orders)
 }
 
 // Judges a book with an empty index.
-fn judge_in(book: &[u8], index: &mut [u16]) -> Judged
+fn judge_in(book: &[u8], index: &mut [u16]) -> Result<usize, Fault>
     requires { Unfilled book.now index.old }
     ensures { result ≡ Judge·judge book.now }
 {
@@ -99,7 +103,7 @@ fn judge_in(book: &[u8], index: &mut [u16]) -> Judged
 }
 
 // Judges a book: accepted with the number of its scopes, or refused with the first fault.
-pub fn judge(book: &[u8]) -> Judged
+pub fn judge(book: &[u8]) -> Result<usize, Fault>
     ensures { result ≡ Judge·judge book.now }
 {
     if has_few_scopes(book) {

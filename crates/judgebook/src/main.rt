@@ -1,7 +1,7 @@
 // Judges the book on standard input: prints `accepted N`, the number of its scopes, or `refused R`, the number of the first fault.
 #![tactic(auto)]
 
-use answers::Judged;
+use answers::Fault;
 use judge::judge;
 use numbers::fault_number;
 use std::env::{Env, FillError};
@@ -10,15 +10,16 @@ use std::io::{self, Read};
 // One byte more than a book may have is read: a longer one is refused whatever follows.
 const MOST: u64 = 32769;
 
+// `std::env::args` is no plainer: it copies each argument to the heap, and fails where one is not UTF-8.
 fn has_arguments(rt: &impl Env) -> bool {
     let mut first = [0u8; 1];
     !matches!(rt.arg(1, &mut first), Err(FillError::NotPresent))
 }
 
-fn print_judged(rt: &impl Print, j: Judged) -> io::Result<()> {
+fn print_judged(rt: &impl Print, j: Result<usize, Fault>) -> io::Result<()> {
     match j {
-        Judged::Accepted(n) => println!(rt; "accepted {n}"),
-        Judged::Refused(f) => println!(rt; "refused {}", fault_number(f)),
+        Ok(n) => println!(rt; "accepted {n}"),
+        Err(f) => println!(rt; "refused {}", fault_number(f)),
     }
 }
 

@@ -1,18 +1,18 @@
 -- The links of all scopes, written one after the other into rows of 834 bytes.
 --     row_part    the part of the links that is a scope's row
 --     blanks      32 rows in which no link is set
---     Filling     what holds when the rows of the scopes below i are linked; begin, blank, fill, filled
+--     Filling     what holds when the rows of the scopes below i are linked; fill
 -- Assumes nothing.
 use Prim.Native.Nat.{ℕ, ◌<◌, ◌≤◌, ◌+◌, ◌-◌, ◌*◌}
-use mathlib.Core.Path.{◌≡◌, refl, sym, ap, ◌∙◌}
+use mathlib.Core.Path.{◌≡◌, sym, ap, ◌∙◌}
 use mathlib.Core.List.{List, ◌++◌, append_assoc}
 use mathlib.Core.Logic.{⊎_elim}
 use native.Mathlib.Omega.{arith}
 use native.Mathlib.Nat.{eq-or-lt_of_le}
-use lib.ListN.{length, get_or, take, drop, replicate, length-append, length-replicate, get_or-replicate}
-use lib.Seq.{take_at, drop_at, length-take-le, get_or-take, get_or-drop, drop-drop}
-use Rattle.slices.proofs.Parts.{part_room, before_kept, lent_length}
-use Rattle.links.specs.Links.{Linked, Sound, Blank, Blanks, AllLinked, row}
+use lib.ListN.{length, take, drop, replicate, length-append, length-replicate, get_or-replicate}
+use lib.Seq.{take_at, drop_at, length-take-le, drop-drop}
+use Rattle.slices.proofs.Parts.{before_kept, lent_length}
+use Rattle.links.specs.Links.{Linked, Sound, Blanks, row}
 
 pub record Filling (bytes : List ℕ) (scopes : ℕ) (from links : List ℕ) (i : ℕ) : Type 0 where
   pub at : i ≤ scopes
@@ -35,33 +35,10 @@ blanks bytes index s scopes l =
     }
 
 module _ (bytes index : List ℕ) (scopes : ℕ) (from : List ℕ) (b : Blanks bytes index scopes from) where
-  pub begin : Filling bytes scopes from from 0
-  begin = record { at = omega arith; long = refl; left = refl; linked = λ j l. absurd (omega arith) }
-
   module _ (links : List ℕ) (i : ℕ) (g : Filling bytes scopes from links i) where
-    pub filled : scopes ≤ i → AllLinked bytes scopes links
-    filled l = record { rows = λ j h. g.linked j (omega arith) }
-
     module _ (l : i < scopes) where
       width : i * 834 + 834 - i * 834 ≡ 834
       width = omega arith
-
-      part_long : length (take (i * 834 + 834 - i * 834) (drop (i * 834) links)) ≡ 834
-      part_long = part_room links (i * 834) (i * 834 + 834 - i * 834) (omega (arith, g.long, b.size)) width
-
-      -- the part that is lent
-      pub blank : Blank bytes index (take (i * 834 + 834 - i * 834) (drop (i * 834) links))
-      blank =
-          record {
-            sound = b.sound;
-            size = part_long;
-            blank =
-                λ k h.
-                get_or-take (i * 834 + 834 - i * 834) (drop (i * 834) links) k 0 (omega (arith, width))
-                ∙ ap (λ (xs : List ℕ). get_or xs k 0) g.left
-                ∙ get_or-drop (i * 834) from k 0
-                ∙ b.blank (i * 834 + k) (omega arith);
-          }
 
       module _ (part : List ℕ) (w : Linked bytes i part) where
         abbrev next : List ℕ

@@ -19,9 +19,8 @@ use lib.Dec.{eqb, ltb}
 use mir.Syntax.{w32}
 use mir.Val.{SFits, to_z}
 use borrow.Author.Tests.{lt-ltb, le-ltb, ltb-true, ltb-false, eqb-true, eqb-false, not-false}
+use Rattle.std.specs.Prelude.{Option, None, Some}
 use Rattle.calculus.specs.Values.{number_of}
-use Rattle.calculus.specs.declared.Given.{Given}
-use Rattle.calculus.specs.declared.Given.TheVariants.{Absent, Present}
 use Rattle.slices.specs.Bytes.{big_endian, number_at}
 use Rattle.laws.proofs.Booleans.{decide, neither}
 use Rattle.laws.proofs.Zeros.{zeros}
@@ -35,20 +34,21 @@ use Rattle.book.specs.declared.Variable.{Variable}
 use Rattle.lists.specs.Inputs.{bad, input_length, input_type, input_value, is_given, cannot_give, bad_record, inputs_from, inputs}
 use Rattle.lists.specs.Reading.{malformed, typed, Taken}
 use Rattle.lists.proofs.Types.{typed_count, typed_at}
+use Rattle.calculus.specs.declared.Value.{Value}
 
 -- A variable that can be given, and a record that is not bad
 
-pub record Free (variables : List Variable) (given : List Given) (t : ValueType) (v : ℕ) : Type 0 where
+pub record Free (variables : List Variable) (given : List (Option Value)) (t : ValueType) (v : ℕ) : Type 0 where
   pub known : v < length variables
   pub typed : same_type t (get_or variables v (record { holds = YesNo })).holds ≡ true
-  pub fresh : is_given (get_or given v Absent) ≡ false
+  pub fresh : is_given (get_or given v None) ≡ false
 
-pub can_give : (variables : List Variable) (given : List Given) (t : ValueType) (v : ℕ) → cannot_give variables given t v ≡ false → Free variables given t v
+pub can_give : (variables : List Variable) (given : List (Option Value)) (t : ValueType) (v : ℕ) → cannot_give variables given t v ≡ false → Free variables given t v
 unfolding cannot_give
 can_give variables given t v e =
     let unknown = not (ltb v (length variables)) in
     let mismatch = not (same_type t (get_or variables v (record { holds = YesNo })).holds) in
-    let repeated = is_given (get_or given v Absent) in
+    let repeated = is_given (get_or given v None) in
     let a = neither unknown (mismatch || repeated) e in
     let b = neither mismatch repeated a.1 in
     record {
@@ -57,11 +57,11 @@ can_give variables given t v e =
       fresh = b.1;
     }
 
-pub record Fine (variables : List Variable) (given : List Given) (k : ℕ) (rest : List ℕ) : Type 0 where
+pub record Fine (variables : List Variable) (given : List (Option Value)) (k : ℕ) (rest : List ℕ) : Type 0 where
   pub whole : input_length k ≤ length rest
   pub free : Free variables given (input_type k) (get_or rest 0 0)
 
-pub fine : (variables : List Variable) (given : List Given) (k : ℕ) (rest : List ℕ) → bad_record variables given k rest ≡ false → Fine variables given k rest
+pub fine : (variables : List Variable) (given : List (Option Value)) (k : ℕ) (rest : List ℕ) → bad_record variables given k rest ≡ false → Fine variables given k rest
 unfolding bad_record
 fine variables given k rest e =
     let cannot = cannot_give variables given (input_type k) (get_or rest 0 0) in
@@ -85,10 +85,10 @@ value_fits k rest =
 
 -- Cells and what they hold
 
-abbrev pub Decoded : List ℕ → List Given → Type 0
-Decoded cells gs = (v : ℕ) → given_at cells v ≡ get_or gs v Absent
+abbrev pub Decoded : List ℕ → List (Option Value) → Type 0
+Decoded cells gs = (v : ℕ) → given_at cells v ≡ get_or gs v None
 
-pub held_at : (cells : List ℕ) (v : ℕ) → get_or (map given_of cells) v Absent ≡ given_at cells v
+pub held_at : (cells : List ℕ) (v : ℕ) → get_or (map given_of cells) v None ≡ given_at cells v
 unfolding given_at given_of
 held_at cells v = get_or-map given_of cells v 0
 
@@ -104,7 +104,7 @@ module _ (types cells : List ℕ) (t : ValueType) (v : ℕ) where
   within h = rw (typed_count types, lt-ltb v (length types) h, typed_at types v h, held_at cells v)
 
 -- the tests of a record, those that need no variable first
-pub tests : (variables : List Variable) (given : List Given) (k : ℕ) (rest : List ℕ)
+pub tests : (variables : List Variable) (given : List (Option Value)) (k : ℕ) (rest : List ℕ)
     → bad_record variables given k rest ≡ (malformed k rest || cannot_give variables given (input_type k) (get_or rest 0 0))
 unfolding bad_record malformed
 tests variables given k rest =
@@ -115,27 +115,27 @@ tests variables given k rest =
     regroup false true c d = refl
     regroup false false c d = refl
 
-same_record : (variables : List Variable) (cells : List ℕ) (gs : List Given) (k : ℕ) (rest : List ℕ) → Decoded cells gs
+same_record : (variables : List Variable) (cells : List ℕ) (gs : List (Option Value)) (k : ℕ) (rest : List ℕ) → Decoded cells gs
     → bad_record variables gs k rest ≡ bad_record variables (map given_of cells) k rest
 unfolding bad_record cannot_give
 same_record variables cells gs k rest d = rw (held_at cells (get_or rest 0 0), d (get_or rest 0 0))
 
-stored : (cells : List ℕ) (gs : List Given) (v c : ℕ) (g : Given) → v < length cells → v < length gs → given_of c ≡ g → Decoded cells gs
+stored : (cells : List ℕ) (gs : List (Option Value)) (v c : ℕ) (g : Option Value) → v < length cells → v < length gs → given_of c ≡ g → Decoded cells gs
     → Decoded (set cells v c) (set gs v g)
 unfolding given_at
 stored cells gs v c g h l e d w =
     ⊎_elim
     (λ q.
     let same : w ≡ v = eqb-true w v q in
-    rw (same, get_or-set_same cells v c 0 h, get_or-set_same gs v g Absent l) e)
+    rw (same, get_or-set_same cells v c 0 h, get_or-set_same gs v g None l) e)
     (λ q.
     let other : w ≡ v → ⊥ = eqb-false w v q in
-    rw (get_or-set_other cells v w c 0 other, get_or-set_other gs v w g Absent other) (d w))
+    rw (get_or-set_other cells v w c 0 other, get_or-set_other gs v w g None other) (d w))
     (decide (eqb w v))
 
 -- Reading on
 
-skip : (variables : List Variable) (n : ℕ) (l : List ℕ) (gs : List Given) → n ≤ length l → inputs_from variables l n gs ≡ inputs_from variables (drop n l) 0 gs
+skip : (variables : List Variable) (n : ℕ) (l : List ℕ) (gs : List (Option Value)) → n ≤ length l → inputs_from variables l n gs ≡ inputs_from variables (drop n l) 0 gs
 unfolding inputs_from
 skip variables zero l gs h = refl
 skip variables (suc n) [] gs h = absurd (omega arith)
@@ -143,7 +143,7 @@ skip variables (suc n) (x ∷ l) gs h = skip variables n l gs (omega arith)
 
 -- the list up to a position is read, and the cells hold what it gives
 pub record Read (variables : List Variable) (bytes cells : List ℕ) (at : ℕ) : Type 0 where
-  pub givens : List Given
+  pub givens : List (Option Value)
   pub rest : inputs_from variables (drop at bytes) 0 givens ≡ inputs variables bytes
   pub number : length givens ≡ length variables
   pub decoded : Decoded cells givens
@@ -155,10 +155,10 @@ pub start : (variables : List Variable) (bytes : List ℕ) {cells : List ℕ} �
 unfolding inputs given_at given_of
 start variables bytes e =
     record {
-      givens = map (λ v. Absent) variables;
+      givens = map (λ v. None) variables;
       rest = refl;
-      number = length-map variables (λ v. Absent);
-      decoded = λ v. rw (e, zeros 32 v) (sym (get_or-map (λ (x : Variable). Absent) variables v (record { holds = YesNo })));
+      number = length-map variables (λ v. None);
+      decoded = λ v. rw (e, zeros 32 v) (sym (get_or-map (λ (x : Variable). None) variables v (record { holds = YesNo })));
       kept = λ v. rw (e, zeros 32 v) kept_nothing;
       inside = omega arith;
       size = rw e refl;
@@ -180,7 +180,7 @@ module _ {variables : List Variable} {bytes cells : List ℕ} {at : ℕ} (r : Re
     step : inputs_from variables (drop at bytes) 0 r.givens
         ≡ cond (bad_record variables (map given_of cells) (get_or bytes at 0) (drop (at + 1) bytes)) bad
         (inputs_from variables (drop (at + 1) bytes) (input_length (get_or bytes at 0))
-        (set r.givens (get_or (drop (at + 1) bytes) 0 0) (Present (input_value (get_or bytes at 0) (drop (at + 1) bytes)))))
+        (set r.givens (get_or (drop (at + 1) bytes) 0 0) (Some (input_value (get_or bytes at 0) (drop (at + 1) bytes)))))
     unfolding inputs_from
     step = rw (drop-cons bytes at 0 within, add-one at, same_record variables cells r.givens (get_or bytes at 0) (drop (suc at) bytes) r.decoded)
 
@@ -206,7 +206,7 @@ module _ {variables : List Variable} {bytes cells : List ℕ} {at : ℕ} (r : Re
           let rest = drop (at + 1) bytes in
           let v = get_or rest 0 0 in
           let c = value_cell (input_value k rest) in
-          let g = Present (input_value k rest) in
+          let g = Some (input_value k rest) in
           let here : v < length r.givens = rw r.number f.free.known in
           record {
             givens = set r.givens v g;

@@ -1,5 +1,6 @@
 -- Variables by their type bytes.
 --     typed_count, typed_at    as many as bytes, each of its byte's type
+--     type_of_byte             the type of a type's byte
 --     start, turn, stop        filling in the bytes: at first, one variable more, behind the last
 --     whole, few               what is filled in is so many bytes, 32 at most
 -- Assumes nothing.
@@ -13,8 +14,9 @@ use lib.Dec.{eqb}
 use borrow.Author.Tests.{eqb-true, eqb-false}
 use mathlib.Core.Logic.{⊎_elim}
 use Rattle.laws.proofs.Booleans.{decide}
-use Rattle.book.specs.Syntax.{type_of}
-use Rattle.book.specs.declared.ValueType.TheVariants.{YesNo}
+use Rattle.book.specs.Syntax.{type_of, type_byte}
+use Rattle.book.specs.declared.ValueType.{ValueType}
+use Rattle.book.specs.declared.ValueType.TheVariants.{YesNo, Numeric}
 use Rattle.book.specs.declared.Variable.{Variable}
 use Rattle.lists.specs.Reading.{typed, Filled}
 
@@ -27,6 +29,10 @@ unfolding typed
 typed_at [] v h = absurd (omega arith)
 typed_at (x ∷ xs) zero h = refl
 typed_at (x ∷ xs) (suc v) h = typed_at xs v (omega arith)
+
+pub type_of_byte : (t : ValueType) → type_of (type_byte t) ≡ t
+type_of_byte YesNo = refl
+type_of_byte Numeric = refl
 
 -- The bytes filled in
 

@@ -1,12 +1,11 @@
 -- An input list read into cells, one for each of 32 variables.
-use Rattle.std.specs.Prelude.{ℕ, ◌≡◌, Bool, true, false, ◌&&◌, ◌||◌, List, map, length, get_or, take, eqb, ltb}
-use Rattle.calculus.specs.declared.Given.{Given}
-use Rattle.calculus.specs.declared.Given.TheVariants.{Absent}
+use Rattle.std.specs.Prelude.{ℕ, ◌≡◌, Bool, true, false, ◌&&◌, ◌||◌, List, map, length, get_or, take, eqb, ltb, Option, None}
 use Rattle.cells.specs.Codec.{AllKept}
 use Rattle.cells.specs.Cells.{given_at}
 use Rattle.book.specs.Syntax.{type_of}
 use Rattle.book.specs.declared.Variable.{Variable}
 use Rattle.lists.specs.Inputs.{bad, good, input_length, inputs}
+use Rattle.calculus.specs.declared.Value.{Value}
 
 -- an input record, by its kind and the bytes after it: of no known kind, truncated, or an invalid byte
 unfoldable pub malformed : ℕ → List ℕ → Bool
@@ -23,10 +22,10 @@ pub record Filled (variables : List Variable) (n : ℕ) (types : List ℕ) : Typ
 
 -- the list is good, and the cells hold what it gives
 pub record Taken (variables : List Variable) (bytes cells : List ℕ) : Type 0 where
-  pub givens : List Given
+  pub givens : List (Option Value)
   pub list : inputs variables bytes ≡ good givens
   pub number : length givens ≡ length variables
-  pub decoded : (v : ℕ) → given_at cells v ≡ get_or givens v Absent
+  pub decoded : (v : ℕ) → given_at cells v ≡ get_or givens v None
   pub kept : AllKept cells
 
 -- what reading a list answers, and leaves in the cells; what they hold after a bad list is not said

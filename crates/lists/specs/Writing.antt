@@ -1,9 +1,7 @@
 -- Results written from cells.
-use Rattle.std.specs.Prelude.{ℕ, zero, suc, ◌+◌, ◌<◌, ◌≡◌, Bool, true, false, List, [], ◌∷◌, ◌++◌, length, get_or, drop}
+use Rattle.std.specs.Prelude.{ℕ, zero, suc, ◌+◌, ◌<◌, ◌≡◌, Bool, true, false, List, [], ◌∷◌, ◌++◌, length, get_or, drop, Option, None, Some}
 use Rattle.calculus.specs.declared.Value.{Value}
 use Rattle.calculus.specs.declared.Value.TheVariants.{Truth, Number}
-use Rattle.calculus.specs.declared.Given.{Given}
-use Rattle.calculus.specs.declared.Given.TheVariants.{Absent, Present}
 use Rattle.cells.specs.Cells.{given_at, held}
 use Rattle.slices.specs.Bytes.{overwrite}
 use Rattle.book.specs.Syntax.{Scope, same_type}
@@ -31,9 +29,9 @@ value_type (Truth b) = YesNo
 value_type (Number z) = Numeric
 
 -- a value of a type is there
-abbrev pub is_of : ValueType → Given → Bool
-is_of t Absent = false
-is_of t (Present v) = same_type t (value_type v)
+abbrev pub is_of : ValueType → Option Value → Bool
+is_of t None = false
+is_of t (Some v) = same_type t (value_type v)
 
 -- each variable's cell holds a value of its type
 pub record Typed (variables : List Variable) (cells : List ℕ) : Type 0 where

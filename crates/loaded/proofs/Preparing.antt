@@ -1,17 +1,16 @@
 -- What a book is loaded from: an accepted book and its index.
 --     sound, few-scopes, blank-links, unlinked, blank-memo     what the functions called ask for
 --     world                              with its links and orders the book is loaded
---     refused_so, accepted-so            what preparing answers
+--     laid_so                            what an indexed book asks for
+--     refused_so, accepted_so            what preparing answers
 -- Assumes nothing.
 use Prim.Native.Nat.{ℕ, ◌*◌, ◌<◌, ◌≤◌}
 use mathlib.Core.Path.{◌≡◌, sym, ap, subst, ◌∙◌}
-use mathlib.Core.Bool.{Bool, true, false, false≢true}
 use mathlib.Core.List.{List}
 use native.Mathlib.Omega.{arith}
 use lib.ListN.{length, replicate, length-replicate, get_or-replicate, take, drop}
+use Rattle.std.specs.Prelude.{Result, Ok, Err}
 use Rattle.answers.specs.declared.Fault.{Fault}
-use Rattle.answers.specs.declared.Judged.{Judged}
-use Rattle.answers.specs.declared.Judged.TheVariants.{Accepted, Refused}
 use Rattle.judge.specs.Verdict.{Loads}
 use Rattle.book.specs.Decode.{scopes_of}
 use Rattle.book.specs.References.{scope_at}
@@ -26,7 +25,7 @@ use Rattle.scopes.specs.Known.{Known}
 use Rattle.scopes.proofs.Known.{nothing_known}
 use Rattle.loaded.specs.Loaded.{Prepared}
 
-module _ {bytes index : List ℕ} {n : ℕ} (accepted : judge bytes ≡ Accepted n) (laid : Laid bytes index) where
+module _ {bytes index : List ℕ} {n : ℕ} (accepted : judge bytes ≡ Ok n) (laid : Laid bytes index) where
   total : n ≡ length (scopes_of bytes)
   total = accepted_count bytes n accepted
 
@@ -63,25 +62,22 @@ module _ {bytes index : List ℕ} {n : ℕ} (accepted : judge bytes ≡ Accepted
       → World bytes index links orders
   world linked ordered =
       record {
-        accepted = accepted ∙ ap Accepted total;
+        accepted = accepted ∙ ap Ok total;
         sound = sound;
         linked = record { rows = λ j l. linked.rows j (omega (arith, total)) };
         step_orders = ordered;
       }
 
-module _ {bytes index blocks weights orders : List ℕ} {r : Judged} (loads : Loads bytes index blocks weights orders (judge bytes) r) where
-  pub refused_so : {links : List ℕ} {f : Fault} → r ≡ Refused f → Prepared bytes index links orders (Refused f)
-  refused_so {links} {f} e = record { answer = sym e ∙ loads.answer; world = λ n d. absurd (not_accepted n d) }
-    where
-      is_refused : Judged → Bool
-      is_refused (Accepted n) = false
-      is_refused (Refused g) = true
+module _ {bytes index blocks weights orders : List ℕ} {r : Result ℕ Fault} (loads : Loads bytes index blocks weights orders (judge bytes) r) where
+  pub refused_so : {links : List ℕ} {f : Fault} → r ≡ Err f → Prepared bytes index links orders (Err f)
+  refused_so {links} {f} e = record { answer = sym e ∙ loads.answer; world = λ n d. cc }
 
-      not_accepted : (n : ℕ) → Refused f ≡ Accepted n → ⊥
-      not_accepted n d = false≢true (sym (ap is_refused d))
+  module _ {n : ℕ} (e : r ≡ Ok n) where
+    -- the index is the book's
+    pub laid_so : Laid bytes index
+    laid_so = (loads.tables n e).laid
 
-  module _ {n : ℕ} (e : r ≡ Accepted n) where
-    is_accepted_lem : judge bytes ≡ Accepted n
+    is_accepted_lem : judge bytes ≡ Ok n
     is_accepted_lem = sym loads.answer ∙ e
 
     -- no link of so many scopes is set
@@ -90,6 +86,6 @@ module _ {bytes index blocks weights orders : List ℕ} {r : Judged} (loads : Lo
         subst (Blanks bytes index m) (sym same)
         (blank_links is_accepted_lem (loads.tables n e).laid m 26688 (omega (arith, few, few_scopes is_accepted_lem (loads.tables n e).laid)))
 
-    pub accepted_so : {links : List ℕ} → AllLinked bytes n links → Prepared bytes index links orders (Accepted n)
+    pub accepted_so : {links : List ℕ} → AllLinked bytes n links → Prepared bytes index links orders (Ok n)
     accepted_so linked =
         record { answer = sym e ∙ loads.answer; world = λ m d. world is_accepted_lem (loads.tables n e).laid linked (loads.tables n e).step_orders }

@@ -8,11 +8,9 @@ use mathlib.Core.Bool.{true, false≢true}
 use mathlib.Core.List.{List, [], ◌∷◌}
 use native.Mathlib.Omega.{arith}
 use lib.ListN.{length, get_or}
+use Rattle.std.specs.Prelude.{Result, Ok, Err, Option, None, Some}
 use Rattle.answers.specs.Response.{memory_after}
-use Rattle.answers.specs.declared.Cause.{Cause}
 use Rattle.answers.specs.declared.Answer.TheVariants.{Values, Ended}
-use Rattle.calculus.specs.declared.Given.{Given}
-use Rattle.calculus.specs.declared.Given.TheVariants.{Absent, Present}
 use Rattle.cells.specs.Codec.{AllKept}
 use Rattle.cells.specs.Cells.{given_at, held}
 use Rattle.book.specs.Syntax.{same_type}
@@ -33,14 +31,14 @@ use Rattle.answers.proofs.Response.{same_response, nothing_written}
 use Rattle.evaluation.proofs.Types.{values_typed, values_length}
 use Rattle.scopes.specs.Steps.{entered_at, ran_view, Came}
 use Rattle.scopes.specs.Known.{Entry}
-use Rattle.scopes.specs.declared.Ran.{Ran}
-use Rattle.scopes.specs.declared.Ran.TheVariants as ran
+use Rattle.scopes.specs.declared.Ended as scopes
 use Rattle.loaded.specs.Loaded.{RunsLoaded, Replied}
+use Rattle.calculus.specs.declared.Value.{Value}
 
 -- values of the variables' types
-is_of_lem : (t : ValueType) (g : Given) → is_given g ≡ true → value_type (held g) ≡ t → is_of t g ≡ true
-is_of_lem t Absent p e = absurd (false≢true p)
-is_of_lem t (Present v) p e = ap (same_type t) e ∙ same_self t
+is_of_lem : (t : ValueType) (g : Option Value) → is_given g ≡ true → value_type (held g) ≡ t → is_of t g ≡ true
+is_of_lem t None p e = absurd (false≢true p)
+is_of_lem t (Some v) p e = ap (same_type t) e ∙ same_self t
 
 fits_at : (xs : List Variable) (cells : List ℕ) (k : ℕ) → ValuesFit xs (values_from cells k (length xs)) → (v : ℕ) → v < length xs
     → value_type (held (given_at cells (k + v))) ≡ (get_or xs v (record { holds = YesNo })).holds
@@ -64,15 +62,15 @@ module _ {bytes index links orders : List ℕ} {i : ℕ} {given memo memory : Li
         known = a.known;
       }
 
-  module _ {r : Ran} {own : List ℕ} (came : Came bytes i given r own) where
-    pub ends_so : {c : Cause} {m : ℕ} → r ≡ ran.Ended c m → Replied bytes i given memory (Ended c m) memory
-    ends_so {c} {m} e =
-        let same : entered_at bytes i given ≡ ended c m = sym came.same ∙ ap (λ (z : Ran). ran_view z own (length (scope_at (scopes_of bytes) i).variables)) e in
+  module _ {r : Result ℕ scopes.Ended} {own : List ℕ} (came : Came bytes i given r own) where
+    pub ends_so : {d : scopes.Ended} → r ≡ Err d → Replied bytes i given memory (Ok (Ended d.cause d.count)) memory
+    ends_so {d} e =
+        let same : entered_at bytes i given ≡ ended d.cause d.count = sym came.same ∙ ap (λ (z : Result ℕ scopes.Ended). ran_view z own (length (scope_at (scopes_of bytes) i).variables)) e in
         nothing_written (ap reply_of same)
 
-    module _ {m : ℕ} (e : r ≡ ran.Values m) where
+    module _ {m : ℕ} (e : r ≡ Ok m) where
       same : entered_at bytes i given ≡ values (values_of own (length (scope_at (scopes_of bytes) i).variables)) m
-      same = sym came.same ∙ ap (λ (z : Ran). ran_view z own (length (scope_at (scopes_of bytes) i).variables)) e
+      same = sym came.same ∙ ap (λ (z : Result ℕ scopes.Ended). ran_view z own (length (scope_at (scopes_of bytes) i).variables)) e
 
       fit : ValuesFit (scope_at (scopes_of bytes) i).variables (values_of own (length (scope_at (scopes_of bytes) i).variables))
       unfolding entered_at
@@ -93,7 +91,7 @@ module _ {bytes index links orders : List ℕ} {i : ℕ} {given memo memory : Li
           }
 
       pub values_so : {size : ℕ} {after : List ℕ} → size ≡ result_length_at (scopes_of bytes) i → after ≡ result_memory (scopes_of bytes) i own memory
-          → Replied bytes i given memory (Values m size) after
+          → Replied bytes i given memory (Ok (Values m size)) after
       unfolding result_length_at result_memory memory_after
       values_so {size} {after} s q =
-          same_response (ap reply_of same) (record { answer = ap (Values m) (s ∙ size_known); memory = q })
+          same_response (ap reply_of same) (record { answer = ap (λ (n : ℕ). Ok (Values m n)) (s ∙ size_known); memory = q })

@@ -3,6 +3,7 @@ use Prim.Native.Nat.{ℕ}
 use mathlib.Core.Path.{◌≡◌, refl}
 use mathlib.Core.List.{List, [], ◌∷◌}
 use lib.ListN.{length}
+use Rattle.std.specs.Prelude.{Ok}
 use Rattle.slices.specs.Bytes.{big_endian, bytes_of, number_at, number_bytes}
 use Rattle.record.specs.Kinds.{shape_in, shapes_of, kinds}
 use Rattle.answers.specs.declared.Cause.{Cause}
@@ -28,10 +29,10 @@ abbrev asking : List ℕ → ℕ → List ℕ → Reply
 asking code i inputs = run code i inputs 192
 
 abbrev gives : ℕ → List ℕ → Reply
-gives n bytes = record { answer = Values n (length bytes); written = bytes }
+gives n bytes = record { answer = Ok (Values n (length bytes)); written = bytes }
 
 abbrev ends : Cause → ℕ → Reply
-ends c n = record { answer = Ended c n; written = [] }
+ends c n = record { answer = Ok (Ended c n); written = [] }
 
 -- what a run answers, and what it is to answer
 pub data Row : Type 0 where

@@ -1,17 +1,13 @@
 -- The machine within one block: its stack, its open tries, what it holds of variables, and the effect of an instruction.
-use Rattle.std.specs.Prelude.{ℕ, zero, suc, ◌+◌, ◌-◌, cond, List, [], ◌∷◌, length, get_or, set, drop, leb, ltb}
+use Rattle.std.specs.Prelude.{ℕ, zero, suc, ◌+◌, ◌-◌, cond, List, [], ◌∷◌, length, get_or, set, drop, leb, ltb, Result, Ok, Err, Option, None, Some}
 use Rattle.calculus.specs.Values.{truth_of}
 use Rattle.calculus.specs.Operators.{unary_of, binary_of}
 use Rattle.calculus.specs.Joining as joining
 use Rattle.calculus.specs.declared.Value.{Value}
 use Rattle.answers.specs.declared.Cause.{Cause}
 use Rattle.answers.specs.declared.Cause.TheVariants.{Empty, Conflict, OutOfRange}
-use Rattle.calculus.specs.declared.Outcome.{Outcome}
-use Rattle.calculus.specs.declared.Outcome.TheVariants.{Gives, Ends}
 use Rattle.calculus.specs.declared.Joined.{Joined}
 use Rattle.calculus.specs.declared.Joined.TheVariants.{Nothing, One, Many}
-use Rattle.calculus.specs.declared.Given.{Given}
-use Rattle.calculus.specs.declared.Given.TheVariants.{Absent, Present}
 use Rattle.book.specs.Syntax.{same_type}
 use Rattle.book.specs.Typing.{unary_type, operand_type}
 use Rattle.book.specs.declared.ValueType.{ValueType}
@@ -27,7 +23,7 @@ pub data Cell : Type 0 where
 
 -- a sub-scope: not entered yet, with what is handed over so far; or entered, with the values of its variables
 pub data Callee : Type 0 where
-  waiting : List Given → Callee
+  waiting : List (Option Value) → Callee
   entered : List Value → Callee
 
 -- the own variables, the sub-scopes, and the count of scopes entered
@@ -83,9 +79,9 @@ abbrev pub wanting : ValueType → Value → Next → Next
 wanting t v x = cond (same_type t (value_type v)) x (stop stuck)
 
 -- what an operator gives is pushed, or ends the run
-abbrev pub answered : Outcome → List Joined → List Try → Memory → Next
-answered (Gives v) st ts m = go 0 (One v ∷ st) ts m
-answered (Ends c) st ts m = ends c m
+abbrev pub answered : Result Value Cause → List Joined → List Try → Memory → Next
+answered (Ok v) st ts m = go 0 (One v ∷ st) ts m
+answered (Err c) st ts m = ends c m
 
 -- "Empty goes to the latest open try of the same block that lands further on than the raise, closing it and those opened after it and
 -- cutting the stack to its height; without one it ends the run": `left` bytes of the block remain after the raise
@@ -149,12 +145,12 @@ stored_to (given w) x v st ts m = stop stuck
 stored_to (stored w) x v st ts m = stop stuck
 
 -- "a second store .. or an override after the entry"
-abbrev pub handed_to : Given → List Given → ℕ → ℕ → Value → List Joined → List Try → Memory → Next
-handed_to Absent gs k x v st ts m = go 0 st ts (with_callee m k (waiting (set gs x (Present v))) 0)
-handed_to (Present w) gs k x v st ts m = stop stuck
+abbrev pub handed_to : Option Value → List (Option Value) → ℕ → ℕ → Value → List Joined → List Try → Memory → Next
+handed_to None gs k x v st ts m = go 0 st ts (with_callee m k (waiting (set gs x (Some v))) 0)
+handed_to (Some w) gs k x v st ts m = stop stuck
 
 abbrev pub overridden : Callee → ℕ → ℕ → Value → List Joined → List Try → Memory → Next
-overridden (waiting gs) k x v st ts m = handed_to (get_or gs x Absent) gs k x v st ts m
+overridden (waiting gs) k x v st ts m = handed_to (get_or gs x None) gs k x v st ts m
 overridden (entered vs) k x v st ts m = stop stuck
 
 -- "Conflict and out of range end the run. So does an entered scope that ends without values"
@@ -164,7 +160,7 @@ returned (ran (ended c n)) k st ts m = stop (ran (ended c (m.count + n)))
 returned stuck k st ts m = stop stuck
 
 -- "a second .. entry"; `run` is what entering with what is handed over comes to
-abbrev pub entered_with : (List Given → Ran) → Callee → ℕ → List Joined → List Try → Memory → Next
+abbrev pub entered_with : (List (Option Value) → Ran) → Callee → ℕ → List Joined → List Try → Memory → Next
 entered_with run (waiting gs) k st ts m = returned (run gs) k st ts m
 entered_with run (entered vs) k st ts m = stop stuck
 
@@ -178,7 +174,7 @@ jumped_if_given (stored v) d st ts m = go 0 st ts m
 pub record Surroundings : Type 0 where
   pub own_type : ℕ → ValueType
   pub called_type : ℕ → ℕ → ValueType
-  pub enters : ℕ → List Given → Ran
+  pub enters : ℕ → List (Option Value) → Ran
 
 -- the effect of an instruction, with so many bytes of the block left after it
 unfoldable pub effect : Surroundings → Instruction → ℕ → List Joined → List Try → Memory → Next

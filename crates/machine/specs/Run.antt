@@ -1,9 +1,7 @@
 -- Running a block by recursion on its remaining bytes, and entering blocks.
-use Rattle.std.specs.Prelude.{ℕ, zero, suc, ◌+◌, Bool, true, false, cond, List, [], ◌∷◌, map, length, get_or, drop, eqb}
+use Rattle.std.specs.Prelude.{ℕ, zero, suc, ◌+◌, Bool, true, false, cond, List, [], ◌∷◌, map, length, get_or, drop, eqb, Option, None, Some}
 use Rattle.calculus.specs.declared.Value.{Value}
 use Rattle.calculus.specs.declared.Joined.{Joined}
-use Rattle.calculus.specs.declared.Given.{Given}
-use Rattle.calculus.specs.declared.Given.TheVariants.{Absent, Present}
 use Rattle.book.specs.declared.ValueType.{ValueType}
 use Rattle.book.specs.declared.ValueType.TheVariants.{YesNo}
 use Rattle.book.specs.declared.Variable.{Variable}
@@ -56,20 +54,20 @@ exec env (k ∷ rest) zero st ts m =
 abbrev pub type_in : List Variable → ℕ → ValueType
 type_in xs x = (get_or xs x (record { holds = YesNo })).holds
 
-abbrev pub cell_of : Given → Cell
-cell_of Absent = unset
-cell_of (Present v) = given v
+abbrev pub cell_of : Option Value → Cell
+cell_of None = unset
+cell_of (Some v) = given v
 
 -- nothing is handed over yet to the block of scope i
 abbrev pub begins : List Block → ℕ → Callee
-begins earlier i = waiting (map (λ x. Absent) (variables_of earlier i))
+begins earlier i = waiting (map (λ x. None) (variables_of earlier i))
 
 -- "one for the scope asked for and one for each entry the run made"
-abbrev pub begin : List Block → Block → List Given → Memory
+abbrev pub begin : List Block → Block → List (Option Value) → Memory
 begin earlier b gs = record { own = map cell_of gs; callees = map (begins earlier) b.sub_scopes; count = 1 }
 
 -- a block's variables and sub-scopes have the types of its kinds 2 and of the earlier blocks'
-abbrev pub surroundings : List Block → Block → (ℕ → List Given → Ran) → Surroundings
+abbrev pub surroundings : List Block → Block → (ℕ → List (Option Value) → Ran) → Surroundings
 surroundings earlier b enters =
     record {
       own_type = type_in b.variables;
@@ -78,7 +76,7 @@ surroundings earlier b enters =
     }
 
 -- entering the block of scope i with what is given; "An entered block starts with an empty stack and no open try"
-unfoldable pub run_in : List Block → ℕ → List Given → Ran
+unfoldable pub run_in : List Block → ℕ → List (Option Value) → Ran
 run_in [] i gs = stuck
 run_in (b ∷ earlier) i gs =
     let here = exec (surroundings earlier b (λ j handed. run_in earlier j handed)) b.body 0 [] [] (begin earlier b gs) in

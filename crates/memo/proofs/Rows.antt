@@ -1,76 +1,48 @@
 -- Cells that are copied, and rows that are read and written.
---     copied_none, copied_more, copied_all    a loop that copies cells
---     absent_none, absent_more, ungiven-*     a loop that looks for what is given
---     not_asked, not_known, recalled          a row that is read
---     not_noted, noted                        a row that is written
+--     ungiven                                 a search for what is given
+--     not_known, recalled                     a row that is read
+--     noted                                   a row that is written
 --     nothing_kept, kept_found, kept_noted    tables whose rows are as they must be
 -- Assumes nothing.
 use Prim.Native.Nat.{ℕ, suc, ◌+◌, ◌*◌, ◌<◌, ◌≤◌}
-use mathlib.Core.Path.{◌≡◌, refl, sym, ap, subst, ◌∙◌}
-use mathlib.Core.Bool.{Bool, true, false, cond, false≢true}
+use mathlib.Core.Path.{◌≡◌, refl, sym, ap, ◌∙◌}
+use mathlib.Core.Bool.{Bool, true, false, false≢true}
 use mathlib.Core.List.{List}
 use mathlib.Core.Logic.{◌⊎◌, inl, inr, ⊎_elim}
 use native.Mathlib.Omega.{arith}
 use lib.ListN.{length, get_or, set, drop, replicate, length-set, length-take, length-drop, length-replicate, get_or-replicate}
 use lib.Seq.{ext_get_or, get_or-set_same, get_or-set_other, get_or-take, get_or-drop}
-use lib.Dec.{eqb, ltb}
-use borrow.Author.Tests.{eqb-true, eqb-false, ltb-true, ltb-false}
-use Rattle.calculus.specs.declared.Given.{Given}
-use Rattle.calculus.specs.declared.Given.TheVariants.{Absent, Present}
-use Rattle.calculus.specs.declared.Value.{Value}
+use Rattle.std.specs.Prelude.{None}
+use Rattle.std.specs.Bool.{MatchBool}
+use Rattle.std.specs.List.{AllWithin, HoldsAt, range_with_len}
+use Rattle.std.proofs.Common.{zero-add}
+use Rattle.std.proofs.lemmas.Bool.{cases_Bool, cases_eq, cases_lt}
+use Rattle.std.proofs.lemmas.List.FromFn.{length-range_with_len, get_or-range_with_len}
 use Rattle.cells.specs.Cells.{given_at}
-use Rattle.memo.specs.Rows.{Copying, Copied, NoneGiven, Ungiven, row_count, row_cells, HasRow, RowRoom, Recalled, Remembered, Memo}
-
-decide : (a : Bool) → (a ≡ true) ⊎ (a ≡ false)
-decide true = inl refl
-decide false = inr refl
-
--- Copying
-
-pub copied_none : {from : List ℕ} {start : ℕ} {to : List ℕ} {at : ℕ} → Copied from start 0 to at to
-copied_none = record { size = refl; inside = λ x l. absurd (omega arith); below = λ x l. refl; above = λ x l. refl }
-
-pub copied_more : {from : List ℕ} {start v : ℕ} {before : List ℕ} {at : ℕ} {to : List ℕ} → Copying from start before at
-    → Copied from start v before at to → v < 32 → Copied from start (v + 1) before at (set to (at + v) (get_or from (start + v) 0))
-copied_more {from} {start} {v} {before} {at} {to} room c l =
-    let there : at + v < length to = omega (arith, c.size, room.room) in
-    record {
-      size = length-set to (at + v) (get_or from (start + v) 0) ∙ c.size;
-      inside = λ x h.
-          ⊎_elim
-          (λ (q : eqb x v ≡ true). let e : x ≡ v = eqb-true x v q in rw e (get_or-set_same to (at + v) (get_or from (start + v) 0) 0 there))
-          (λ (q : eqb x v ≡ false).
-          let ne : x ≡ v → ⊥ = eqb-false x v q in
-          let less : x < v = omega arith in
-          get_or-set_other to (at + v) (at + x) (get_or from (start + v) 0) 0 (λ z. omega (arith, less)) ∙ c.inside x less)
-          (decide (eqb x v));
-      below = λ x h. get_or-set_other to (at + v) x (get_or from (start + v) 0) 0 (λ z. omega arith) ∙ c.below x h;
-      above = λ x h. get_or-set_other to (at + v) x (get_or from (start + v) 0) 0 (λ z. omega arith) ∙ c.above x (omega arith);
-    }
-
-pub copied_all : {from : List ℕ} {start v : ℕ} {before : List ℕ} {at : ℕ} {to : List ℕ} → v ≤ 32 → 32 ≤ v → Copied from start v before at to
-    → Copied from start 32 before at to
-copied_all {from} {start} {v} {before} {at} {to} a b c =
-    let e : v ≡ 32 = omega arith in
-    subst (λ (n : ℕ). Copied from start n before at to) e c
+use Rattle.memo.specs.Rows.{Copied, Ungiven, row_count, row_cells, HasRow, RowRoom, Unfound, Found, Remembered, Memo}
 
 -- What is given
 
-pub absent_none : (given : List ℕ) → NoneGiven given 0
-absent_none given u l = absurd (omega arith)
+number_at : (n u : ℕ) → u < n → get_or (range_with_len 0 n) u 0 ≡ u
+number_at n u l = get_or-range_with_len 0 n u 0 l ∙ zero-add u
 
-pub absent_more : (given : List ℕ) (v : ℕ) → NoneGiven given v → (g : Given) → g ≡ given_at given v → g ≡ Absent → NoneGiven given (v + 1)
-absent_more given v h g e a u l =
-    ⊎_elim
-    (λ (q : ltb u v ≡ true). h u (ltb-true u v q))
-    (λ (q : ltb u v ≡ false). let z : u ≡ v = omega (arith, ltb-false u v q) in rw z (sym e ∙ a))
-    (decide (ltb u v))
-
-pub ungiven_false : {given : List ℕ} {n v : ℕ} {g : Given} {x : Value} → v < n → g ≡ given_at given v → g ≡ Present x → Ungiven given n false
-ungiven_false {v = v} l e p = record { none = λ f. absurd (false≢true f); if_none = λ h. let k = sym (h v l) ∙ sym e ∙ p in cc }
-
-pub ungiven_true : {given : List ℕ} {n v : ℕ} → NoneGiven given v → n ≤ v → Ungiven given n true
-ungiven_true h l = record { none = λ e u m. h u (omega arith); if_none = λ z. refl }
+-- a search through the first n variables for one that is given
+pub ungiven : (given : List ℕ) (n : ℕ) (r : Bool)
+    → MatchBool r
+    (AllWithin (λ (u : ℕ). given_at given u ≡ None) (range_with_len 0 n) 0 (length (range_with_len 0 n)))
+    ((u : ℕ) × (u < length (range_with_len 0 n)) × HoldsAt (λ (u : ℕ). given_at given u ≡ None → ⊥) (range_with_len 0 n) u)
+    → Ungiven given n r
+ungiven given n true h =
+    record {
+      none = λ e u l. rw (number_at n u l) at (h u 0 (omega arith) (rw length-range_with_len l));
+      if_none = λ z. refl;
+    }
+ungiven given n false h =
+    let l : h.0 < n = rw length-range_with_len at h.1 in
+    record {
+      none = λ e. absurd (false≢true e);
+      if_none = λ none. absurd (h.2 0 (rw (number_at n h.0 l) (none h.0 l)));
+    }
 
 -- Rows
 
@@ -93,23 +65,17 @@ row_is memo i own l r k =
     ext_get_or 0 (row_cells memo i) own (n ∙ sym r) (λ x h. let w : x < 32 = omega arith in cells_at memo i x w ∙ k x w)
 
 module _ {i : ℕ} {own memo : List ℕ} (n : RowRoom i own memo) where
-  pub not_asked : {asked : Bool} → asked ≡ false → Recalled memo i asked own 0 own
-  not_asked a = record { answer = rw a refl; kept = λ z. refl; found = λ ne. absurd (ne refl) }
-
-  pub not_known : {asked : Bool} → asked ≡ true → get_or memo (i * 33) 0 ≡ 0 → Recalled memo i asked own 0 own
+  pub not_known : {asked : Bool} → get_or memo (i * 33) 0 ≡ 0 → Unfound memo i asked own own
   unfolding row_count
-  not_known a e = record { answer = rw a (sym e); kept = λ z. refl; found = λ ne. absurd (ne refl) }
+  not_known e = record { kept = refl; unknown = λ z. e }
 
   pub recalled : {own' : List ℕ} {asked : Bool} {r : ℕ} → asked ≡ true → r ≡ get_or memo (i * 33) 0 → (r ≡ 0 → ⊥) → Copied memo (i * 33 + 1) 32 own 0 own'
-      → Recalled memo i asked own r own'
+      → Found memo i asked r own'
   unfolding row_count
   recalled {own'} a e ne c =
       let same = row_is memo i own' n.row (c.size ∙ n.room)
       (λ x l. let z : 0 + x ≡ x = omega arith in sym (c.inside x l) ∙ ap (λ (y : ℕ). get_or own' y 0) z) in
-      record { answer = rw a e; kept = λ z. absurd (ne z); found = λ f. (a, sym same) }
-
-  pub not_noted : {count : ℕ} {asked : Bool} → asked ≡ false → Remembered own count i asked memo memo
-  not_noted e = record { kept = λ z. refl; noted = λ z. absurd (false≢true (sym e ∙ z)) }
+      record { wanted = a; count = e; known = ne; cells = sym same }
 
   module _ {memo' : List ℕ} (count : ℕ) (c : Copied own 0 32 memo (i * 33 + 1) memo') where
     abbrev after : List ℕ
@@ -129,8 +95,7 @@ module _ {i : ℕ} {own memo : List ℕ} (n : RowRoom i own memo) where
         get_or-set_other memo' (i * 33) (i * 33 + 1 + x) count 0 (λ e. omega arith) ∙ c.inside x w ∙ ap (λ (y : ℕ). get_or own y 0) z)
 
     apart : (j y : ℕ) → (j ≡ i → ⊥) → y < 33 → (j * 33 + y < i * 33) ⊎ (i * 33 + 33 ≤ j * 33 + y)
-    apart j y ne w =
-        ⊎_elim (λ q. inl (omega (arith, ltb-true j i q))) (λ q. inr (omega (arith, ltb-false j i q, ne))) (decide (ltb j i))
+    apart j y ne w = ⊎_elim (λ l. inl (omega arith)) (λ l. inr (omega (arith, ne))) (cases_lt j i)
 
     untouched : (j y : ℕ) → (j ≡ i → ⊥) → y < 33 → get_or after (j * 33 + y) 0 ≡ get_or memo (j * 33 + y) 0
     untouched j y ne w =
@@ -173,15 +138,12 @@ module _ (Right : ℕ → ℕ → List ℕ → Type 0) where
       record { rows = λ i l ne. absurd (ne (get_or-replicate {A = ℕ} n (i * 33) 0 0 (omega (arith, long)))) }
 
   module _ {i : ℕ} {memo : List ℕ} {asked : Bool} (k : Memo Right memo) (l : HasRow i memo) where
-    pub kept_found : {own own' : List ℕ} {r : ℕ} → Recalled memo i asked own r own' → (r ≡ 0 → ⊥) → Right i r own'
-    kept_found {own} {own'} {r} f ne =
-        let here = f.found ne in
-        let count : r ≡ row_count memo i = f.answer ∙ ap (λ (a : Bool). cond a (row_count memo i) 0) here.0 in
-        rw (count, here.1) (k.rows i l (λ z. ne (count ∙ z)))
+    pub kept_found : {own' : List ℕ} {n : ℕ} → Found memo i asked n own' → Right i n own'
+    kept_found f = rw (f.count, f.cells) (k.rows i l (λ z. f.known (f.count ∙ z)))
 
     pub kept_noted : {own memo' : List ℕ} {count : ℕ} → Remembered own count i asked memo memo' → length memo' ≡ length memo
         → (asked ≡ true → Right i count own) → Memo Right memo'
-    kept_noted {own} {memo'} {count} m s right = ⊎_elim added (λ (e : asked ≡ false). rw (m.kept e) k) (decide asked)
+    kept_noted {own} {memo'} {count} m s right = ⊎_elim added (λ (e : asked ≡ false). rw (m.kept e) k) (cases_Bool asked)
       where
         added : asked ≡ true → Memo Right memo'
         added e =
@@ -189,10 +151,10 @@ module _ (Right : ℕ → ℕ → List ℕ → Type 0) where
             record {
               rows = λ j h ne.
                   ⊎_elim
-                  (λ (q : eqb j i ≡ true). rw (eqb-true j i q, w.counts, w.cells) (right e))
-                  (λ (q : eqb j i ≡ false).
+                  (λ (q : j ≡ i). rw (q, w.counts, w.cells) (right e))
+                  (λ (q : j ≡ i → ⊥).
                   let old : HasRow j memo = omega (arith, s) in
-                  let o = w.others j old (eqb-false j i q) in
+                  let o = w.others j old q in
                   rw (o.0, o.1) (k.rows j old (λ z. ne (o.0 ∙ z))))
-                  (decide (eqb j i));
+                  (cases_eq j i);
             }

@@ -1,6 +1,5 @@
 -- A table of rows of 33 cells, one row for each scope: a count, 0 where nothing is known of the scope, then the cells of its variables.
-use Rattle.std.specs.Prelude.{ℕ, ◌+◌, ◌*◌, ◌<◌, ◌≤◌, ◌≡◌, Bool, true, false, cond, List, length, get_or, take, drop}
-use Rattle.calculus.specs.declared.Given.TheVariants.{Absent}
+use Rattle.std.specs.Prelude.{ℕ, ◌+◌, ◌*◌, ◌<◌, ◌≤◌, ◌≡◌, Bool, true, false, List, length, get_or, take, drop, Option, None, Some}
 use Rattle.cells.specs.Cells.{given_at}
 
 -- 32 cells can be copied
@@ -17,7 +16,7 @@ pub record Copied (from : List ℕ) (start n : ℕ) (before : List ℕ) (at : �
 
 -- none of the first n variables is given
 abbrev pub NoneGiven : List ℕ → ℕ → Type 0
-NoneGiven given n = (u : ℕ) → u < n → given_at given u ≡ Absent
+NoneGiven given n = (u : ℕ) → u < n → given_at given u ≡ None
 
 -- the answer is true if and only if none of the first n variables is given
 pub record Ungiven (given : List ℕ) (n : ℕ) (r : Bool) : Type 0 where
@@ -39,11 +38,22 @@ pub record RowRoom (i : ℕ) (own memo : List ℕ) : Type 0 where
   pub row : HasRow i memo
   pub room : length own ≡ 32
 
--- the answer is row i's count where it is asked for, else 0; where it is not 0, the row stands in the cells, else they are as they were
-pub record Recalled (memo : List ℕ) (i : ℕ) (asked : Bool) (own : List ℕ) (r : ℕ) (own' : List ℕ) : Type 0 where
-  pub answer : r ≡ cond asked (row_count memo i) 0
-  pub kept : r ≡ 0 → own' ≡ own
-  pub found : (r ≡ 0 → ⊥) → (asked ≡ true) × (own' ≡ row_cells memo i)
+-- the cells are as they were, and where it was asked for row i nothing is known
+pub record Unfound (memo : List ℕ) (i : ℕ) (asked : Bool) (own own' : List ℕ) : Type 0 where
+  pub kept : own' ≡ own
+  pub unknown : asked ≡ true → row_count memo i ≡ 0
+
+-- it was asked for row i, n is its count, not 0, and the row stands in the cells
+pub record Found (memo : List ℕ) (i : ℕ) (asked : Bool) (n : ℕ) (own' : List ℕ) : Type 0 where
+  pub wanted : asked ≡ true
+  pub count : n ≡ row_count memo i
+  pub known : n ≡ 0 → ⊥
+  pub cells : own' ≡ row_cells memo i
+
+-- what asking for row i came to: nothing, or its count
+abbrev pub Recalled : List ℕ → ℕ → Bool → List ℕ → Option ℕ → List ℕ → Type 0
+Recalled memo i asked own None own' = Unfound memo i asked own own'
+Recalled memo i asked own (Some n) own' = Found memo i asked n own'
 
 -- row i is this count and these cells, and the other rows are as they were
 pub record Noted (own : List ℕ) (count i : ℕ) (memo memo' : List ℕ) : Type 0 where

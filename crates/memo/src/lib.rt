@@ -3,56 +3,43 @@
 
 ghost use Rattle.memo.specs.Rows.{Copying, Copied, Ungiven, RowRoom, Recalled, Remembered};
 
-use calculus::Given;
-use cells::given_at;
+use cells::{VARIABLES, given_at};
 
-// The cells of a scope's variables, and those with a count before them.
-const VARIABLES: usize = 32;
-
+// A row's cells: the count, then those of a scope's variables.
 const ROW: usize = 33;
+
+// The count of a row of which nothing is known: the memory is fixed, and a cell has no room for an Option.
+const UNKNOWN: usize = 0;
 
 // Copies the cells of a scope's variables.
 pub fn copy_cells(from: &[u64], start: usize, to: &mut [u64], at: usize)
     requires { Copying from.now start to.old at }
     ensures { Copied from.now start 32 to.old at to.new }
 {
-    let mut v: usize = 0;
-    while v < VARIABLES {
-        to[at + v] = from[start + v];
-        v += 1;
-    }
+    to[at..at + VARIABLES].copy_from_slice(&from[start..start + VARIABLES]);
 }
 
 // Whether none of the first variables is given.
 pub fn none_given(given: &[u64], count: usize) -> bool
     ensures { Ungiven given.now count result }
 {
-    let mut v: usize = 0;
-    while v < count {
-        let g = given_at(given, v);
-        match g {
-            Given::Absent => {}
-            Given::Present(_) => return false,
-        }
-        v += 1;
-    }
-    true
+    (0..count).all(|v| given_at(given, v).is_none())
 }
 
-// Where it is asked for and row i is known: puts its cells into `own`, and gives its count; else 0.
-pub fn recall(memo: &[u64], i: usize, asked: bool, own: &mut [u64]) -> usize
+// Where it is asked for and row i is known: puts its cells into `own`, and gives its count.
+pub fn recall(memo: &[u64], i: usize, asked: bool, own: &mut [u64]) -> Option<usize>
     requires { RowRoom i own.old memo.now }
     ensures { Recalled memo.now i asked own.old result own.new }
 {
     if !asked {
-        return 0;
+        return None;
     }
     let known = memo[i * ROW] as usize;
-    if known == 0 {
-        return 0;
+    if known == UNKNOWN {
+        return None;
     }
     copy_cells(memo, i * ROW + 1, own, 0);
-    known
+    Some(known)
 }
 
 // Where it is asked for, keeps a count and cells as row i.

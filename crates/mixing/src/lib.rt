@@ -5,12 +5,10 @@ ghost use Rattle.std.specs.Prelude.{◌≡◌, false, length};
 ghost use Rattle.book.specs.Decode.{scopes_of};
 ghost use Rattle.book.specs.References.{dangles};
 ghost use Rattle.book.specs.Mixing.{mixes};
-ghost use Rattle.index.specs.Index.{Laid};
-ghost use Rattle.book.specs.Limits.{Within};
 ghost use Rattle.mixing.specs.Marks.{slot_of, mark_of, mixed_at};
 
 use book::{Consequence, Target};
-use index::{clause_at, clause_count};
+use index::IndexedBook;
 
 // The place of a target's mark: 32 for the own variables, then 32 for each sub-scope.
 fn slot_of(target: Target) -> usize
@@ -36,46 +34,34 @@ fn mark_of(consequence: Consequence) -> u8
 }
 
 // Whether a rule and a definition of scope i have one target: each clause marks its target, unless it finds the other mark there.
-fn mixed_at(book: &[u8], index: &[u16], i: usize) -> bool
-    requires fact_1 { Laid book.now index.now }
-    requires fact_2 { dangles (scopes_of book.now) ≡ false }
-    requires fact_3 { Within (scopes_of book.now) }
-    ensures { result ≡ mixed_at (scopes_of book.now) i }
+fn mixed_at(book: &IndexedBook, i: usize) -> bool
+    requires { dangles (scopes_of book.now.bytes.now) ≡ false }
+    ensures { result ≡ mixed_at (scopes_of book.now.bytes.now) i }
 {
+    // One byte for each place, in fixed memory: 0 where no clause has left a mark.
     let mut seen = [0u8; 288];
-    let count = clause_count(book, index, i);
-    let mut n: usize = 0;
-    while n < count {
-        let clause = clause_at(book, index, i, n);
-        let target = clause.target;
-        let consequence = clause.consequence;
-        let at = slot_of(target);
-        let mark = mark_of(consequence);
-        if seen[at] != 0 {
-            if seen[at] != mark {
-                return true;
-            }
+    for n in 0..book.clause_count(i) {
+        let clause = book.clause_at(i, n);
+        let at = slot_of(clause.target);
+        let mark = mark_of(clause.consequence);
+        if seen[at] != 0 && seen[at] != mark {
+            return true;
         }
         seen[at] = mark;
-        n += 1;
     }
     false
 }
 
-// Fault 9: whether a rule and a definition have one target in a scope of a book of so many scopes.
-pub fn has_mixed(book: &[u8], index: &[u16], scopes: usize) -> bool
-    requires fact_1 { Laid book.now index.now }
-    requires fact_2 { scopes ≡ length (scopes_of book.now) }
-    requires fact_3 { dangles (scopes_of book.now) ≡ false }
-    requires fact_4 { Within (scopes_of book.now) }
-    ensures { result ≡ mixes (scopes_of book.now) }
+// Fault 9: whether a rule and a definition have one target in a scope of the book.
+pub fn has_mixed(book: &IndexedBook) -> bool
+    requires counted { book.now.scopes ≡ length (scopes_of book.now.bytes.now) }
+    requires sound { dangles (scopes_of book.now.bytes.now) ≡ false }
+    ensures { result ≡ mixes (scopes_of book.now.bytes.now) }
 {
-    let mut i: usize = 0;
-    while i < scopes {
-        if mixed_at(book, index, i) {
+    for i in 0..book.scopes {
+        if mixed_at(book, i) {
             return true;
         }
-        i += 1;
     }
     false
 }

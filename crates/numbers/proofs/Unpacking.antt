@@ -3,8 +3,8 @@
 --     unwrapped       they are packed as they are
 --     says        and so a number that an answer is packed into says the answer's numbers
 -- Assumes nothing.
-use Prim.Native.Nat.{ℕ, ◌+◌, ◌*◌, ◌/◌, ◌%◌, ◌<◌}
-use mathlib.Core.Path.{◌≡◌, refl, ap, ◌∙◌}
+use Prim.Native.Nat.{ℕ, ◌%◌}
+use mathlib.Core.Path.{◌≡◌, refl, ◌∙◌}
 use native.Mathlib.Omega.{arith}
 use Rattle.answers.specs.Numbers.{Numbers}
 use Rattle.numbers.specs.Packed.{packed, wrapped, Placed, Says}

@@ -1,11 +1,11 @@
 // The answers of the services as numbers: the paper's number of a fault, of a refusal and of an outcome, and a whole answer as one number.
 #![tactic(auto)]
 
-ghost use Rattle.std.specs.Prelude.{◌≡◌};
+ghost use Rattle.std.specs.Prelude.{◌≡◌, Ok};
 ghost use Rattle.answers.specs.Numbers.{fault_number, refusal_number, cause_number, judged_numbers, produced_numbers, answer_numbers};
 ghost use Rattle.numbers.specs.Packed.{packed, wrapped};
 
-use answers::{Answer, Cause, Fault, Judged, Produced, Refusal, Side};
+use answers::{Answer, Cause, Fault, Refusal, Side};
 
 // The paper's number of a fault.
 pub fn fault_number(f: Fault) -> u8
@@ -49,39 +49,29 @@ pub fn cause_number(c: Cause) -> u8
     match c {
         Cause::Empty => 1,
         Cause::Conflict => 2,
-        Cause::OutOfRange(s) => match s {
-            Side::Above => 3,
-            Side::Below => 4,
-        },
+        Cause::OutOfRange(Side::Above) => 3,
+        Cause::OutOfRange(Side::Below) => 4,
     }
 }
 
 // The number of the outcome in an answer: 0 for values, and with a refusal.
-pub fn answer_outcome(a: Answer) -> u8
+pub fn answer_outcome(a: Result<Answer, Refusal>) -> u8
     ensures { result ≡ (answer_numbers a).outcome }
 {
     match a {
-        Answer::Values(_, _) => 0,
-        Answer::Ended(c, _) => cause_number(c),
-        Answer::Refused(_) => 0,
+        Ok(Answer::Values(_, _)) | Err(_) => 0,
+        Ok(Answer::Ended(c, _)) => cause_number(c),
     }
 }
 
 // The length of the results in an answer: 0 without values.
-pub fn answer_length(a: Answer) -> usize
+pub fn answer_length(a: Result<Answer, Refusal>) -> usize
     ensures { result ≡ (answer_numbers a).length }
 {
     match a {
-        Answer::Values(_, l) => l,
-        Answer::Ended(_, _) => 0,
-        Answer::Refused(_) => 0,
+        Ok(Answer::Values(_, l)) => l,
+        Ok(Answer::Ended(_, _)) | Err(_) => 0,
     }
-}
-
-fn wide(b: u8) -> u64
-    ensures { result ≡ b }
-{
-    b as u64
 }
 
 // The numbers of an answer as one: from the highest byte on, one byte of refusal, one of outcome, two of count and four of length. A count
@@ -91,36 +81,45 @@ fn pack(refusal: u8, outcome: u8, count: usize, length: usize) -> u64
 {
     let count_part = ((count % 65536) as u64) * 4294967296;
     let length_part = (length % 4294967296) as u64;
-    wide(refusal) * 72057594037927936 + wide(outcome) * 281474976710656 + count_part + length_part
-}
-
-// What judging answers, as one number.
-pub fn pack_judged(j: Judged) -> u64
-    ensures { result ≡ packed (wrapped (judged_numbers j)) }
-{
-    match j {
-        Judged::Accepted(n) => pack(0, 0, 0, n),
-        Judged::Refused(f) => pack(fault_number(f), 0, 0, 0),
-    }
+    u64::from(refusal) * 72057594037927936
+        + u64::from(outcome) * 281474976710656
+        + count_part
+        + length_part
 }
 
 // What compiling or tabulating answers, as one number.
-pub fn pack_produced(p: Produced) -> u64
+pub fn pack_produced(p: Result<usize, Refusal>) -> u64
     ensures { result ≡ packed (wrapped (produced_numbers p)) }
 {
     match p {
-        Produced::Written(n) => pack(0, 0, 0, n),
-        Produced::Refused(r) => pack(refusal_number(r), 0, 0, 0),
+        Ok(n) => pack(0, 0, 0, n),
+        Err(r) => pack(refusal_number(r), 0, 0, 0),
     }
 }
 
-// What evaluating or running answers, as one number.
-pub fn pack_answer(a: Answer) -> u64
-    ensures { result ≡ packed (wrapped (answer_numbers a)) }
+// What judging answers, as one number.
+pub fn pack_judged(j: Result<usize, Fault>) -> u64
+    ensures { result ≡ packed (wrapped (judged_numbers j)) }
+{
+    pack_produced(j.map_err(Refusal::Book))
+}
+
+// What a run that is not refused answers, as one number.
+fn pack_run(a: Answer) -> u64
+    ensures { result ≡ packed (wrapped (answer_numbers (Ok a))) }
 {
     match a {
         Answer::Values(n, l) => pack(0, 0, n, l),
         Answer::Ended(c, n) => pack(0, cause_number(c), n, 0),
-        Answer::Refused(r) => pack(refusal_number(r), 0, 0, 0),
+    }
+}
+
+// What evaluating or running answers, as one number.
+pub fn pack_answer(a: Result<Answer, Refusal>) -> u64
+    ensures { result ≡ packed (wrapped (answer_numbers a)) }
+{
+    match a {
+        Ok(run) => pack_run(run),
+        Err(r) => pack(refusal_number(r), 0, 0, 0),
     }
 }

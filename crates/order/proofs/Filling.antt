@@ -2,7 +2,7 @@
 --     Filling    k vertices are written and marked done; start, turn and the two ways out, ended and full
 -- Assumes nothing.
 use Prim.Native.Nat.{ℕ, suc, ◌<◌, ◌≤◌, ◌+◌, ◌-◌}
-use mathlib.Core.Path.{◌≡◌, refl, sym, ap, ◌∙◌}
+use mathlib.Core.Path.{◌≡◌, refl, sym, ap, subst, ◌∙◌}
 use mathlib.Core.Bool.{Bool, ◌||◌}
 use mathlib.Core.List.{List, [], ◌∷◌, ◌++◌}
 use native.Mathlib.Omega.{arith}
@@ -10,10 +10,10 @@ use native.Mathlib.Numerals.{add-one}
 use lib.ListN.{length, get_or, drop, set, replicate, length-append, length-set}
 use lib.Seq.{drop-cons, set_at, append_snoc}
 use lib.Dec.{eqb}
+use Rattle.std.specs.Prelude.{Some}
 use Rattle.order.specs.Order.{among, next, taken, order}
 use Rattle.order.specs.Matrix.{marked, edge_of}
 use Rattle.order.specs.Answer.{Filled}
-use Rattle.order.specs.declared.Ordered.TheVariants.{Taken}
 use Rattle.order.proofs.Matrix.{zero_marks, marked_set}
 use Rattle.order.proofs.Ready.{next_congruent, next_bound}
 use Rattle.order.proofs.Among.{among_snoc}
@@ -42,13 +42,16 @@ start deps n out small =
 
 module _ (deps : List ℕ) (n : ℕ) (from out done : List ℕ) (k : ℕ) (g : Filling deps n from out done k)
     (small : n ≤ 40) (rows : 1640 ≤ length deps) (room : n ≤ length from) where
-  finish : taken (edge_of deps) n k ≡ order (edge_of deps) n → Filled deps n from (Taken k) out
+  finish : taken (edge_of deps) n k ≡ order (edge_of deps) n → Filled deps n from (Some k) out
   finish e =
       filled_taken deps n from (fits_fit deps n from small rows room) k out (rw e at g.count) (rw e at g.bytes)
 
-  pub full : n ≤ k → Filled deps n from (Taken k) out
+  pub full : n ≤ k → Filled deps n from (Some n) out
   unfolding order
-  full h = let t = g.turns in let e : k ≡ n = omega arith in finish (ap (taken (edge_of deps) n) e)
+  full h =
+      let t = g.turns in
+      let e : k ≡ n = omega arith in
+      subst (λ (j : ℕ). Filled deps n from (Some j) out) e (finish (ap (taken (edge_of deps) n) e))
 
   module _ (v : ℕ) (found : v ≡ next (edge_of deps) n (marked done)) where
     found_next : v ≡ next (edge_of deps) n (among (taken (edge_of deps) n k))
@@ -56,7 +59,7 @@ module _ (deps : List ℕ) (n : ℕ) (from out done : List ℕ) (k : ℕ) (g : F
         found
         ∙ next_congruent (edge_of deps) (edge_of deps) n (marked done) (among (taken (edge_of deps) n k)) (λ u w a b. refl) g.dones
 
-    pub ended : v ≡ n → Filled deps n from (Taken k) out
+    pub ended : v ≡ n → Filled deps n from (Some k) out
     unfolding order
     ended h =
         let t = g.turns in

@@ -13,11 +13,11 @@
 --     rest_mark     one more vertex is done: what it does not wake still rests
 --     search_found, search-none, search-wait    the vertex at which a search stops is the next one; where it stops at none; where v waits
 -- Assumes nothing.
-use Prim.Native.Nat.{ℕ, ◌<◌, ◌≤◌, ◌+◌, ◌-◌, ◌*◌}
+use Prim.Native.Nat.{ℕ, ◌<◌, ◌≤◌, ◌+◌, ◌*◌}
 use mathlib.Core.Path.{◌≡◌, refl, sym, ap, subst, ◌∙◌}
 use mathlib.Core.Bool.{Bool, true, false, false≢true, ◌||◌, or-true}
 use mathlib.Core.List.{List}
-use mathlib.Core.Logic.{◌⊎◌, inl, inr, ⊎_elim}
+use mathlib.Core.Logic.{inl, inr, ⊎_elim}
 use native.Mathlib.Omega.{arith}
 use lib.ListN.{length, get_or, set, length-set}
 use lib.Seq.{get_or-set_same, get_or-set_other}
@@ -25,7 +25,7 @@ use lib.Dec.{eqb, ltb}
 use borrow.Author.Tests.{eqb-true, eqb-false, ltb-true, ltb-false, lt-ltb, le-ltb, eq-eqb, ne_eqb}
 use Rattle.order.specs.Order.{unmet, ready, next}
 use Rattle.order.specs.Matrix.{marked, linked, edge_of}
-use Rattle.order.specs.Memo.{Met, Waits, Resting, woken_by}
+use Rattle.order.specs.Memo.{Met, Resting, woken_by}
 use Rattle.laws.proofs.Booleans.{decide}
 use Rattle.order.proofs.Search.{left_from, left_end, left_here}
 use Rattle.order.proofs.Matrix.{marked_set, edge_passed, edge_linked}

@@ -15,14 +15,6 @@ pub const WIDTH: usize = 40;
 // Where the matrix says from which vertex on each row is read.
 pub const STARTS: usize = 1600;
 
-#[derive(Clone, Copy)]
-pub enum Ordered {
-    // How many vertices the order has: fewer than n exactly where some vertex reaches itself.
-    Taken(usize),
-    // More than 40 vertices, a matrix of fewer than 40 rows, or memory for fewer vertices.
-    Unfit,
-}
-
 // Notes that v waits for w, which is not done: row v is read from w on, and w wakes v, unless it wakes a lower vertex.
 fn wait_for(deps: &mut [u8], wakes: &mut [u8], v: usize, w: usize)
     requires { (v < 40) × (w < 40) × (1640 ≤ length deps.old) × (w < length wakes.old) }
@@ -36,6 +28,7 @@ fn wait_for(deps: &mut [u8], wakes: &mut [u8], v: usize, w: usize)
 
 // The ready vertex of lowest number, n where none is ready. Each vertex below `low` is done or waits for another, so the search starts
 // there. Row v is read from where an earlier search stopped: so all searches together read each row once.
+// The search over vertices, in it one over what each depends on, is left by its label with the vertex found, as docs/DECISIONS.md has its form.
 fn ready_vertex(deps: &mut [u8], done: &[u8], wakes: &mut [u8], n: usize, low: usize) -> usize
     requires { (n ≤ 40) × (1640 ≤ length deps.old) × (n ≤ length done.now) × (n ≤ length wakes.old)
         × (low ≤ n) × Resting deps.old n done.now wakes.old low }
@@ -73,45 +66,43 @@ fn start_after(wakes: &[u8], v: usize) -> usize
     requires { (v < 40) × (v < length wakes.now) }
     ensures { (result ≤ v + 1) × (result ≤ get_or wakes.now v 0) }
 {
-    let woken = wakes[v] as usize;
-    if v < woken { v + 1 } else { woken }
+    usize::from(wakes[v]).min(v + 1)
 }
 
 // Takes the ready vertex of lowest number again and again, and writes each to the next byte of `out`.
-fn write_order(deps: &mut [u8], n: usize, out: &mut [u8]) -> Ordered
+fn write_order(deps: &mut [u8], n: usize, out: &mut [u8]) -> Option<usize>
     requires { (n ≤ 40) × (1640 ≤ length deps.old) × (n ≤ length out.old) }
     ensures { Filled deps.old n out.old result out.new }
 {
     let mut done = [0u8; WIDTH];
     let mut wakes = [40u8; WIDTH];
-    let mut k: usize = 0;
     let mut low: usize = 0;
-    while k < n {
+    for k in 0..n {
         let v = ready_vertex(deps, &done, &mut wakes, n, low);
         if v == n {
-            return Ordered::Taken(k);
+            return Some(k);
         }
         out[k] = v as u8;
         done[v] = 1;
         low = start_after(&wakes, v);
-        k += 1;
     }
-    Ordered::Taken(k)
+    Some(n)
 }
 
-// The order of n vertices, written from the first byte of `out`; no later byte changes. The matrix is used up: what it holds afterwards is
-// left open.
-pub fn fill_order(deps: &mut [u8], n: usize, out: &mut [u8]) -> Ordered
+// The order of n vertices, written from the first byte of `out`; no later byte changes. Answers how many vertices the order has, fewer than n
+// exactly where some vertex reaches itself; none where there are more than 40 vertices, a matrix of fewer than 40 rows, or memory for fewer
+// vertices. The matrix is used up: what it holds afterwards is left open.
+pub fn fill_order(deps: &mut [u8], n: usize, out: &mut [u8]) -> Option<usize>
     ensures { Filled deps.old n out.old result out.new }
 {
     if WIDTH < n {
-        return Ordered::Unfit;
+        return None;
     }
     if deps.len() < STARTS + WIDTH {
-        return Ordered::Unfit;
+        return None;
     }
     if out.len() < n {
-        return Ordered::Unfit;
+        return None;
     }
     write_order(deps, n, out)
 }

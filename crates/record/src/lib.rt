@@ -118,6 +118,7 @@ pub enum Record {
 
 // One decision over kinds and ranges of kinds, for book and code. The kinds that are frequent in code stand singly, no two that follow each other
 // in one arm: so the compiler makes a table of them.
+#[tactic(auto, unfolding(crate::specs::Kinds::shapes_of, crate::specs::Kinds::kinds))]
 fn shapes_of(kind: u8) -> Shapes
     ensures { result ≡ shapes_of kind }
 {
@@ -148,6 +149,7 @@ fn shapes_of(kind: u8) -> Shapes
 }
 
 // The shape of a kind in a book or in code.
+#[tactic(auto, unfolding(crate::specs::Kinds::shape_in))]
 pub fn shape_in(medium: Medium, kind: u8) -> Shape
     ensures { result ≡ shape_in medium kind }
 {
@@ -165,27 +167,25 @@ pub fn shape_in(medium: Medium, kind: u8) -> Shape
 }
 
 // The record at a position.
+#[tactic(auto, unfolding(crate::specs::Record::record_at))]
 pub fn record_at(medium: Medium, s: &[u8], at: usize) -> Record
     ensures { result ≡ record_at medium s.now at }
 {
-    if s.len() <= at {
+    let Some(&kind) = s.get(at) else {
         return Record::End;
-    }
-    let kind = s[at];
-    let shape = shape_in(medium, kind);
-    let stage = shape.stage;
-    let length = shape.length;
+    };
+    let Shape { length, stage } = shape_in(medium, kind);
     if stage == 0 {
         return Record::Unknown;
     }
-    let start = at + 1;
-    if s.len() - start < length {
+    if s.len() - (at + 1) < length {
         return Record::Truncated;
     }
     Record::Whole(kind, stage, length)
 }
 
 // The body of the whole record at a position, of n bytes, as the part of s after its kind.
+#[tactic(auto, unfolding(crate::specs::Record::body_at))]
 pub fn body_at(s: &[u8], at: usize, n: usize) -> &[u8]
     requires { at + n < length s.now }
     ensures { result.now ≡ body_at s.now at n }

@@ -4,8 +4,7 @@
 ghost use Rattle.std.specs.Prelude.{◌≡◌, ◌+◌, ◌≤◌, length};
 ghost use Rattle.book.specs.Decode.{scopes_of};
 ghost use Rattle.book.specs.References.{scope_at};
-ghost use Rattle.index.specs.Index.{Laid};
-ghost use Rattle.lists.specs.Results.{result_size, result_length, bit, result_record};
+ghost use Rattle.lists.specs.Results.{result_size, result_length, result_record};
 ghost use Rattle.lists.specs.Results.{results as results·of};
 ghost use Rattle.lists.specs.Reading.{typed};
 ghost use Rattle.lists.specs.Writing.{result_length_at, result_memory, values_of, written, Typed, Put};
@@ -13,7 +12,7 @@ ghost use Rattle.lists.specs.Writing.{result_length_at, result_memory, values_of
 use book::ValueType;
 use calculus::Value;
 use cells::{given_at, value_of};
-use index::variable_count;
+use index::IndexedBook;
 use integers::put_number;
 use signatures::fill_types;
 use slices::put_byte;
@@ -34,30 +33,17 @@ pub fn length_by(types: &[u8]) -> usize
     requires { length types.now ≤ 32 }
     ensures { result ≡ result_length (typed types.now) }
 {
-    let mut total = 0;
-    let mut v = 0;
-    while v < types.len() {
-        total += result_size(type_of(types[v]));
-        v += 1;
-    }
-    total
+    types.iter().map(|t| result_size(type_of(*t))).sum()
 }
 
 // The length of the results of scope i.
-pub fn result_length(book: &[u8], index: &[u16], i: usize) -> usize
-    requires laid { Laid book.now index.now }
-    requires i_len_bound { length (scope_at (scopes_of book.now) i).variables ≤ 32 }
-    ensures { result ≡ result_length_at (scopes_of book.now) i }
+#[tactic(auto, unfolding(lists::specs::Writing::result_length_at))]
+pub fn result_length(book: &IndexedBook, i: usize) -> usize
+    ensures { result ≡ result_length_at (scopes_of book.now.bytes.now) i }
 {
     let mut types = [0u8; 32];
-    let n = fill_types(book, index, i, &mut types);
+    let n = fill_types(book, i, &mut types);
     length_by(&types[..n])
-}
-
-fn bit_of(b: bool) -> u8
-    ensures { result ≡ bit b }
-{
-    if b { 1 } else { 0 }
 }
 
 // Writes the record of variable v at a position; the position after it.
@@ -69,7 +55,7 @@ fn put_result(results: &mut [u8], at: usize, v: u8, value: Value) -> usize
         Value::Truth(b) => {
             put_byte(results, at, 1);
             put_byte(results, at + 1, v);
-            put_byte(results, at + 2, bit_of(b));
+            put_byte(results, at + 2, u8::from(b));
             at + 3
         }
         Value::Number(n) => {
@@ -87,21 +73,18 @@ pub fn write_by(n: usize, own: &[u64], results: &mut [u8])
     requires n_in_bounds { length (results·of (values_of own.now n)) ≤ length results.old }
     ensures { results.new ≡ written (values_of own.now n) results.old }
 {
-    let mut at: usize = 0;
-    let mut v: usize = 0;
-    while v < n {
+    let mut at = 0;
+    for v in 0..n {
         at = put_result(results, at, v as u8, value_of(given_at(own, v)));
-        v += 1;
     }
 }
 
 // Writes the results of scope i: a record for each of its variables, from the cells that hold their values.
-pub fn write_results(book: &[u8], index: &[u16], i: usize, own: &[u64], results: &mut [u8])
-    requires laid { Laid book.now index.now }
-    requires i_len_bound { length (scope_at (scopes_of book.now) i).variables ≤ 32 }
-    requires typed { Typed (scope_at (scopes_of book.now) i).variables own.now }
-    requires i_in_bounds { result_length_at (scopes_of book.now) i ≤ length results.old }
-    ensures { results.new ≡ result_memory (scopes_of book.now) i own.now results.old }
+#[tactic(auto, using(lists::proofs::Values::typed_length), unfolding(lists::specs::Writing::result_length_at, lists::specs::Writing::result_memory))]
+pub fn write_results(book: &IndexedBook, i: usize, own: &[u64], results: &mut [u8])
+    requires typed { Typed (scope_at (scopes_of book.now.bytes.now) i).variables own.now }
+    requires i_in_bounds { result_length_at (scopes_of book.now.bytes.now) i ≤ length results.old }
+    ensures { results.new ≡ result_memory (scopes_of book.now.bytes.now) i own.now results.old }
 {
-    write_by(variable_count(book, index, i), own, results);
+    write_by(book.variable_count(i), own, results);
 }

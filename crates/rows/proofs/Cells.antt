@@ -12,9 +12,8 @@ use lib.ListN.{length, get_or, set}
 use lib.Seq.{get_or-set_same, get_or-set_other}
 use lib.Dec.{eqb}
 use borrow.Author.Tests.{eqb-true}
+use Rattle.std.specs.Prelude.{Option, None, Some}
 use Rattle.calculus.specs.declared.Value.TheVariants.{Truth}
-use Rattle.calculus.specs.declared.Given.{Given}
-use Rattle.calculus.specs.declared.Given.TheVariants.{Absent, Present}
 use Rattle.calculus.proofs.Numbers.{zero_fits}
 use Rattle.cells.specs.Codec.{value_cell, value_of}
 use Rattle.cells.specs.Cells.{given_of, given_at}
@@ -25,16 +24,17 @@ use Rattle.lists.specs.Inputs.{is_given}
 use Rattle.evaluation.specs.Types.{Fitting}
 use Rattle.scopes.specs.Steps.{givens_from}
 use Rattle.scopes.proofs.Cells.{givens_at_lem}
+use Rattle.calculus.specs.declared.Value.{Value}
 
 nothing : (c : ℕ) → is_given (given_of c) ≡ false → c ≡ 0
 unfolding given_of
 nothing c = go (eqb c 0) refl
   where
-    go : (b : Bool) → eqb c 0 ≡ b → is_given (cond b Absent (Present (value_of c))) ≡ false → c ≡ 0
+    go : (b : Bool) → eqb c 0 ≡ b → is_given (cond b None (Some (value_of c))) ≡ false → c ≡ 0
     go true e h = eqb-true c 0 e
     go false e h = absurd (false≢true (sym h))
 
-pub not_given : (cells : List ℕ) (n v : ℕ) → v < n → is_given (get_or (givens_from cells 0 n) v Absent) ≡ false → get_or cells v 0 ≡ 0
+pub not_given : (cells : List ℕ) (n v : ℕ) → v < n → is_given (get_or (givens_from cells 0 n) v None) ≡ false → get_or cells v 0 ≡ 0
 unfolding given_at
 not_given cells n v l h =
     let z : 0 + v ≡ v = omega arith in
@@ -63,15 +63,15 @@ givens_from_lem cells k (suc v) (suc n) c l =
     rw (get_or-set_other cells (k + suc v) k c 0 (λ e. omega arith), rest)
 
 pub givens_set : (cells : List ℕ) (n v : ℕ) (b : Bool) → v < length cells
-    → givens_from (set cells v (value_cell (Truth b))) 0 n ≡ set (givens_from cells 0 n) v (Present (Truth b))
+    → givens_from (set cells v (value_cell (Truth b))) 0 n ≡ set (givens_from cells 0 n) v (Some (Truth b))
 givens_set cells n v b l =
     let z : 0 + v ≡ v = omega arith in
     ap (λ (at : ℕ). givens_from (set cells at (value_cell (Truth b))) 0 n) (sym z)
     ∙ givens_from_lem cells 0 v n (value_cell (Truth b)) (omega arith)
     ∙ ap (set (givens_from cells 0 n) v) (given_cell (Truth b) zero_fits)
 
-pub fitting_set : (xs : List Variable) (gs : List Given) (v : ℕ) (b : Bool) → Fitting xs gs → (get_or xs v (record { holds = YesNo })).holds ≡ YesNo
-    → Fitting xs (set gs v (Present (Truth b)))
+pub fitting_set : (xs : List Variable) (gs : List (Option Value)) (v : ℕ) (b : Bool) → Fitting xs gs → (get_or xs v (record { holds = YesNo })).holds ≡ YesNo
+    → Fitting xs (set gs v (Some (Truth b)))
 fitting_set [] [] v b h e = tt
 fitting_set [] (g ∷ gs) v b h e = absurd h
 fitting_set (x ∷ xs) [] v b h e = absurd h

@@ -1,21 +1,20 @@
 -- Filling the rows of a table.
 --     none_left, last_row         where no variable is left: one row
 --     first_half                  the table has two halves
---     one_of, shorter             where a variable is left: the others are fewer
+--     one_of, shorter, room       where a variable is left: the others are fewer, and it has a cell
 --     fills_first, fills_second   each half asks for what the whole does
 --     whole, restored             the two halves are the whole, and the variable's cell holds nothing again
 -- Assumes nothing.
-use Prim.Native.Nat.{ℕ, suc, ◌-◌, ◌*◌, ◌/◌, ◌<◌}
+use Prim.Native.Nat.{ℕ, suc, ◌-◌, ◌*◌, ◌/◌, ◌<◌, ◌≤◌}
 use mathlib.Core.Path.{◌≡◌, refl, sym, ap, ◌∙◌}
 use mathlib.Core.Bool.{Bool, true, false}
 use mathlib.Core.List.{List, [], ◌∷◌, ◌++◌, append-nil}
 use native.Mathlib.Omega.{arith}
 use lib.ListN.{length, get_or, set, take, drop, length-set, length-append, length-drop}
 use lib.Seq.{take_at, drop_at, take-length, drop-length, set-set, set-get_or, length-take-le}
+use Rattle.std.specs.Prelude.{Option, Some}
 use Rattle.laws.proofs.Booleans.{neither}
 use Rattle.calculus.specs.declared.Value.TheVariants.{Truth}
-use Rattle.calculus.specs.declared.Given.{Given}
-use Rattle.calculus.specs.declared.Given.TheVariants.{Present}
 use Rattle.calculus.proofs.Numbers.{zero_fits}
 use Rattle.cells.specs.Codec.{no_cell, yes_cell, truth_cell, value_cell}
 use Rattle.cells.proofs.Variables.{kept_stored}
@@ -39,21 +38,22 @@ use Rattle.rows.specs.Filling.{cell_row, cell_rows, FillsRow, FillsRows}
 use Rattle.rows.proofs.Power.{doubled}
 use Rattle.rows.proofs.Cells.{not_given, givens_set, fitting_set}
 use Rattle.rows.proofs.Rows.{no_choice, both_halves}
+use Rattle.calculus.specs.declared.Value.{Value}
 
-none_of : (chosen : List ℕ) → length chosen ≡ 0 → chosen ≡ []
+none_of : (chosen : List ℕ) → length chosen < 1 → chosen ≡ []
 none_of [] e = refl
 none_of (v ∷ vs) e = absurd (omega arith)
 
 -- the first of the chosen variables, and the others
-split : (chosen : List ℕ) → (length chosen ≡ 0 → ⊥) → chosen ≡ get_or chosen 0 0 ∷ take (length chosen - 1) (drop 1 chosen)
-split [] more = absurd (more refl)
+split : (chosen : List ℕ) → 1 ≤ length chosen → chosen ≡ get_or chosen 0 0 ∷ take (length chosen - 1) (drop 1 chosen)
+split [] more = absurd (omega arith)
 split (v ∷ vs) more = ap (λ (l : List ℕ). v ∷ l) (sym (all_left 1 (v ∷ vs)))
 
-pub one_of : {chosen vs : List ℕ} {v : ℕ} → (length chosen ≡ 0 → ⊥) → v ≡ get_or chosen 0 0 → vs ≡ take (length chosen - 1) (drop 1 chosen) → chosen ≡ v ∷ vs
-one_of {chosen} more p q = split chosen more ∙ rw (p, q)
+pub one_of : {chosen : List ℕ} {v : ℕ} → 1 ≤ length chosen → v ≡ get_or chosen 0 0 → chosen ≡ v ∷ take (length chosen - 1) (drop 1 chosen)
+one_of {chosen} more p = split chosen more ∙ rw p
 
 -- the first chosen variable may be chosen; it is not among the others, and they may be chosen though it is given
-module _ (variables : List Variable) (gs : List Given) (v : ℕ) (vs : List ℕ) where
+module _ (variables : List Variable) (gs : List (Option Value)) (v : ℕ) (vs : List ℕ) where
   first_fit : any (unfit variables gs) (v ∷ vs) ≡ false → Free variables gs YesNo v
   unfolding any
   first_fit e = can_give variables gs YesNo v (neither (unfit variables gs v) (any (unfit variables gs) vs) e).0
@@ -62,7 +62,7 @@ module _ (variables : List Variable) (gs : List Given) (v : ℕ) (vs : List ℕ)
   unfolding repeats
   others_distinct e = (neither (among vs v) (repeats vs) e).1
 
-  others_fit : repeats (v ∷ vs) ≡ false → any (unfit variables gs) (v ∷ vs) ≡ false → (g : Given) → any (unfit variables (set gs v g)) vs ≡ false
+  others_fit : repeats (v ∷ vs) ≡ false → any (unfit variables gs) (v ∷ vs) ≡ false → (g : Option Value) → any (unfit variables (set gs v g)) vs ≡ false
   unfolding repeats any
   others_fit d e g =
       fit_after variables gs v g vs (neither (among vs v) (repeats vs) d).0 (neither (unfit variables gs v) (any (unfit variables gs) vs) e).1
@@ -93,13 +93,13 @@ module _ {bytes index links orders : List ℕ} {i : ℕ} {chosen given memo tabl
   abbrev variables : List Variable
   variables = (scope_at (scopes_of bytes) i).variables
 
-  abbrev gives : List ℕ → List Given
+  abbrev gives : List ℕ → List (Option Value)
   gives cells = givens_from cells 0 (length variables)
 
-  pub none_left : length chosen ≡ 0 → FillsRow bytes index links orders i given memo table
+  pub none_left : length chosen < 1 → FillsRow bytes index links orders i given memo table
   unfolding power
   none_left e =
-      let size : length table ≡ suc (result_length_at (scopes_of bytes) i) = let s = rw e at f.size in omega arith in
+      let size : length table ≡ suc (result_length_at (scopes_of bytes) i) = let none : length chosen ≡ 0 = omega arith in let s = rw none at f.size in omega arith in
       let d = length-drop 1 table in
       record {
         runs =
@@ -107,7 +107,7 @@ module _ {bytes index links orders : List ℕ} {i : ℕ} {chosen given memo tabl
         size = size;
       }
 
-  pub last_row : {row : List ℕ} → length chosen ≡ 0 → row ≡ cell_row bytes i given → row ≡ cell_rows bytes i chosen given
+  pub last_row : {row : List ℕ} → length chosen < 1 → row ≡ cell_row bytes i given → row ≡ cell_rows bytes i chosen given
   last_row e r = r ∙ sym (ap (λ (vs : List ℕ). cell_rows bytes i vs given) (none_of chosen e) ∙ no_choice bytes i given)
 
   module _ {v : ℕ} {vs : List ℕ} (is : chosen ≡ v ∷ vs) where
@@ -123,7 +123,7 @@ module _ {bytes index links orders : List ℕ} {i : ℕ} {chosen given memo tabl
     fits : Free variables (gives given) YesNo v
     fits = first_fit variables (gives given) v vs all_fit
 
-    room : v < length given
+    pub room : v < length given
     room = let k = fits.known in let g = f.enterable.given_room in let w = f.enterable.world.sound.variables i in omega arith
 
     twice : length table ≡ 2 * (power (length vs) * suc (result_length_at (scopes_of bytes) i))
@@ -137,7 +137,7 @@ module _ {bytes index links orders : List ℕ} {i : ℕ} {chosen given memo tabl
         → FillsRows bytes index links orders i vs cells known part
     unfolding value_cell
     fills b {cells} {known} {part} e k l =
-        let g : gives cells ≡ set (gives given) v (Present (Truth b)) = ap gives e ∙ givens_set given (length variables) v b room in
+        let g : gives cells ≡ set (gives given) v (Some (Truth b)) = ap gives e ∙ givens_set given (length variables) v b room in
         record {
           enterable = record {
             world = f.enterable.world;
@@ -148,7 +148,7 @@ module _ {bytes index links orders : List ℕ} {i : ℕ} {chosen given memo tabl
           };
           known = k;
           distinct = others_distinct variables (gives given) v vs distinct;
-          fit = rw g (others_fit variables (gives given) v vs distinct all_fit (Present (Truth b)));
+          fit = rw g (others_fit variables (gives given) v vs distinct all_fit (Some (Truth b)));
           size = l ∙ half;
         }
 

@@ -9,6 +9,7 @@ use mathlib.Core.List.{List, [], ◌∷◌, ◌++◌, append-nil}
 use native.Mathlib.Omega.{arith}
 use lib.ListN.{length, set, take, drop, replicate, length-append, length-drop, length-set, drop_of_length-le}
 use lib.Seq.{take-append_seam}
+use Rattle.std.specs.Prelude.{Result}
 use Rattle.answers.specs.Response.{memory_after}
 use Rattle.answers.specs.Numbers.{answer_numbers}
 use Rattle.answers.specs.declared.Answer.{Answer}
@@ -22,6 +23,7 @@ use Rattle.scopes.specs.Steps.{entered_at}
 use Rattle.loaded.specs.Loaded.{RunsLoaded, Replied}
 use Rattle.tabulation.specs.Tabulate.{row_of}
 use Rattle.rows.specs.Filling.{cleared, cell_row, FillsRow}
+use Rattle.answers.specs.declared.Refusal.{Refusal}
 
 -- "the length of the results (0 without values)" is the length of what is written
 length_written : (e : Entered) → (answer_numbers (reply_of e).answer).length ≡ length (reply_of e).written
@@ -55,7 +57,7 @@ module _ {bytes index links orders : List ℕ} {i : ℕ} {given memo row : List 
       omega arith
   fits (ended c n) e = omega arith
 
-  module _ {r : Answer} {part : List ℕ} (came : Replied bytes i given (take (length row - 1) (drop 1 row)) r part) where
+  module _ {r : Result Answer Refusal} {part : List ℕ} (came : Replied bytes i given (take (length row - 1) (drop 1 row)) r part) where
     pub same_size : (o : ℕ) → length part ≡ length (take (length row - 1) (drop 1 row))
         → length (set (take 1 row ++ (part ++ drop (length row - 1) (drop 1 row))) 0 o) ≡ length row
     same_size o e =
@@ -66,7 +68,7 @@ module _ {bytes index links orders : List ℕ} {i : ℕ} {given memo row : List 
         ∙ lent_length row part 1 (length row - 1) (omega arith) (omega arith)
 
     written : {n : ℕ} → n ≡ (answer_numbers r).length → n ≡ length (reply_of (entered_at bytes i given)).written
-    written e = e ∙ ap (λ (a : Answer). (answer_numbers a).length) came.answer ∙ length_written (entered_at bytes i given)
+    written e = e ∙ ap (λ (a : Result Answer Refusal). (answer_numbers a).length) came.answer ∙ length_written (entered_at bytes i given)
 
     pub short : {n : ℕ} → n ≡ (answer_numbers r).length → 1 + n ≤ length row
     short {n} e =
@@ -81,6 +83,6 @@ module _ {bytes index links orders : List ℕ} {i : ℕ} {given memo row : List 
     row_so {o} {n} p q =
         row_of_lem (reply_of (entered_at bytes i given)) (result_length_at (scopes_of bytes) i) o n row part f.size
         (fits (entered_at bytes i given) refl)
-        (p ∙ ap (λ (a : Answer). (answer_numbers a).outcome) came.answer)
+        (p ∙ ap (λ (a : Result Answer Refusal). (answer_numbers a).outcome) came.answer)
         (written q)
         (came.memory ∙ ap (memory_after (reply_of (entered_at bytes i given))) (all_left 1 row))

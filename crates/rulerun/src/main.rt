@@ -4,7 +4,7 @@
 
 ghost use Rattle.std.specs.Prelude.{◌<◌};
 
-use engine::{Answer, Cause, Side, evaluate, refusal_number};
+use engine::{Answer, Refusal, evaluate, refusal_number};
 use integers::{distance_at, number_at};
 use slices::{byte_at, part_of};
 use std::env::{Env, FillError};
@@ -12,18 +12,6 @@ use std::io::{self, Read};
 
 // The longest book that two bytes can announce, the scope, and one byte more of inputs than a good list can have.
 const MOST: u64 = 65731;
-
-// "Other first lines: `conflict N`, `range N`, `refused R`"; "the printed line, which becomes `above N` or `below N`"
-fn word_of(c: Cause) -> &'static str {
-    match c {
-        Cause::Empty => "empty",
-        Cause::Conflict => "conflict",
-        Cause::OutOfRange(s) => match s {
-            Side::Above => "above",
-            Side::Below => "below",
-        },
-    }
-}
 
 // A line with the variable's number and value, from a result record.
 fn print_result(rt: &impl Print, record: &[u8]) -> io::Result<()> {
@@ -42,7 +30,7 @@ fn record_length(results: &[u8]) -> usize
     if byte_at(results, 0) == 2 { 6 } else { 3 }
 }
 
-// A line for each result record.
+// A line for each result record. How long a record is stands in its first byte, so this is no loop over an index.
 fn print_results(rt: &impl Print, results: &[u8]) -> io::Result<()> {
     let mut rest = results;
     while !rest.is_empty() {
@@ -52,15 +40,16 @@ fn print_results(rt: &impl Print, results: &[u8]) -> io::Result<()> {
     Ok(())
 }
 
-// "outcome and count, then number and value of each variable"
-fn print_answer(rt: &impl Print, a: Answer, results: &[u8]) -> io::Result<()> {
+// "outcome and count, then number and value of each variable"; "Other first lines: `conflict N`, `range N`, `refused R`", and in place of
+// `range N` it is `above N` or `below N`.
+fn print_answer(rt: &impl Print, a: Result<Answer, Refusal>, results: &[u8]) -> io::Result<()> {
     match a {
-        Answer::Values(count, length) => {
+        Ok(Answer::Values(count, length)) => {
             println!(rt; "value {count}")?;
             print_results(rt, part_of(results, 0, length))
         }
-        Answer::Ended(c, count) => println!(rt; "{} {count}", word_of(c)),
-        Answer::Refused(r) => println!(rt; "refused {}", refusal_number(r)),
+        Ok(Answer::Ended(c, count)) => println!(rt; "{c} {count}"),
+        Err(r) => println!(rt; "refused {}", refusal_number(r)),
     }
 }
 
@@ -79,6 +68,7 @@ fn run(rt: &impl Print, input: &[u8]) -> io::Result<()> {
     print_answer(rt, answer, &results)
 }
 
+// `std::env::args` is no plainer: it copies each argument to the heap, and fails where one is not UTF-8.
 fn has_arguments(rt: &impl Env) -> bool {
     let mut first = [0u8; 1];
     !matches!(rt.arg(1, &mut first), Err(FillError::NotPresent))

@@ -21,14 +21,14 @@ use native.Mathlib.Omega.{arith}
 use lib.ListN.{length, get_or, drop, length-append, length-drop}
 use lib.Dec.{eqb, leb, ltb}
 use borrow.Author.Tests.{eqb-true, leb-true, leb-false}
+use Rattle.std.specs.Prelude.{Option, Result, Ok, Err}
 use Rattle.laws.proofs.Booleans.{decide, both}
 use Rattle.calculus.specs.declared.Value.{Value}
-use Rattle.calculus.specs.declared.Given.{Given}
 use Rattle.answers.specs.Response.{memory_after}
 use Rattle.answers.specs.declared.Cause.{Cause}
 use Rattle.answers.specs.declared.Refusal.{Refusal}
 use Rattle.answers.specs.declared.Answer.{Answer}
-use Rattle.answers.specs.declared.Answer.TheVariants.{Values, Ended, Refused}
+use Rattle.answers.specs.declared.Answer.TheVariants.{Values, Ended}
 use Rattle.book.specs.Lists.{any}
 use Rattle.book.specs.Scopes.{sum}
 use Rattle.book.specs.declared.Variable.{Variable}
@@ -142,8 +142,8 @@ is_stuck (ran e) = false
 is_stuck stuck = true
 
 -- the values of a run of a block
-in_block : (b : Block) (earlier : List Block) (gs : List Given) → GivensFit b.variables gs → all_fit earlier b b.body 0 ≡ true
-    → ((j : ℕ) (hs : List Given) → Within (run_in earlier j hs) (weight_in earlier j)) → (vs : List Value) (n : ℕ)
+in_block : (b : Block) (earlier : List Block) (gs : List (Option Value)) → GivensFit b.variables gs → all_fit earlier b b.body 0 ≡ true
+    → ((j : ℕ) (hs : List (Option Value)) → Within (run_in earlier j hs) (weight_in earlier j)) → (vs : List Value) (n : ℕ)
     → exec (surroundings earlier b (λ j handed. run_in earlier j handed)) b.body 0 [] [] (begin earlier b gs) ≡ ran (values vs n)
     → map value_type vs ≡ map (λ x. x.holds) b.variables
 in_block b earlier gs f fit below vs n e =
@@ -154,7 +154,7 @@ in_block b earlier gs f fit below vs n e =
     g.1 f
 
 -- the values of a run are of the types of the block's variables
-run_types : (blocks : List Block) → all_well_formed blocks ≡ true → (i : ℕ) (gs : List Given) → GivensFit (variables_of blocks i) gs
+run_types : (blocks : List Block) → all_well_formed blocks ≡ true → (i : ℕ) (gs : List (Option Value)) → GivensFit (variables_of blocks i) gs
     → (vs : List Value) (n : ℕ) → run_in blocks i gs ≡ ran (values vs n) → map value_type vs ≡ map (λ x. x.holds) (variables_of blocks i)
 unfolding all_well_formed variables_of run_in
 run_types [] w i gs f vs n e = absurd (true≢false (ap is_stuck e))
@@ -181,10 +181,10 @@ types_fit (x ∷ xs) (v ∷ vs) e =
     (t, types_fit xs vs ts)
 
 module _ (code : List ℕ) (accepts : accepted code ≡ true) (i : ℕ) where
-  pub run_light : (given : List Given) → count_in (reply (run_in (blocks_of code) i given)).answer ≤ weight_in (blocks_of code) i
+  pub run_light : (given : List (Option Value)) → count_in (reply (run_in (blocks_of code) i given)).answer ≤ weight_in (blocks_of code) i
   run_light given = within_count (run_in (blocks_of code) i given) (weight_in (blocks_of code) i) (run_within (blocks_of code) (formed code accepts) i given)
 
-  pub run_weighs : (given : List Given) (vs : List Value) (count : ℕ) → run_in (blocks_of code) i given ≡ ran (values vs count)
+  pub run_weighs : (given : List (Option Value)) (vs : List Value) (count : ℕ) → run_in (blocks_of code) i given ≡ ran (values vs count)
       → count ≡ weight_in (blocks_of code) i
   run_weighs given vs count e =
       let weight = weight_in (blocks_of code) i in
@@ -192,7 +192,7 @@ module _ (code : List ℕ) (accepts : accepted code ≡ true) (i : ℕ) where
       let most = subst (λ (r : Ran). Within r weight) e (run_within (blocks_of code) (formed code accepts) i given) in
       omega (arith, least, most)
 
-  pub run_some : (given : List Given) (cause : Cause) (count : ℕ) → run_in (blocks_of code) i given ≡ ran (ended cause count) → 1 ≤ count
+  pub run_some : (given : List (Option Value)) (cause : Cause) (count : ℕ) → run_in (blocks_of code) i given ≡ ran (ended cause count) → 1 ≤ count
   run_some given cause count e = subst (λ (r : Ran). AtLeast r (weight_in (blocks_of code) i)) e (run_at_least (blocks_of code) i given)
 
   light : weight_in (blocks_of code) i ≤ 4096
@@ -205,7 +205,7 @@ module _ (code : List ℕ) (accepts : accepted code ≡ true) (i : ℕ) where
       let few = subst (λ (xs : List Block). length (variables_of xs i) ≤ 32) (back_all bs) (few_below bs (λ p. (limits code accepts p).0) i (length bs)) in
       omega (arith, few, length_most (variables_of (blocks_of code) i))
 
-  pub run_fits : (given : List Given) → Fitting (variables_of (blocks_of code) i) given → (vs : List Value) (count : ℕ)
+  pub run_fits : (given : List (Option Value)) → Fitting (variables_of (blocks_of code) i) given → (vs : List Value) (count : ℕ)
       → run_in (blocks_of code) i given ≡ ran (values vs count) → ValuesFit (variables_of (blocks_of code) i) vs
   run_fits given f vs count e =
       let variables = variables_of (blocks_of code) i in
@@ -230,7 +230,7 @@ module _ (code : List ℕ) (i : ℕ) (list memory : List ℕ) where
       → result_length (variables_of (blocks_of code) i) ≡ length (results vs)
   sizes e vs c h = results_size (variables_of (blocks_of code) i) vs (run_fits code e.asked.accepts i e.given e.fitting vs c h)
 
-  in_values_lem : (c n : ℕ) (r : Reply) → Cases r → r.answer ≡ Values c n → InValues code i list memory c n (memory_after r memory)
+  in_values_lem : (c n : ℕ) (r : Reply) → Cases r → r.answer ≡ Ok (Values c n) → InValues code i list memory c n (memory_after r memory)
   unfolding memory_after
   in_values_lem c n r (Answered.unsound h) e = absurd (false≢true (ap is_values e))
   in_values_lem c n r (Answered.absent a h) e = absurd (false≢true (ap is_values e))
@@ -254,7 +254,7 @@ module _ (code : List ℕ) (i : ℕ) (list memory : List ℕ) where
         written = ap (λ (m : ℕ). results vs ++ drop m memory) size;
       }
 
-  in_end_lem : (d : Cause) (c : ℕ) (r : Reply) → Cases r → r.answer ≡ Ended d c → InEnd code i list memory d c (memory_after r memory)
+  in_end_lem : (d : Cause) (c : ℕ) (r : Reply) → Cases r → r.answer ≡ Ok (Ended d c) → InEnd code i list memory d c (memory_after r memory)
   unfolding memory_after
   in_end_lem d c r (Answered.unsound h) e = absurd (false≢true (ap is_end e))
   in_end_lem d c r (Answered.absent a h) e = absurd (false≢true (ap is_end e))
@@ -282,37 +282,37 @@ module _ (code : List ℕ) (i : ℕ) (list memory : List ℕ) where
   nothing_written r (Answered.stopped a d k h) e = refl
   nothing_written r (Answered.finished a vs k h) e = absurd (false≢true (sym e))
 
-  pub ran_values : (count size : ℕ) → (run code i list (length memory)).answer ≡ Values count size
+  pub ran_values : (count size : ℕ) → (run code i list (length memory)).answer ≡ Ok (Values count size)
       → InValues code i list memory count size (memory_after (run code i list (length memory)) memory)
   ran_values c n = in_values_lem c n answered all_cases
 
-  pub ran_end : (cause : Cause) (count : ℕ) → (run code i list (length memory)).answer ≡ Ended cause count
+  pub ran_end : (cause : Cause) (count : ℕ) → (run code i list (length memory)).answer ≡ Ok (Ended cause count)
       → InEnd code i list memory cause count (memory_after (run code i list (length memory)) memory)
   ran_end d c = in_end_lem d c answered all_cases
 
-  pub ran_refused : (r : Refusal) → (run code i list (length memory)).answer ≡ Refused r → memory_after (run code i list (length memory)) memory ≡ memory
+  pub ran_refused : (r : Refusal) → (run code i list (length memory)).answer ≡ Err r → memory_after (run code i list (length memory)) memory ≡ memory
   ran_refused r e = nothing_written answered all_cases (ap is_values e)
 
-  pub ran_unchanged : ((count size : ℕ) → (run code i list (length memory)).answer ≡ Values count size → ⊥)
+  pub ran_unchanged : ((count size : ℕ) → (run code i list (length memory)).answer ≡ Ok (Values count size) → ⊥)
       → memory_after (run code i list (length memory)) memory ≡ memory
   ran_unchanged other = nothing_written answered all_cases (not_values answered.answer other)
     where
-      not_values : (a : Answer) → ((count size : ℕ) → a ≡ Values count size → ⊥) → is_values a ≡ false
-      not_values (Values c n) h = absurd (h c n refl)
-      not_values (Ended d c) h = refl
-      not_values (Refused r) h = refl
+      not_values : (a : Result Answer Refusal) → ((count size : ℕ) → a ≡ Ok (Values count size) → ⊥) → is_values a ≡ false
+      not_values (Ok (Values c n)) h = absurd (h c n refl)
+      not_values (Ok (Ended d c)) h = refl
+      not_values (Err r) h = refl
 
   pub ran_size : length (memory_after (run code i list (length memory)) memory) ≡ length memory
   ran_size = by_answer answered.answer refl
     where
-      by_answer : (a : Answer) → answered.answer ≡ a → length (memory_after answered memory) ≡ length memory
-      by_answer (Values c n) e =
+      by_answer : (a : Result Answer Refusal) → answered.answer ≡ a → length (memory_after answered memory) ≡ length memory
+      by_answer (Ok (Values c n)) e =
           let v = ran_values c n e in
           let bs = results v.finals in
           let whole = ap length v.written ∙ length-append bs (drop n memory) in
           omega (arith, whole, v.whole, v.fits, length-drop n memory)
-      by_answer (Ended d c) e = ap length (ran_end d c e).unchanged
-      by_answer (Refused r) e = ap length (ran_refused r e)
+      by_answer (Ok (Ended d c)) e = ap length (ran_end d c e).unchanged
+      by_answer (Err r) e = ap length (ran_refused r e)
 
   pub ran_length : length_in (run code i list (length memory)).answer ≡ length (run code i list (length memory)).written
   ran_length = go answered all_cases

@@ -10,18 +10,15 @@ use mathlib.Core.Logic.{⊎_elim}
 use native.Mathlib.Omega.{arith}
 use lib.ListN.{length, get_or, set, drop}
 use lib.Dec.{eqb, leb, ltb}
+use Rattle.std.specs.Prelude.{Result, Ok, Err, Option, None, Some}
 use Rattle.laws.proofs.Booleans.{decide}
 use Rattle.calculus.specs.Values.{truth_of}
 use Rattle.calculus.specs.Operators.{unary_of, binary_of}
 use Rattle.calculus.specs.declared.Value.{Value}
 use Rattle.answers.specs.declared.Cause.{Cause}
 use Rattle.answers.specs.declared.Cause.TheVariants.{Empty, Conflict, OutOfRange}
-use Rattle.calculus.specs.declared.Outcome.{Outcome}
-use Rattle.calculus.specs.declared.Outcome.TheVariants.{Gives, Ends}
 use Rattle.calculus.specs.declared.Joined.{Joined}
 use Rattle.calculus.specs.declared.Joined.TheVariants.{Nothing, One, Many}
-use Rattle.calculus.specs.declared.Given.{Given}
-use Rattle.calculus.specs.declared.Given.TheVariants.{Absent, Present}
 use Rattle.book.specs.Syntax.{same_type}
 use Rattle.book.specs.Scopes.{sum}
 use Rattle.book.specs.Typing.{unary_type, operand_type}
@@ -46,7 +43,7 @@ AtLeast stuck x = Unit {0}
 -- Sub-scopes that wait
 
 module _ (w : ℕ → ℕ) where
-  still_waits : (is : List ℕ) (cs : List Callee) (k : ℕ) (hs : List Given) → pending w is cs ≤ pending w is (set cs k (waiting hs))
+  still_waits : (is : List ℕ) (cs : List Callee) (k : ℕ) (hs : List (Option Value)) → pending w is cs ≤ pending w is (set cs k (waiting hs))
   still_waits [] cs k hs = omega arith
   still_waits (i ∷ is) [] k hs = omega arith
   still_waits (i ∷ is) (waiting gs ∷ cs) zero hs = omega arith
@@ -92,9 +89,9 @@ module _ (env : Surroundings) (is : List ℕ) (w : ℕ → ℕ) (W : ℕ) where
     after_push : (e : Joined) (st : List Joined) → After (pushed e st ts m)
     after_push e st = ⊎_elim (λ q. rw q g) (λ q. rw q tt) (decide (ltb (length st) 1024))
 
-    after_answer : (o : Outcome) (st : List Joined) → After (answered o st ts m)
-    after_answer (Gives v) st = g
-    after_answer (Ends c) st = g.some
+    after_answer : (o : Result Value Cause) (st : List Joined) → After (answered o st ts m)
+    after_answer (Ok v) st = g
+    after_answer (Err c) st = g.some
 
     after_read : (c : Cell) (st : List Joined) → After (read_from c st ts m)
     after_read unset st = tt
@@ -121,13 +118,13 @@ module _ (env : Surroundings) (is : List ℕ) (w : ℕ → ℕ) (W : ℕ) where
     after_store (given u) x v st = tt
     after_store (stored u) x v st = tt
 
-    after_hand : (h : Given) (gs : List Given) (k x : ℕ) (v : Value) (st : List Joined) → After (handed_to h gs k x v st ts m)
-    after_hand Absent gs k x v st =
-        record { some = omega (arith, g.some); owed = omega (arith, g.owed, still_waits w is m.callees k (set gs x (Present v))) }
-    after_hand (Present u) gs k x v st = tt
+    after_hand : (h : Option Value) (gs : List (Option Value)) (k x : ℕ) (v : Value) (st : List Joined) → After (handed_to h gs k x v st ts m)
+    after_hand None gs k x v st =
+        record { some = omega (arith, g.some); owed = omega (arith, g.owed, still_waits w is m.callees k (set gs x (Some v))) }
+    after_hand (Some u) gs k x v st = tt
 
     after_override_lem : (c : Callee) (k x : ℕ) (v : Value) (st : List Joined) → After (overridden c k x v st ts m)
-    after_override_lem (waiting gs) k x v st = after_hand (get_or gs x Absent) gs k x v st
+    after_override_lem (waiting gs) k x v st = after_hand (get_or gs x None) gs k x v st
     after_override_lem (entered vs) k x v st = tt
 
     after_jump_if_given : (c : Cell) (d : ℕ) (st : List Joined) → After (jumped_if_given c d st ts m)
@@ -141,7 +138,7 @@ module _ (env : Surroundings) (is : List ℕ) (w : ℕ → ℕ) (W : ℕ) where
     after_return (ran (ended c n)) k st f = omega (arith, g.some)
     after_return stuck k st f = tt
 
-    after_enter : (run : List Given → Ran) (c : Callee) (k : ℕ) (st : List Joined) → ((gs : List Given) → AtLeast (run gs) (w (get_or is k 0)))
+    after_enter : (run : List (Option Value) → Ran) (c : Callee) (k : ℕ) (st : List Joined) → ((gs : List (Option Value)) → AtLeast (run gs) (w (get_or is k 0)))
         → After (entered_with run c k st ts m)
     after_enter run (waiting gs) k st f = after_return (run gs) k st (f gs)
     after_enter run (entered vs) k st f = tt
@@ -180,7 +177,7 @@ module _ (env : Surroundings) (is : List ℕ) (w : ℕ → ℕ) (W : ℕ) where
   after_follow (go d st ts m) F k more = more d st ts m k
   after_follow (stop r) F k more = k
 
-  module _ (below : (k : ℕ) (gs : List Given) → AtLeast (env.enters k gs) (w (get_or is k 0))) where
+  module _ (below : (k : ℕ) (gs : List (Option Value)) → AtLeast (env.enters k gs) (w (get_or is k 0))) where
     after_effect : (i : Instruction) (left : ℕ) (st : List Joined) (ts : List Try) (m : Memory) → Owes m → After (effect env i left st ts m)
     unfolding effect
     after_effect (push v) left st ts m g = after_push ts m g (One v) st
@@ -219,13 +216,13 @@ module _ (env : Surroundings) (is : List ℕ) (w : ℕ → ℕ) (W : ℕ) where
 
 -- Runs
 
-pub run_at_least : (blocks : List Block) (i : ℕ) (gs : List Given) → AtLeast (run_in blocks i gs) (weight_in blocks i)
+pub run_at_least : (blocks : List Block) (i : ℕ) (gs : List (Option Value)) → AtLeast (run_in blocks i gs) (weight_in blocks i)
 unfolding run_in
 run_at_least [] i gs = tt
 run_at_least (b ∷ earlier) i gs =
     let env = surroundings earlier b (λ j handed. run_in earlier j handed) in
     let weight = suc (sum (weight_in earlier) b.sub_scopes) in
-    let all = pending_all (weight_in earlier) (λ j. map (λ x. Absent) (variables_of earlier j)) b.sub_scopes in
+    let all = pending_all (weight_in earlier) (λ j. map (λ x. None) (variables_of earlier j)) b.sub_scopes in
     let below = run_at_least earlier in
     rw (run_cons b earlier i gs, weight_cons b earlier i)
     (⊎_elim

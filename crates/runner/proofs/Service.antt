@@ -12,9 +12,9 @@ use mathlib.Core.List.{List}
 use native.Mathlib.Omega.{arith}
 use lib.ListN.{length, take, drop}
 use borrow.Author.Tests.{le-leb, lt-leb}
+use Rattle.std.specs.Prelude.{Option, Result, Ok, Err, ℕ, None, Some}
 use Rattle.answers.specs.Response.{memory_after}
 use Rattle.answers.specs.declared.Cause.{Cause}
-use Rattle.calculus.specs.declared.Given.{Given}
 use Rattle.book.specs.declared.Variable.{Variable}
 use Rattle.lists.specs.Inputs.{bad, good, inputs}
 use Rattle.lists.specs.Reading.{typed, Filled, Taken}
@@ -25,7 +25,7 @@ use Rattle.evaluation.specs.Run.{values}
 use Rattle.evaluation.specs.Types.{Fitting}
 use Rattle.answers.specs.declared.Refusal.TheVariants as refusal
 use Rattle.answers.specs.declared.Answer.{Answer}
-use Rattle.answers.specs.declared.Answer.TheVariants.{Values, Ended, Refused}
+use Rattle.answers.specs.declared.Answer.TheVariants.{Values, Ended}
 use Rattle.evaluation.proofs.Types.{inputs_fitting}
 use Rattle.answers.proofs.Response.{same_response, nothing_written}
 use Rattle.machine.specs.Blocks.{blocks_of, variables_of}
@@ -34,24 +34,23 @@ use Rattle.machine.specs.Run.{run_in}
 use Rattle.machine.specs.Service.{reply, on_inputs, asked, run}
 use Rattle.directory.specs.Tabled.{block_at, block_count}
 use Rattle.verifier.specs.Pass.{Judged}
-use Rattle.verifier.specs.declared.Verdict.{Verdict}
-use Rattle.verifier.specs.declared.Verdict.TheVariants as verdict
 use Rattle.instructions.specs.Views.{givens_at}
-use Rattle.blocks.specs.Entries.{run_at, variables_at, Entry, CameTo}
-use Rattle.blocks.specs.declared.Ran.{Ran}
-use Rattle.blocks.specs.declared.Ran.TheVariants as ran
+use Rattle.blocks.specs.Entries.{Outcome, run_at, variables_at, Entry, CameTo}
+use Rattle.blocks.specs.declared.Halt.TheVariants as coded
 use Rattle.blocks.proofs.Scopes.{has_none, is_block, has_one, scope_variables_lem, scope_runs, few_variables, givens_are, values_are, values_length}
 use Rattle.directory.specs.Layout.{place_in, variables_in, Declares}
 use Rattle.runner.specs.Service.{Runs, Ready, Asked, Replied}
+use Rattle.answers.specs.declared.Refusal.{Refusal}
+use Rattle.calculus.specs.declared.Value.{Value}
 
 -- Judging
 
-pub refused_code : (code directory : List ℕ) (i : ℕ) (list : List ℕ) {memory : List ℕ} (v : Verdict) → v ≡ verdict.Refused → Judged code directory v
-    → Runs code i list memory (Refused refusal.BadCode) memory
+pub refused_code : (code directory : List ℕ) (i : ℕ) (list : List ℕ) {memory : List ℕ} (v : Option ℕ) → v ≡ None → Judged code directory v
+    → Runs code i list memory (Err refusal.BadCode) memory
 unfolding run
 refused_code code directory i list v e j = nothing_written (rw (rw e at j))
 
-pub ready : {code directory : List ℕ} {n : ℕ} (v : Verdict) → v ≡ verdict.Accepted n → Judged code directory v → Ready code directory
+pub ready : {code directory : List ℕ} {n : ℕ} (v : Option ℕ) → v ≡ Some n → Judged code directory v → Ready code directory
 ready v e j =
     let k = rw e at j in
     record { accepts = k.0; tabled = rw k.1.number at k.1 }
@@ -63,19 +62,16 @@ module _ {code directory : List ℕ} (o : Ready code directory) (i : ℕ) where
   unfolding run
   is_asked list room = rw o.accepts
 
-  pub refused_scope : (list : List ℕ) {memory : List ℕ} → place_in directory i ≡ 0 → Runs code i list memory (Refused refusal.NoSuchScope) memory
+  pub refused_scope : (list : List ℕ) {memory : List ℕ} → place_in directory i ≡ 0 → Runs code i list memory (Err refusal.NoSuchScope) memory
   unfolding asked
   refused_scope list {memory} z = nothing_written (is_asked list (length memory) ∙ rw (has_none o.accepts o.tabled i z))
 
-  module _ (place : ℕ) (e : place ≡ place_in directory i) (there : place ≡ 0 → ⊥) where
+  module _ (p : ℕ) (there : (0 < place_in directory i) × (p ≡ place_in directory i - 1)) where
     placed : 0 < place_in directory i
-    placed = omega (arith, there)
-
-    abbrev p : ℕ
-    p = place - 1
+    placed = there.0
 
     same : place_in directory i - 1 ≡ p
-    same = omega arith
+    same = sym there.1
 
     pub block_there : p < block_count code
     block_there = rw same at (is_block o.accepts o.tabled i placed)
@@ -95,7 +91,7 @@ module _ {code directory : List ℕ} (o : Ready code directory) (i : ℕ) where
     the_variables : variables_of (blocks_of code) i ≡ variables
     the_variables = rw same at (scope_variables_lem o.accepts o.tabled i placed)
 
-    the_run : (gs : List Given) → run_in (blocks_of code) i gs ≡ run_at code p gs
+    the_run : (gs : List (Option Value)) → run_in (blocks_of code) i gs ≡ run_at code p gs
     the_run gs = rw same at (scope_runs o.accepts o.tabled i placed gs)
 
     is_there : (list : List ℕ) (room : ℕ) → run code i list room ≡ on_inputs (inputs variables list) room (blocks_of code) i
@@ -117,14 +113,14 @@ module _ {code directory : List ℕ} (o : Ready code directory) (i : ℕ) where
           let f = few_variables code o.accepts p in
           omega arith
 
-      pub refused_input : (list : List ℕ) {memory : List ℕ} → inputs (typed types) list ≡ bad → Runs code i list memory (Refused refusal.BadInput) memory
+      pub refused_input : (list : List ℕ) {memory : List ℕ} → inputs (typed types) list ≡ bad → Runs code i list memory (Err refusal.BadInput) memory
       refused_input list {memory} b = nothing_written (is_there list (length memory) ∙ rw (rw are_typed at b))
 
       module _ {list given : List ℕ} (taken : Taken (typed types) list given) where
         is_good : inputs variables list ≡ good taken.givens
         is_good = ap (λ (vs : List Variable). inputs vs list) (sym are_typed) ∙ taken.list
 
-        pub refused_room : {memory : List ℕ} → length memory < result_length (typed types) → Runs code i list memory (Refused refusal.BufferTooSmall) memory
+        pub refused_room : {memory : List ℕ} → length memory < result_length (typed types) → Runs code i list memory (Err refusal.BufferTooSmall) memory
         refused_room {memory} l = nothing_written (is_there list (length memory) ∙ rw (is_good, the_variables, lt-leb (result_length variables) (length memory) (rw are_typed at l)))
 
         same_givens : givens_at given 0 (variables_at code p) ≡ taken.givens
@@ -144,10 +140,10 @@ module _ {code directory : List ℕ} (o : Ready code directory) (i : ℕ) where
               room = rw are_typed at l;
             }
 
-        pub answers : {memory after : List ℕ} {r : Answer} → result_length (typed types) ≤ length memory → Replied code p given memory r after → Runs code i list memory r after
+        pub answers : {memory after : List ℕ} {r : Result Answer Refusal} → result_length (typed types) ≤ length memory → Replied code p given memory r after → Runs code i list memory r after
         answers {memory} {after} {r} l q =
             let k : run code i list (length memory) ≡ reply (run_at code p (givens_at given 0 (variables_at code p))) =
-            is_there list (length memory) ∙ good_list ∙ ap (λ (gs : List Given). reply (run_at code p gs)) (sym same_givens) in
+            is_there list (length memory) ∙ good_list ∙ ap (λ (gs : List (Option Value)). reply (run_at code p gs)) (sym same_givens) in
             same_response k q
           where
             good_list : on_inputs (inputs variables list) (length memory) (blocks_of code) i ≡ reply (run_at code p taken.givens)
@@ -167,26 +163,26 @@ module _ {code directory : List ℕ} {p : ℕ} {types given memory : List ℕ} (
   unfolding variables_at
   types_short = let n = number in let f = few_variables code a.ready.accepts p in omega arith
 
-  module _ {r : Ran} {own : List ℕ} (came : CameTo code p given r own) where
-    abbrev gs : List Given
+  module _ {r : Outcome} {own : List ℕ} (came : CameTo code p given r own) where
+    abbrev gs : List (Option Value)
     gs = givens_at given 0 (variables_at code p)
 
-    replied : {m : machine.Ran} {answer : Answer} {after : List ℕ} → run_at code p gs ≡ m → answer ≡ (reply m).answer → after ≡ memory_after (reply m) memory
+    replied : {m : machine.Ran} {answer : Result Answer Refusal} {after : List ℕ} → run_at code p gs ≡ m → answer ≡ (reply m).answer → after ≡ memory_after (reply m) memory
         → Replied code p given memory answer after
     replied e x y = same_response (ap reply e) (record { answer = x; memory = y })
 
-    pub ends_so : {c : Cause} {m : ℕ} → r ≡ ran.Ended c m → Replied code p given memory (Ended c m) memory
+    pub ends_so : {c : Cause} {m : ℕ} → r ≡ Err (coded.Ended c m) → Replied code p given memory (Ok (Ended c m)) memory
     unfolding memory_after
     ends_so e = replied (rw e at came.shows) refl refl
 
-    pub stuck_so : r ≡ ran.Stuck → Replied code p given memory (Refused refusal.Stuck) memory
+    pub stuck_so : r ≡ Err coded.Stuck → Replied code p given memory (Err refusal.Stuck) memory
     unfolding memory_after
     stuck_so e = replied (rw e at came.shows) refl refl
 
-    pub never_short : r ≡ ran.NoRoom → ⊥
+    pub never_short : r ≡ Err coded.NoRoom → ⊥
     never_short e = rw e at came.shows
 
-    module _ {m : ℕ} (e : r ≡ ran.Values m) where
+    module _ {m : ℕ} (e : r ≡ Ok m) where
       shown : run_at code p gs ≡ machine.ran (values (values_of own (length types)) m)
       shown = let k = rw e at came.shows in k ∙ ap (λ vs. machine.ran (values vs m)) (values_are own (variables_at code p) ∙ ap (values_of own) (sym number))
 
@@ -197,6 +193,6 @@ module _ {code directory : List ℕ} {p : ℕ} {types given memory : List ℕ} (
       has_room = let k = rw (← a.variables) at a.room in let s = size_known in omega arith
 
       pub values_so : {size : ℕ} {after : List ℕ} → size ≡ result_length (typed types) → after ≡ written (values_of own (length types)) memory
-          → Replied code p given memory (Values m size) after
+          → Replied code p given memory (Ok (Values m size)) after
       unfolding memory_after
-      values_so s q = replied shown (ap (Values m) (s ∙ sym size_known)) q
+      values_so s q = replied shown (ap (λ (n : ℕ). Ok (Values m n)) (s ∙ sym size_known)) q

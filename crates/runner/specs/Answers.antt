@@ -1,7 +1,6 @@
 -- What each answer of running means.
-use Rattle.std.specs.Prelude.{ℕ, ◌<◌, ◌≤◌, ◌≡◌, true, false, List, [], ◌++◌, length, drop}
+use Rattle.std.specs.Prelude.{ℕ, ◌<◌, ◌≤◌, ◌≡◌, true, false, List, [], ◌++◌, length, drop, Option, Ok}
 use Rattle.calculus.specs.declared.Value.{Value}
-use Rattle.calculus.specs.declared.Given.{Given}
 use Rattle.answers.specs.declared.Cause.{Cause}
 use Rattle.answers.specs.declared.Refusal.TheVariants.{NoSuchScope, BadInput, BufferTooSmall, BadCode, Stuck}
 use Rattle.answers.specs.declared.Answer.TheVariants.{Values, Ended}
@@ -23,7 +22,7 @@ pub record Sought (code : List ℕ) (i : ℕ) : Type 0 where
 -- and the input list is good, and the result memory long enough
 pub record Entering (code : List ℕ) (i : ℕ) (list : List ℕ) (room : ℕ) : Type 0 where
   pub asked : Sought code i
-  pub given : List Given
+  pub given : List (Option Value)
   pub read : inputs (variables_of (blocks_of code) i) list ≡ good given
   pub fitting : Fitting (variables_of (blocks_of code) i) given
   pub enough : result_length (variables_of (blocks_of code) i) ≤ room
@@ -33,13 +32,13 @@ pub data Answered (code : List ℕ) (i : ℕ) (list : List ℕ) (room : ℕ) : R
   unsound : accepted code ≡ false → Answered code i list room (refuse BadCode)
   absent : accepted code ≡ true → has_block (blocks_of code) i ≡ false → Answered code i list room (refuse NoSuchScope)
   malformed : Sought code i → inputs (variables_of (blocks_of code) i) list ≡ bad → Answered code i list room (refuse BadInput)
-  short : Sought code i → (given : List Given) → inputs (variables_of (blocks_of code) i) list ≡ good given
+  short : Sought code i → (given : List (Option Value)) → inputs (variables_of (blocks_of code) i) list ≡ good given
       → room < result_length (variables_of (blocks_of code) i) → Answered code i list room (refuse BufferTooSmall)
   jammed : (e : Entering code i list room) → run_in (blocks_of code) i e.given ≡ stuck → Answered code i list room (refuse Stuck)
   stopped : (e : Entering code i list room) (cause : Cause) (count : ℕ) → run_in (blocks_of code) i e.given ≡ ran (ended cause count)
-      → Answered code i list room (record { answer = Ended cause count; written = [] })
+      → Answered code i list room (record { answer = Ok (Ended cause count); written = [] })
   finished : (e : Entering code i list room) (vs : List Value) (count : ℕ) → run_in (blocks_of code) i e.given ≡ ran (values vs count)
-      → Answered code i list room (record { answer = Values count (length (results vs)); written = results vs })
+      → Answered code i list room (record { answer = Ok (Values count (length (results vs))); written = results vs })
 
 -- where the answer is values, with a count and a length: the memory before and after
 pub record InValues (code : List ℕ) (i : ℕ) (list memory : List ℕ) (count size : ℕ) (after : List ℕ) : Type 0 where

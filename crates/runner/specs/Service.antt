@@ -1,5 +1,5 @@
 -- The service, and the service over the directory.
-use Rattle.std.specs.Prelude.{ℕ, ◌<◌, ◌≤◌, ◌≡◌, true, List, length}
+use Rattle.std.specs.Prelude.{ℕ, ◌<◌, ◌≤◌, ◌≡◌, true, List, length, Result}
 use Rattle.lists.specs.Reading.{typed}
 use Rattle.lists.specs.Results.{result_length}
 use Rattle.evaluation.specs.Types.{Fitting}
@@ -10,9 +10,10 @@ use Rattle.machine.specs.Service.{reply, run}
 use Rattle.directory.specs.Tabled.{block_at, block_count, Tabled}
 use Rattle.instructions.specs.Views.{givens_at}
 use Rattle.blocks.specs.Entries.{run_at, variables_at}
+use Rattle.answers.specs.declared.Refusal.{Refusal}
 
 -- the answer and the memory are those of running
-abbrev pub Runs : List ℕ → ℕ → List ℕ → List ℕ → Answer → List ℕ → Type 0
+abbrev pub Runs : List ℕ → ℕ → List ℕ → List ℕ → Result Answer Refusal → List ℕ → Type 0
 Runs code i list before = Responds (run code i list (length before)) before
 
 -- accepted code with its directory
@@ -30,5 +31,5 @@ pub record Asked (code directory : List ℕ) (p : ℕ) (types given memory : Lis
   pub room : result_length (block_at code p).variables ≤ length memory
 
 -- the answer and the memory are those of entering block p with what the cells give
-abbrev pub Replied : List ℕ → ℕ → List ℕ → List ℕ → Answer → List ℕ → Type 0
+abbrev pub Replied : List ℕ → ℕ → List ℕ → List ℕ → Result Answer Refusal → List ℕ → Type 0
 Replied code p given = Responds (reply (run_at code p (givens_at given 0 (variables_at code p))))

@@ -8,13 +8,13 @@ ghost use Rattle.directory.specs.Tabled.{Room};
 ghost use Rattle.runner.specs.Service.{Ready, Asked, Replied, Runs};
 
 use answers::{Answer, Refusal};
-use blocks::{Ran, run_cells};
+use blocks::{Halt, run_cells};
 use directory::{fill_types, place_of};
 use inputs::read_by;
 use record::KIND_SCOPE;
 use results::{length_by, write_by};
 use slices::{byte_at, part_of};
-use verifier::{Verdict, verify};
+use verifier::verify;
 
 // Runs block p, whose variables have these type bytes, with what is given, and writes the results.
 fn run_block(
@@ -24,20 +24,20 @@ fn run_block(
     types: &[u8],
     given: &[u64],
     results: &mut [u8],
-) -> Answer
+) -> Result<Answer, Refusal>
     requires { Asked code.now directory.now p types.now given.now results.old }
     ensures { Replied code.now p given.now results.old result results.new }
 {
     let mut own = [0u64; 32];
     match run_cells(code, directory, p, given, &mut own) {
-        Ran::Values(count) => {
+        Ok(count) => {
             write_by(types.len(), &own, results);
-            Answer::Values(count, length_by(types))
+            Ok(Answer::Values(count, length_by(types)))
         }
-        Ran::Ended(c, count) => Answer::Ended(c, count),
-        Ran::Stuck => Answer::Refused(Refusal::Stuck),
+        Err(Halt::Ended(c, count)) => Ok(Answer::Ended(c, count)),
+        Err(Halt::Stuck) => Err(Refusal::Stuck),
         // Never met: a run that has no room is made again with room that always suffices.
-        Ran::NoRoom => Answer::Refused(Refusal::Stuck),
+        Err(Halt::NoRoom) => Err(Refusal::Stuck),
     }
 }
 
@@ -48,25 +48,23 @@ fn run_accepted(
     scope: usize,
     inputs: &[u8],
     results: &mut [u8],
-) -> Answer
+) -> Result<Answer, Refusal>
     requires { Ready code.now directory.now }
     ensures { Runs code.now scope inputs.now results.old result results.new }
 {
-    let place = place_of(directory, scope);
-    if place == 0 {
-        return Answer::Refused(Refusal::NoSuchScope);
-    }
-    let p = place - 1;
+    let Some(p) = place_of(directory, scope) else {
+        return Err(Refusal::NoSuchScope);
+    };
     let mut bytes = [0u8; 32];
     let count = fill_types(directory, p, &mut bytes);
     let types = part_of(&bytes, 0, count);
     let mut given = [0u64; 32];
     if !read_by(types, inputs, &mut given) {
-        return Answer::Refused(Refusal::BadInput);
+        return Err(Refusal::BadInput);
     }
     let length = length_by(types);
     if results.len() < length {
-        return Answer::Refused(Refusal::BufferTooSmall);
+        return Err(Refusal::BufferTooSmall);
     }
     run_block(code, directory, p, types, &given, results)
 }
@@ -78,13 +76,13 @@ fn run_in(
     scope: usize,
     inputs: &[u8],
     results: &mut [u8],
-) -> Answer
+) -> Result<Answer, Refusal>
     requires { Room code.now directory.old × ((i : ℕ) → place_in directory.old i ≡ 0) }
     ensures { Runs code.now scope inputs.now results.old result results.new }
 {
     match verify(code, directory) {
-        Verdict::Accepted(_) => run_accepted(code, directory, scope, inputs, results),
-        Verdict::Refused => Answer::Refused(Refusal::BadCode),
+        Some(_) => run_accepted(code, directory, scope, inputs, results),
+        None => Err(Refusal::BadCode),
     }
 }
 
@@ -93,10 +91,7 @@ fn may_begin(code: &[u8], at: usize) -> bool
     requires { at < 128 }
     ensures { result ≡ begins_at code.now at }
 {
-    if byte_at(code, at) != KIND_SCOPE {
-        return false;
-    }
-    byte_at(code, at + 1) < 32
+    byte_at(code, at) == KIND_SCOPE && byte_at(code, at + 1) < 32
 }
 
 // How many bytes of short code may begin a block.
@@ -104,13 +99,11 @@ fn beginnings(code: &[u8]) -> usize
     requires { length code.now < 128 }
     ensures { result ≡ beginnings_in code.now }
 {
-    let mut count: usize = 0;
-    let mut at: usize = 0;
-    while at < code.len() {
+    let mut count = 0;
+    for at in 0..code.len() {
         if may_begin(code, at) {
             count += 1;
         }
-        at += 1;
     }
     count
 }
@@ -119,14 +112,11 @@ fn beginnings(code: &[u8]) -> usize
 fn has_few_blocks(code: &[u8]) -> bool
     ensures { result ≡ true → beginnings_in code.now ≤ 4 }
 {
-    if 128 <= code.len() {
-        return false;
-    }
-    beginnings(code) <= 4
+    code.len() < 128 && beginnings(code) <= 4
 }
 
 // Runs a scope of code with an input list. The results are written only where the run ends in values.
-pub fn run(code: &[u8], scope: usize, inputs: &[u8], results: &mut [u8]) -> Answer
+pub fn run(code: &[u8], scope: usize, inputs: &[u8], results: &mut [u8]) -> Result<Answer, Refusal>
     ensures { Runs code.now scope inputs.now results.old result results.new }
 {
     if has_few_blocks(code) {

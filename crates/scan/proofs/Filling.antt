@@ -9,11 +9,11 @@ use mathlib.Core.List.{List, []}
 use native.Mathlib.Omega.{arith}
 use lib.ListN.{length, get_or, drop, drop_of_length-le}
 use borrow.Author.Tests.{eqb-false, not-false}
+use Rattle.std.specs.Prelude.{None, Err, Ok}
 use Rattle.record.specs.Kinds.{shape_in}
 use Rattle.record.specs.declared.Medium.TheVariants.{Book}
 use Rattle.book.specs.declared.Tally.{Tally}
 use Rattle.answers.specs.declared.Fault.{Fault}
-use Rattle.book.specs.declared.Scanned.TheVariants.{Sound}
 use Rattle.book.specs.Records.{Met, stage_of, counted, start, follows, records_from, records, unknown_kind}
 use Rattle.book.specs.Decode.{Parsed, in_front, parse, scopes_of}
 use Rattle.book.specs.References.{scope_at}
@@ -21,10 +21,8 @@ use Rattle.book.specs.Judge.{scan}
 use Rattle.index.specs.Index.{index_at, Placed}
 use Rattle.book.specs.Limits.{InLimits, Within}
 use Rattle.scan.specs.Counting.{slot_of, number_of, scopes_with, tally_of, Counting}
-use Rattle.scan.specs.Step.{end_at, met_at, step_at}
+use Rattle.scan.specs.Step.{passed, end_at, met_at, step_at}
 use Rattle.scan.specs.Filling.{scope_bytes, stored, Room, Blank, Filled, Recorded}
-use Rattle.scan.specs.declared.Step.TheVariants.{Stop, Next}
-use Rattle.scan.specs.declared.Reading.TheVariants.{Faulty, Complete}
 use Rattle.scan.proofs.Steps as steps
 use Rattle.scan.proofs.Steps.{Read, read, records_at, ends_at, scan_next, scan_stop, scan_end}
 use Rattle.book.proofs.Sorts.{Sort, variable, sub_scope, node, clause, number, stage, base, limit, count, items_of, from, long, Staged, begins, has, staged, base_below, limit_below, stage_two, scopes_new, scopes_turn, begun, scopes_behind}
@@ -54,7 +52,7 @@ pub record Going (bytes : List ℕ) (room : ℕ) (index : List ℕ) (last scopes
   pub begun : scopes + scope_bytes (drop at bytes) ≤ scope_bytes bytes
   pub counting : Counting index last scopes
   pub same : scan (records_from (drop at bytes) 0 (tally_of index last scopes)) ≡ scan (records bytes)
-  pub filling : scan (records bytes) ≡ Sound → Filling bytes index (tally_of index last scopes) at
+  pub filling : scan (records bytes) ≡ None → Filling bytes index (tally_of index last scopes) at
 
 pub going_start : (bytes index : List ℕ) → Blank bytes index → Going bytes (length index) index 0 0 0
 unfolding records scopes_of
@@ -105,7 +103,7 @@ fill_end bytes index t at h l w f =
     }
 
 pub going_end : (bytes : List ℕ) (room : ℕ) (index : List ℕ) (last scopes at : ℕ) → length bytes ≤ at → Going bytes room index last scopes at
-    → Recorded bytes index (Complete scopes)
+    → Recorded bytes index (Ok scopes)
 going_end bytes room index last scopes at h g =
     let sound = scan_end bytes at (tally_of index last scopes) h ∙ g.same in
     record {
@@ -116,7 +114,7 @@ going_end bytes room index last scopes at h g =
     }
 
 pub going_stop : (bytes : List ℕ) (room : ℕ) (index : List ℕ) (last scopes at : ℕ) → Going bytes room index last scopes at → at < length bytes → (f : Fault)
-    → Stop f ≡ step_at bytes at (tally_of index last scopes) → Recorded bytes index (Faulty f)
+    → Err f ≡ step_at bytes at (tally_of index last scopes) → Recorded bytes index (Err f)
 going_stop bytes room index last scopes at g here f e =
     record {
       answer = scan_stop bytes at (tally_of index last scopes) f here e ∙ g.same;
@@ -124,7 +122,7 @@ going_stop bytes room index last scopes at g here f e =
     }
 
 module _ (bytes : List ℕ) (room : ℕ) (index : List ℕ) (last scopes at : ℕ) (g : Going bytes room index last scopes at) (here : at < length bytes)
-    (st next : ℕ) (e : Next st next ≡ step_at bytes at (tally_of index last scopes)) where
+    (st next : ℕ) (e : Ok (passed st next) ≡ step_at bytes at (tally_of index last scopes)) where
   abbrev t : Tally
   t = tally_of index last scopes
 

@@ -14,6 +14,7 @@ use lib.ListN.{length, get_or, drop, length-drop, drop_of_length-le}
 use lib.Seq.{drop-cons, drop-drop}
 use lib.Dec.{eqb, ltb}
 use borrow.Author.Tests.{eqb-false, lt-ltb, ltb-true, ltb-false}
+use Rattle.std.specs.Prelude.{Option, None, Some, Result, Ok, Err}
 use Rattle.record.specs.Kinds.{shape_in}
 use Rattle.record.specs.declared.Medium.TheVariants.{Book}
 use Rattle.record.specs.Record.{pick_record, record_at, body_at}
@@ -23,34 +24,31 @@ use Rattle.record.specs.declared.Record.TheVariants.{Truncated as Record-as-Trun
 use Rattle.book.specs.declared.Tally.{Tally}
 use Rattle.answers.specs.declared.Fault.{Fault}
 use Rattle.answers.specs.declared.Fault.TheVariants.{Truncated, UnknownKind, OutOfOrder, LimitExceeded, InvalidByte}
-use Rattle.book.specs.declared.Scanned.{Scanned}
-use Rattle.book.specs.declared.Scanned.TheVariants.{Sound, Faulty}
 use Rattle.book.specs.Records.{Met, stage_of, counted, records_from, follows, exceeds, invalid, unknown_kind, truncated, out_of_order, limit_exceeded, invalid_byte}
 use Rattle.book.specs.Judge.{scan}
 use Rattle.book.proofs.Shapes.{stage_below}
 use Rattle.book.proofs.Sound.{Clean, in_limits}
-use Rattle.scan.specs.declared.Step.{Step}
-use Rattle.scan.specs.declared.Step.TheVariants.{Stop, Next}
+use Rattle.scan.specs.declared.Passed.{Passed}
 use Rattle.book.specs.Limits.{InLimits}
 use Rattle.scan.specs.Counting.{tally_of}
-use Rattle.scan.specs.Step.{book_record_at, end_at, step_of, met_at, step_at, step_over}
+use Rattle.scan.specs.Step.{passed, book_record_at, end_at, step_of, met_at, step_at, step_over}
 
 -- what stands at a position, as the pass takes it
-abbrev pub by_record : List ℕ → ℕ → ℕ → List ℕ → ℕ → ℕ → Record → Step
-by_record index last scopes s at next End = Stop Truncated
-by_record index last scopes s at next Unknown = Stop UnknownKind
-by_record index last scopes s at next Record-as-Truncated = Stop Truncated
+abbrev pub by_record : List ℕ → ℕ → ℕ → List ℕ → ℕ → ℕ → Record → Result Passed Fault
+by_record index last scopes s at next End = Err Truncated
+by_record index last scopes s at next Unknown = Err UnknownKind
+by_record index last scopes s at next Record-as-Truncated = Err Truncated
 by_record index last scopes s at next (Whole k st n) = step_over index last scopes k st next (body_at s at n)
 
 module _ (index : List ℕ) (last scopes : ℕ) (s : List ℕ) (at next k st n : ℕ) where
   by_tests : (a b : Bool)
       → by_record index last scopes s at next (pick_record a Unknown (pick_record b Record-as-Truncated (Whole k st n)))
-      ≡ cond a (Stop UnknownKind)
-      (cond b (Stop Truncated)
-      (cond (not (a || follows last st)) (Stop OutOfOrder)
-      (cond (exceeds (counted st (tally_of index last scopes))) (Stop LimitExceeded)
-      (cond (not b && invalid k (body_at s at n)) (Stop InvalidByte)
-      (Next st next)))))
+      ≡ cond a (Err UnknownKind)
+      (cond b (Err Truncated)
+      (cond (not (a || follows last st)) (Err OutOfOrder)
+      (cond (exceeds (counted st (tally_of index last scopes))) (Err LimitExceeded)
+      (cond (not b && invalid k (body_at s at n)) (Err InvalidByte)
+      (Ok (passed st next))))))
   unfolding step_over
   by_tests true b = refl
   by_tests false true = refl
@@ -106,11 +104,11 @@ whole_step book at index last scopes h k st n r body eb next en =
     rw (eb, en') (by_record_lem book at index last scopes h (Whole k st n) r)
 
 -- what a step answers where the rest answers r
-abbrev pub answer : Step → Scanned → Scanned
-answer (Stop f) r = Faulty f
-answer (Next s n) r = r
+abbrev pub answer : Result Passed Fault → Option Fault → Option Fault
+answer (Err f) r = Some f
+answer (Ok p) r = r
 
-push : (b : Bool) (f : Fault) (y : Step) (r : Scanned) → answer (cond b (Stop f) y) r ≡ cond b (Faulty f) (answer y r)
+push : (b : Bool) (f : Fault) (y : Result Passed Fault) (r : Option Fault) → answer (cond b (Err f) y) r ≡ cond b (Some f) (answer y r)
 push true f y r = refl
 push false f y r = refl
 
@@ -118,33 +116,42 @@ pub scan_answer : (m : Met) (next : ℕ) (ms : List Met) → scan (m ∷ ms) ≡
 unfolding scan step_of
 scan_answer m next ms = sym (simp push)
 
-past : (s n : ℕ) (b : Bool) (f : Fault) (y : Step) → Next s n ≡ cond b (Stop f) y → (b ≡ false) × (Next s n ≡ y)
+past : (s n : ℕ) (b : Bool) (f : Fault) (y : Result Passed Fault) → Ok (passed s n) ≡ cond b (Err f) y → (b ≡ false) × (Ok (passed s n) ≡ y)
 past s n true f y e = let z : ◌≡◌ {A = ℕ} 0 1 = cc in absurd (omega arith)
 past s n false f y e = (refl, e)
+
+-- what a record without a fault has
+abbrev stage_in : Result Passed Fault → ℕ
+stage_in (Ok p) = p.stage
+stage_in (Err f) = 0
+
+abbrev next_in : Result Passed Fault → ℕ
+next_in (Ok p) = p.next
+next_in (Err f) = 0
 
 pub record Read (m : Met) (s n : ℕ) : Type 0 where
   pub clean : Clean m
   pub stage : s ≡ stage_of m
   pub body : n ≡ (shape_in Book m.kind).length
 
-pub read : (m : Met) (end s next : ℕ) → Next s next ≡ step_of m end → Read m s (shape_in Book m.kind).length × (next ≡ end)
+pub read : (m : Met) (end s next : ℕ) → Ok (passed s next) ≡ step_of m end → Read m s (shape_in Book m.kind).length × (next ≡ end)
 unfolding step_of
 read m end s next e =
-    let five = cond (invalid_byte m) (Stop InvalidByte) (Next (stage_of m) end) in
-    let four = cond (limit_exceeded m) (Stop LimitExceeded) five in
-    let three = cond (out_of_order m) (Stop OutOfOrder) four in
-    let one = cond (truncated m) (Stop Truncated) three in
+    let five = cond (invalid_byte m) (Err InvalidByte) (Ok (passed (stage_of m) end)) in
+    let four = cond (limit_exceeded m) (Err LimitExceeded) five in
+    let three = cond (out_of_order m) (Err OutOfOrder) four in
+    let one = cond (truncated m) (Err Truncated) three in
     let a = past s next (unknown_kind m) UnknownKind one e in
     let b = past s next (truncated m) Truncated three a.1 in
     let d = past s next (out_of_order m) OutOfOrder four b.1 in
     let f = past s next (limit_exceeded m) LimitExceeded five d.1 in
-    let g = past s next (invalid_byte m) InvalidByte (Next (stage_of m) end) f.1 in (
+    let g = past s next (invalid_byte m) InvalidByte (Ok (passed (stage_of m) end)) f.1 in (
       record {
         clean = record { known = a.0; whole = b.0; ordered = d.0; few = f.0; valid = g.0 };
-        stage = cc g.1;
+        stage = ap stage_in g.1;
         body = refl;
       },
-      cc g.1,
+      ap next_in g.1,
     )
 
 -- Reading on
@@ -194,7 +201,7 @@ module _ (book : List ℕ) (at : ℕ) (t : Tally) (s n : ℕ) (inside : at < len
       let w : ltb (length book - (at + 1)) n ≡ false = rw r.body (rw length-drop at r.clean.whole) in
       rw (lt-ltb at (length book) inside, w)
 
-  pub scan_next : (next : ℕ) → Next s next ≡ step_at book at t → scan (records_from (drop (at + 1 + n) book) 0 (counted s t)) ≡ scan (records_from (drop at book) 0 t)
+  pub scan_next : (next : ℕ) → Ok (passed s next) ≡ step_at book at t → scan (records_from (drop (at + 1 + n) book) 0 (counted s t)) ≡ scan (records_from (drop at book) 0 t)
   unfolding step_at
   scan_next next e =
       sym
@@ -202,8 +209,8 @@ module _ (book : List ℕ) (at : ℕ) (t : Tally) (s n : ℕ) (inside : at < len
       ∙ scan_answer (met_at book at t) (end_at book at (shape_in Book (get_or book at 0)).length) (records_from (drop (at + 1 + n) book) 0 (counted s t))
       ∙ rw (← e))
 
-pub scan_stop : (book : List ℕ) (at : ℕ) (t : Tally) (f : Fault) → at < length book → Stop f ≡ step_at book at t
-    → Faulty f ≡ scan (records_from (drop at book) 0 t)
+pub scan_stop : (book : List ℕ) (at : ℕ) (t : Tally) (f : Fault) → at < length book → Err f ≡ step_at book at t
+    → Some f ≡ scan (records_from (drop at book) 0 t)
 unfolding step_at
 scan_stop book at t f h e =
     sym
@@ -211,6 +218,6 @@ scan_stop book at t f h e =
     ∙ scan_answer (met_at book at t) (end_at book at (shape_in Book (get_or book at 0)).length) _
     ∙ rw (← e))
 
-pub scan_end : (book : List ℕ) (at : ℕ) (t : Tally) → length book ≤ at → Sound ≡ scan (records_from (drop at book) 0 t)
+pub scan_end : (book : List ℕ) (at : ℕ) (t : Tally) → length book ≤ at → None ≡ scan (records_from (drop at book) 0 t)
 unfolding scan records_from
 scan_end book at t h = rw (drop_of_length-le book h)

@@ -12,6 +12,7 @@ use native.Mathlib.Omega.{arith}
 use lib.ListN.{length, get_or, set, length-set}
 use lib.Dec.{eqb, ltb}
 use borrow.Author.Tests.{eqb-true, eqb-false, eq-eqb, lt-ltb, le-ltb}
+use Rattle.std.specs.Prelude.{Ok, Err}
 use Rattle.laws.proofs.Booleans.{decide}
 use Rattle.book.specs.declared.Tally.{Tally}
 use Rattle.answers.specs.declared.Fault.TheVariants.{OutOfOrder, LimitExceeded, InvalidByte}
@@ -21,8 +22,7 @@ use Rattle.scan.specs.declared.Slot.{Slot}
 use Rattle.book.specs.Limits.{InLimits}
 use Rattle.scan.specs.Counting.{slot_of, number_of, scopes_with, tally_of, Counts, Counting}
 use Rattle.scan.specs.Filling.{stored}
-use Rattle.scan.specs.Step.{step_over}
-use Rattle.scan.specs.declared.Step.TheVariants.{Stop, Next}
+use Rattle.scan.specs.Step.{passed, step_over}
 use Rattle.book.proofs.Shapes.{in_order_lem}
 use Rattle.book.proofs.Sound.{in_limits, not_exceeds, start_in_limits}
 use Rattle.scan.proofs.Cells.{with_record, stored_other, count_own, column_zero}
@@ -151,7 +151,7 @@ module _ (index : List ℕ) (last scopes : ℕ) (c : Counting index last scopes)
 
   -- each way through `step_over`
   module _ (k st n : ℕ) (body : List ℕ) (known : 1 ≤ st) (below : st ≤ 5) (f : Bool) (ef : f ≡ follows last st) where
-    pub out_of_order_lem : f ≡ false → Stop OutOfOrder ≡ step_over index last scopes k st n body
+    pub out_of_order_lem : f ≡ false → Err OutOfOrder ≡ step_over index last scopes k st n body
     unfolding step_over
     out_of_order_lem h = rw (← ef, h)
 
@@ -160,16 +160,16 @@ module _ (index : List ℕ) (last scopes : ℕ) (c : Counting index last scopes)
       counts_after = counts_here st below (λ h. (in_order_lem last st (sym ef ∙ ok) h).0)
 
       module _ (slot : Slot) (es : slot ≡ slot_of st) (m : ℕ) (em : m ≡ number_of index st scopes) where
-        pub limit_exceeded_lem : slot.limit ≤ m → Stop LimitExceeded ≡ step_over index last scopes k st n body
+        pub limit_exceeded_lem : slot.limit ≤ m → Err LimitExceeded ≡ step_over index last scopes k st n body
         unfolding step_over
         limit_exceeded_lem h = rw (← ef, ok, over_limit st known below (rw (← es, ← em) h))
 
         module _ (few : m < slot.limit) (i : Bool) (ei : i ≡ invalid k body) where
-          pub invalid_byte_lem : i ≡ true → Stop InvalidByte ≡ step_over index last scopes k st n body
+          pub invalid_byte_lem : i ≡ true → Err InvalidByte ≡ step_over index last scopes k st n body
           unfolding step_over
           invalid_byte_lem h = rw (← ef, ok, in_limit st known below (rw (← es, ← em) few), ← ei, h)
 
-          pub no_fault_found : i ≡ false → Next st n ≡ step_over index last scopes k st n body
+          pub no_fault_found : i ≡ false → Ok (passed st n) ≡ step_over index last scopes k st n body
           unfolding step_over
           no_fault_found h = rw (← ef, ok, in_limit st known below (rw (← es, ← em) few), ← ei, h)
 

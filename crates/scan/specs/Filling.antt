@@ -1,14 +1,11 @@
 -- Filling the index of a book.
-use Rattle.std.specs.Prelude.{ℕ, suc, ◌+◌, ◌-◌, ◌*◌, ◌≤◌, ◌<◌, ◌≡◌, Bool, true, cond, List, [], ◌∷◌, length, get_or, set, eqb, ltb}
-use Rattle.book.specs.declared.Scanned.{Scanned}
-use Rattle.book.specs.declared.Scanned.TheVariants as scanned
+use Rattle.std.specs.Prelude.{ℕ, suc, ◌+◌, ◌-◌, ◌*◌, ◌≤◌, ◌<◌, ◌≡◌, Bool, true, cond, List, [], ◌∷◌, length, get_or, set, eqb, ltb, Option, None, Some, Result, Err, Ok}
 use Rattle.book.specs.Records.{records}
 use Rattle.book.specs.Decode.{scopes_of}
 use Rattle.book.specs.Judge.{scan}
 use Rattle.index.specs.Index.{cell_of, Laid}
 use Rattle.scan.specs.Counting.{slot_of, number_of, Counts}
-use Rattle.scan.specs.declared.Reading.{Reading}
-use Rattle.scan.specs.declared.Reading.TheVariants.{Faulty, Complete}
+use Rattle.answers.specs.declared.Fault.{Fault}
 
 -- the index with a record of a stage: where it begins, and one more of them; a record of stage 1 has no column
 unfoldable pub stored : List ℕ → ℕ → ℕ → ℕ → List ℕ
@@ -48,11 +45,11 @@ pub record Filled (bytes index : List ℕ) (n : ℕ) : Type 0 where
   pub scopes : n ≡ length (scopes_of bytes)
 
 -- whether the records are sound
-abbrev pub scanned_by : Reading → Scanned
-scanned_by (Faulty f) = scanned.Faulty f
-scanned_by (Complete n) = scanned.Sound
+abbrev pub scanned_by : Result ℕ Fault → Option Fault
+scanned_by (Err f) = Some f
+scanned_by (Ok n) = None
 
 -- an answer, and of sound records the index
-pub record Recorded (bytes index : List ℕ) (r : Reading) : Type 0 where
+pub record Recorded (bytes index : List ℕ) (r : Result ℕ Fault) : Type 0 where
   pub answer : scanned_by r ≡ scan (records bytes)
-  pub laid : (n : ℕ) → r ≡ Complete n → Filled bytes index n
+  pub laid : (n : ℕ) → r ≡ Ok n → Filled bytes index n

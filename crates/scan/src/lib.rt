@@ -11,11 +11,11 @@ use index::{CLAUSES, NODES, ROW, ROWS, SORTS, SUB_SCOPES, VARIABLES};
 use record::{KIND_SCOPE, Medium, Record, body_at, record_at};
 use validity::{is_invalid, may_follow};
 
-// A record: its first fault, or its stage and the position after it.
+// A record without a fault: its stage, and the position after it.
 #[derive(Clone, Copy)]
-enum Step {
-    Stop(Fault),
-    Next(usize, usize),
+struct Passed {
+    pub stage: usize,
+    pub next: usize,
 }
 
 // The column of a scope's row where the positions of a stage begin, and how many records of it there may be.
@@ -32,14 +32,8 @@ struct Reader<'a> {
     pub at: usize,
 }
 
-// What reading all records leaves: the first faulty one's first fault, or the index of so many scopes.
-#[derive(Clone, Copy)]
-pub enum Reading {
-    Faulty(Fault),
-    Complete(usize),
-}
-
 // The slot of a stage; stage 1 has no column.
+#[tactic(auto, unfolding(crate::specs::Counting::slot_of))]
 fn slot_of(stage: usize) -> Slot
     ensures { result ≡ slot_of stage }
 {
@@ -73,10 +67,11 @@ fn number_of(index: &[u16], stage: usize, scopes: usize) -> usize
     if stage < 2 {
         return scopes;
     }
-    index[(scopes - 1) * SORTS + (stage - 2)] as usize
+    usize::from(index[(scopes - 1) * SORTS + (stage - 2)])
 }
 
 // What stands at a position of a book.
+#[tactic(auto, unfolding(crate::specs::Step::book_record_at))]
 fn book_record_at(book: &[u8], at: usize) -> Record
     ensures { result ≡ book_record_at book.now at }
 {
@@ -84,6 +79,7 @@ fn book_record_at(book: &[u8], at: usize) -> Record
 }
 
 // The position after a record at a position, its body of so many bytes; the same position where the book ends before.
+#[tactic(auto, unfolding(crate::specs::Step::end_at))]
 fn end_at(book: &[u8], at: usize, length: usize) -> usize
     ensures { result ≡ end_at book.now at length }
 {
@@ -97,27 +93,29 @@ fn end_at(book: &[u8], at: usize, length: usize) -> usize
     start + length
 }
 
-// A reader of a book, from a position on.
-fn open_at<'a>(src: &'a [u8], at: usize) -> Reader<'a>
-    ensures { (result.src ≡ src.entry) × (result.at ≡ at) }
-{
-    Reader { src, at }
-}
+impl<'a> Reader<'a> {
+    // A reader of a book, from a position on.
+    fn open_at(src: &'a [u8], at: usize) -> Reader<'a>
+        ensures { (result.src ≡ src.entry) × (result.at ≡ at) }
+    {
+        Reader { src, at }
+    }
 
-// What stands at a reader's position.
-fn next<'a>(r: Reader<'a>) -> Record
-    ensures { result ≡ book_record_at r.entry.src.now r.entry.at }
-{
-    book_record_at(r.src, r.at)
-}
+    // What stands at its position.
+    fn next(self) -> Record
+        ensures { result ≡ book_record_at self.entry.src.now self.entry.at }
+    {
+        book_record_at(self.src, self.at)
+    }
 
-// The reader after the record at a reader's position, its body of so many bytes.
-fn after<'a>(r: Reader<'a>, length: usize) -> Reader<'a>
-    ensures { (result.src ≡ r.entry.src) × (result.at ≡ end_at r.entry.src.now r.entry.at length) }
-{
-    Reader {
-        src: r.src,
-        at: end_at(r.src, r.at, length),
+    // The reader after the record at its position, its body of so many bytes.
+    fn after(self, length: usize) -> Reader<'a>
+        ensures { (result.src ≡ self.entry.src) × (result.at ≡ end_at self.entry.src.now self.entry.at length) }
+    {
+        Reader {
+            src: self.src,
+            at: end_at(self.src, self.at, length),
+        }
     }
 }
 
@@ -125,14 +123,13 @@ fn after<'a>(r: Reader<'a>, length: usize) -> Reader<'a>
 fn read_from(book: &[u8], at: usize) -> Record
     ensures { result ≡ book_record_at book.now at }
 {
-    next(open_at(book, at))
+    Reader::open_at(book, at).next()
 }
 
 fn read_on(book: &[u8], at: usize, length: usize) -> usize
     ensures { result ≡ end_at book.now at length }
 {
-    let reader = after(open_at(book, at), length);
-    reader.at
+    Reader::open_at(book, at).after(length).at
 }
 
 // A whole record, up to the next one, after one of the stage `last`, the index having those before it.
@@ -144,32 +141,38 @@ fn step_over(
     stage: usize,
     next: usize,
     body: &[u8],
-) -> Step
+) -> Result<Passed, Fault>
     requires { Counting index.now last scopes × (1 ≤ stage) × (stage ≤ 5) }
     ensures { result ≡ step_over index.now last scopes kind stage next body.now }
 {
     if !may_follow(last, stage) {
-        return Step::Stop(Fault::OutOfOrder);
+        return Err(Fault::OutOfOrder);
     }
     let slot = slot_of(stage);
     if slot.limit <= number_of(index, stage, scopes) {
-        return Step::Stop(Fault::LimitExceeded);
+        return Err(Fault::LimitExceeded);
     }
     if is_invalid(kind, body) {
-        return Step::Stop(Fault::InvalidByte);
+        return Err(Fault::InvalidByte);
     }
-    Step::Next(stage, next)
+    Ok(Passed { stage, next })
 }
 
 // The record at a position, after one of the stage `last`, the index having those before it.
-fn step_at(book: &[u8], index: &[u16], at: usize, last: usize, scopes: usize) -> Step
+fn step_at(
+    book: &[u8],
+    index: &[u16],
+    at: usize,
+    last: usize,
+    scopes: usize,
+) -> Result<Passed, Fault>
     requires { (at < length book.now) × Counting index.now last scopes }
     ensures { result ≡ step_at book.now at (tally_of index.now last scopes) }
 {
     match read_from(book, at) {
-        Record::End => Step::Stop(Fault::Truncated),
-        Record::Unknown => Step::Stop(Fault::UnknownKind),
-        Record::Truncated => Step::Stop(Fault::Truncated),
+        Record::End => Err(Fault::Truncated),
+        Record::Unknown => Err(Fault::UnknownKind),
+        Record::Truncated => Err(Fault::Truncated),
         Record::Whole(kind, stage, length) => {
             let body = body_at(book, at, length);
             let next = read_on(book, at, length);
@@ -195,6 +198,7 @@ fn store(index: &mut [u16], at: usize, stage: usize, scopes: usize)
 }
 
 // The number of scopes with a record of a stage.
+#[tactic(auto, unfolding(crate::specs::Counting::scopes_with))]
 fn scopes_with(stage: usize, scopes: usize) -> usize
     requires { scopes ≤ 32 }
     ensures { result ≡ scopes_with stage scopes }
@@ -207,13 +211,12 @@ fn scope_bytes(book: &[u8]) -> u16
     requires { length book.now < 512 }
     ensures { result ≡ scope_bytes book.now }
 {
+    // `filter` and `count` are slower: the compiler then counts byte by byte.
     let mut count: u16 = 0;
-    let mut at: usize = 0;
-    while at < book.len() {
-        if book[at] == KIND_SCOPE {
+    for byte in book {
+        if *byte == KIND_SCOPE {
             count += 1;
         }
-        at += 1;
     }
     count
 }
@@ -222,14 +225,11 @@ fn scope_bytes(book: &[u8]) -> u16
 pub fn has_few_scopes(book: &[u8]) -> bool
     ensures { FewScopes book.now result }
 {
-    if 512 <= book.len() {
-        return false;
-    }
-    scope_bytes(book) <= 8
+    book.len() < 512 && scope_bytes(book) <= 8
 }
 
 // Reads the records of a book in one pass: the first faulty one's first fault, or the index by which the records are found.
-pub fn read_records(book: &[u8], index: &mut [u16]) -> Reading
+pub fn read_records(book: &[u8], index: &mut [u16]) -> Result<usize, Fault>
     requires { Blank book.now index.old }
     ensures { Recorded book.now index.new result }
 {
@@ -237,17 +237,11 @@ pub fn read_records(book: &[u8], index: &mut [u16]) -> Reading
     let mut scopes: usize = 0;
     let mut at: usize = 0;
     while at < book.len() {
-        match step_at(book, index, at, last, scopes) {
-            Step::Stop(f) => {
-                return Reading::Faulty(f);
-            }
-            Step::Next(stage, next) => {
-                store(index, at, stage, scopes);
-                scopes = scopes_with(stage, scopes);
-                last = stage;
-                at = next;
-            }
-        }
+        let Passed { stage, next } = step_at(book, index, at, last, scopes)?;
+        store(index, at, stage, scopes);
+        scopes = scopes_with(stage, scopes);
+        last = stage;
+        at = next;
     }
-    Reading::Complete(scopes)
+    Ok(scopes)
 }

@@ -13,43 +13,41 @@ use mathlib.Core.List.{List, [], ◌∷◌, ◌++◌, map}
 use native.Mathlib.Omega.{arith}
 use lib.ListN.{length, get_or, set, take, drop, replicate, length-set, length-append, length-drop, get_or-append}
 use lib.Seq.{get_or-set_same, get_or-set_other, get_or-append-add, length-take-le, get_or-take, get_or-drop}
+use Rattle.std.specs.Prelude.{Result, Ok, Err, Option, None, Some}
 use Rattle.calculus.specs.declared.Value.{Value}
 use Rattle.calculus.specs.declared.Value.TheVariants.{Truth}
-use Rattle.calculus.specs.declared.Outcome.{Outcome}
-use Rattle.calculus.specs.declared.Outcome.TheVariants.{Gives, Ends}
-use Rattle.calculus.specs.declared.Given.{Given}
-use Rattle.calculus.specs.declared.Given.TheVariants.{Absent, Present}
 use Rattle.cells.specs.Codec.{empty_cell, cell_of, cause_of, Codes, Kept, AllKept}
 use Rattle.cells.specs.Cells.{given_of, given_at, held}
 use Rattle.cells.proofs.Codec.{cause_decoded, no_end, no_value_lem}
 use Rattle.cells.proofs.Variables.{given_cell, kept_nothing, kept_value}
 use Rattle.lists.specs.Writing.{values_from}
 use Rattle.scopes.specs.Steps.{givens_from}
+use Rattle.answers.specs.declared.Cause.{Cause}
 
 -- a value is in a cell, and the others are as they were
 pub record Stored (before : List ℕ) (at : ℕ) (v : Value) (after : List ℕ) : Type 0 where
   pub size : length after ≡ length before
-  pub here : given_at after at ≡ Present v
+  pub here : given_at after at ≡ Some v
   pub there : (x : ℕ) → (x ≡ at → ⊥) → given_at after x ≡ given_at before x
 
 -- a cell below every end is a value's
-pub record Valued (c : ℕ) (o : Outcome) : Type 0 where
+pub record Valued (c : ℕ) (o : Result Value Cause) : Type 0 where
   pub value : Value
-  pub gives : o ≡ Gives value
-  pub held : given_of c ≡ Present value
+  pub gives : o ≡ Ok value
+  pub held : given_of c ≡ Some value
   pub kept : Kept c
 
-pub valued : (o : Outcome) (c : ℕ) → Codes c o → c < empty_cell → Valued c o
+pub valued : (o : Result Value Cause) (c : ℕ) → Codes c o → c < empty_cell → Valued c o
 unfolding cell_of
-valued (Gives v) c h l = record { value = v; gives = refl; held = ap given_of h.is ∙ given_cell v h.fits; kept = kept_value c v h }
-valued (Ends k) c h l = no_value_lem k c h l
+valued (Ok v) c h l = record { value = v; gives = refl; held = ap given_of h.is ∙ given_cell v h.fits; kept = kept_value c v h }
+valued (Err k) c h l = no_value_lem k c h l
 
-pub ends_by : (o : Outcome) (c : ℕ) → Codes c o → empty_cell ≤ c → o ≡ Ends (cause_of c)
+pub ends_by : (o : Result Value Cause) (c : ℕ) → Codes c o → empty_cell ≤ c → o ≡ Err (cause_of c)
 unfolding cell_of
-ends_by (Gives v) c h l = no_end v c h l
-ends_by (Ends k) c h l = ap Ends (sym (ap cause_of h.is ∙ cause_decoded k))
+ends_by (Ok v) c h l = no_end v c h l
+ends_by (Err k) c h l = ap Err (sym (ap cause_of h.is ∙ cause_decoded k))
 
-pub stored : {o : Outcome} (xs : List ℕ) (at c : ℕ) (v : Valued c o) → at < length xs → Stored xs at v.value (set xs at c)
+pub stored : {o : Result Value Cause} (xs : List ℕ) (at c : ℕ) (v : Valued c o) → at < length xs → Stored xs at v.value (set xs at c)
 unfolding given_at
 stored xs at c v l =
     record {
@@ -79,7 +77,7 @@ kept_appended (z ∷ xs) ys h k zero = h zero
 kept_appended (z ∷ xs) ys h k (suc x) = kept_appended xs ys (λ x. h (suc x)) k x
 
 -- what given cells hold, as a list
-pub givens_at_lem : (cells : List ℕ) (v n x : ℕ) → x < n → get_or (givens_from cells v n) x Absent ≡ given_at cells (v + x)
+pub givens_at_lem : (cells : List ℕ) (v n x : ℕ) → x < n → get_or (givens_from cells v n) x None ≡ given_at cells (v + x)
 unfolding givens_from
 givens_at_lem cells v zero x l = absurd (omega arith)
 givens_at_lem cells v (suc n) zero l = let e : v + 0 ≡ v = omega arith in ap (given_at cells) (sym e)
@@ -87,13 +85,13 @@ givens_at_lem cells v (suc n) (suc x) l =
     let e : suc v + x ≡ v + suc x = omega arith in
     givens_at_lem cells (suc v) n x (omega arith) ∙ ap (given_at cells) e
 
-pub givens_list : (cells : List ℕ) (v : ℕ) (gs : List Given) → ((x : ℕ) → given_at cells (v + x) ≡ get_or gs x Absent) → givens_from cells v (length gs) ≡ gs
+pub givens_list : (cells : List ℕ) (v : ℕ) (gs : List (Option Value)) → ((x : ℕ) → given_at cells (v + x) ≡ get_or gs x None) → givens_from cells v (length gs) ≡ gs
 unfolding givens_from
 givens_list cells v [] h = refl
 givens_list cells v (g ∷ gs) h =
     let e : v + 0 ≡ v = omega arith in
     let here : given_at cells v ≡ g = ap (given_at cells) (sym e) ∙ h 0 in
-    let more : (x : ℕ) → given_at cells (suc v + x) ≡ get_or gs x Absent = λ x. let d : suc v + x ≡ v + suc x = omega arith in ap (given_at cells) d ∙ h (suc x) in
+    let more : (x : ℕ) → given_at cells (suc v + x) ≡ get_or gs x None = λ x. let d : suc v + x ≡ v + suc x = omega arith in ap (given_at cells) d ∙ h (suc x) in
     rw (here, givens_list cells (suc v) gs more)
 
 -- values in cells
@@ -105,14 +103,14 @@ values_at cells v (suc n) (suc x) l =
     let e : suc v + x ≡ v + suc x = omega arith in
     values_at cells (suc v) n x (omega arith) ∙ ap (λ (y : ℕ). held (given_at cells y)) e
 
-pub values_held : (cells : List ℕ) (v : ℕ) (gs : List Given)
-    → ((x : ℕ) → x < length gs → given_at cells (v + x) ≡ Present (held (get_or gs x Absent))) → map held gs ≡ values_from cells v (length gs)
+pub values_held : (cells : List ℕ) (v : ℕ) (gs : List (Option Value))
+    → ((x : ℕ) → x < length gs → given_at cells (v + x) ≡ Some (held (get_or gs x None))) → map held gs ≡ values_from cells v (length gs)
 unfolding values_from
 values_held cells v [] h = refl
 values_held cells v (g ∷ gs) h =
     let e : v + 0 ≡ v = omega arith in
-    let here : given_at cells v ≡ Present (held g) = ap (given_at cells) (sym e) ∙ h 0 (omega arith) in
-    let more : (x : ℕ) → x < length gs → given_at cells (suc v + x) ≡ Present (held (get_or gs x Absent)) =
+    let here : given_at cells v ≡ Some (held g) = ap (given_at cells) (sym e) ∙ h 0 (omega arith) in
+    let more : (x : ℕ) → x < length gs → given_at cells (suc v + x) ≡ Some (held (get_or gs x None)) =
     λ x l. let d : suc v + x ≡ v + suc x = omega arith in ap (given_at cells) d ∙ h (suc x) (omega arith) in
     rw (here, values_held cells (suc v) gs more)
 

@@ -7,7 +7,7 @@
 -- Assumes nothing.
 use Prim.Native.Nat.{ℕ, zero, suc, ◌+◌, ◌-◌, ◌*◌, ◌<◌, ◌≤◌}
 use mathlib.Core.Path.{◌≡◌, sym, ap, subst, ◌∙◌}
-use mathlib.Core.Bool.{Bool, true, false, false≢true, cond}
+use mathlib.Core.Bool.{true, false, cond}
 use mathlib.Core.List.{List, [], ◌∷◌, ◌++◌}
 use mathlib.Core.Logic.{⊎_elim}
 use native.Mathlib.Omega.{arith}
@@ -36,18 +36,14 @@ use Rattle.evaluation.specs.Run.{ended}
 use Rattle.evaluation.proofs.Entering.{accepted_complete, accepted_formed}
 use Rattle.scopes.specs.Steps.{step_outcome, HandedAll, entered_at, Came}
 use Rattle.scopes.specs.Known.{Known, Noting, Entry, RunsSteps}
-use Rattle.scopes.specs.declared.Ran.{Ran}
-use Rattle.scopes.specs.declared.Ran.TheVariants.{Values, Ended}
+use Rattle.std.specs.Prelude.{Result, Ok, Err}
+use Rattle.scopes.specs.declared.Ended.{Ended}
 use Rattle.scopes.proofs.Cells.{Stored, valued, ends_by, stored, kept_none, pasted_length}
 use Rattle.scopes.proofs.Running.{Running, call_below, start, variable_ends, variable_turn, call_stops, call_ends, ends_few, values_few, call_turn, stop}
 
-abbrev has_values : Ran → Bool
-has_values (Values m) = true
-has_values (Ended c m) = false
-
 pub ended_came : {bytes : List ℕ} {i : ℕ} {given own : List ℕ} {c : Cause} {m : ℕ} → length own ≡ 32 → AllKept own → entered_at bytes i given ≡ ended c m
-    → Came bytes i given (Ended c m) own
-ended_came size kept e = record { size = size; kept = kept; same = sym e; present = λ m q x l. absurd (false≢true (ap has_values q)) }
+    → Came bytes i given (Err (record { cause = c; count = m })) own
+ended_came size kept e = record { size = size; kept = kept; same = sym e; present = λ m q x l. cc }
 
 -- a step comes to what is given, or to its tree
 module _ (bytes given own called : List ℕ) (i x : ℕ) where
@@ -89,6 +85,14 @@ pub record Between (bytes : List ℕ) (i : ℕ) (given called₀ memo₀ own cal
   pub known : Known bytes memo
   pub called_same : length called ≡ length called₀
   pub memo_same : length memo ≡ length memo₀
+
+-- turn n of the loop: the numbers that are read, and the place of the step
+pub record Turn (bytes orders : List ℕ) (i : ℕ) (given own called handed : List ℕ) (count n a b x : ℕ) : Type 0 where
+  pub running : Running bytes i given own called handed count n
+  pub variables : a ≡ length (scope_at (scopes_of bytes) i).variables
+  pub sub_scopes : b ≡ length (scope_at (scopes_of bytes) i).sub_scopes
+  pub more : n < a + b
+  pub at : x ≡ get_or orders (i * 40 + n) 0
 
 -- how many blocks of a book stand before that of scope i
 abbrev pub rank : List ℕ → ℕ → ℕ
@@ -177,28 +181,27 @@ module _ {bytes index links orders : List ℕ} {i : ℕ} {given₀ own₀ memo�
   begins {given} {own} {called} = start bytes i given e.world.accepted e.scope own called
 
   pub ends : {given own called handed : List ℕ} {count n a b : ℕ} → Running bytes i given own called handed count n
-      → a ≡ length s.variables → b ≡ length s.sub_scopes → a + b ≤ n → Came bytes i given (Values count) own
+      → a ≡ length s.variables → b ≡ length s.sub_scopes → a + b ≤ n → Came bytes i given (Ok count) own
   unfolding step_count
   ends {given} r va vb l = stop bytes i given e.world.accepted e.scope r (omega arith)
 
-  module _ {given own called handed : List ℕ} {count n a b x : ℕ} (r : Running bytes i given own called handed count n)
-      (va : a ≡ length s.variables) (vb : b ≡ length s.sub_scopes) (more : n < a + b) (at : x ≡ get_or orders (i * 40 + n) 0) where
+  module _ {given own called handed : List ℕ} {count n a b x : ℕ} (u : Turn bytes orders i given own called handed count n a b x) where
     inside : n < step_count s
     unfolding step_count
     inside = omega arith
 
     is : x ≡ get_or (step_order s) n 0
-    is = at ∙ step_at_lem n inside
+    is = u.at ∙ step_at_lem n inside
 
     pub evaluable : {row : List ℕ} → row ≡ take 834 (drop (i * 834) links) → Evaluable bytes index row own called i
     evaluable f =
         record {
           ready = rw f row_ready;
           scope = e.scope;
-          own_room = omega (arith, r.own_room);
-          called_room = r.called_room;
-          own_kept = r.own_kept;
-          called_kept = r.called_kept;
+          own_room = omega (arith, u.running.own_room);
+          called_room = u.running.called_room;
+          own_kept = u.running.own_kept;
+          called_kept = u.running.called_kept;
         }
 
     module _ (l : x < a) where
@@ -206,10 +209,10 @@ module _ {bytes index links orders : List ℕ} {i : ℕ} {given₀ own₀ memo�
       low = subst (λ (z : ℕ). z < length s.variables) is (omega arith)
 
       pub put_room : x < length own
-      put_room = omega (arith, l, va, r.own_room, (accepted.within i).variables)
+      put_room = omega (arith, l, u.variables, u.running.own_room, (accepted.within i).variables)
 
       pub given_room_lem : x < length given₀
-      given_room_lem = omega (arith, l, va, e.given_room, (accepted.within i).variables)
+      given_room_lem = omega (arith, l, u.variables, e.given_room, (accepted.within i).variables)
 
       module _ {c : ℕ} (h : Codes c (step_outcome bytes given own called i x)) where
         pub turn_variable : c < empty_cell → Running bytes i given (set own x c) called handed count (n + 1)
@@ -217,16 +220,16 @@ module _ {bytes index links orders : List ℕ} {i : ℕ} {given₀ own₀ memo�
             let z : n + 1 ≡ suc n = omega arith in
             let w = valued (step_outcome bytes given own called i x) c h below in
             rw z
-            (variable_turn bytes i given e.world.accepted e.scope r inside low w.value (set own x c)
+            (variable_turn bytes i given e.world.accepted e.scope u.running inside low w.value (set own x c)
             (ap (step_outcome bytes given own called i) (sym is) ∙ w.gives)
             (subst (λ (y : ℕ). Stored own y w.value (set own x c)) is (stored own x c w put_room))
-            (kept_put own x c w.kept r.own_kept))
+            (kept_put own x c w.kept u.running.own_kept))
 
-        pub end_variable : {d : Cause} → empty_cell ≤ c → d ≡ cause_of c → Came bytes i given (Ended d count) own
+        pub end_variable : {d : Cause} → empty_cell ≤ c → d ≡ cause_of c → Came bytes i given (Err (record { cause = d; count = count })) own
         end_variable {d} high f =
             rw f
-            (ended_came r.own_room r.own_kept
-            (variable_ends bytes i given e.world.accepted e.scope r inside low (cause_of c)
+            (ended_came u.running.own_room u.running.own_kept
+            (variable_ends bytes i given e.world.accepted e.scope u.running inside low (cause_of c)
             (ap (step_outcome bytes given own called i) (sym is) ∙ ends_by (step_outcome bytes given own called i x) c h high)))
 
     module _ (l : a ≤ x) where
@@ -234,41 +237,41 @@ module _ {bytes index links orders : List ℕ} {i : ℕ} {given₀ own₀ memo�
       call = let q : length s.variables + (x - a) ≡ x = omega arith in q ∙ is
 
       pub number_below : x - a < length s.sub_scopes
-      number_below = call_below bytes i given e.world.accepted e.scope r inside (x - a) call
+      number_below = call_below bytes i given e.world.accepted e.scope u.running inside (x - a) call
 
       pub number_few : x - a < 8
       number_few = omega (arith, number_below, (accepted.within i).sub_scopes)
 
       pub called_room_lem : (x - a) * 32 + 32 ≤ length called
-      called_room_lem = omega (arith, number_below, r.called_room)
+      called_room_lem = omega (arith, number_below, u.running.called_room)
 
-      pub call_same : {j : ℕ} {handed' : List ℕ} {q : Ran} {part : List ℕ} → Came bytes j handed' q part → (w : ℕ) → w ≡ 32
+      pub call_same : {j : ℕ} {handed' : List ℕ} {q : Result ℕ Ended} {part : List ℕ} → Came bytes j handed' q part → (w : ℕ) → w ≡ 32
           → length (take ((x - a) * 32) called ++ (part ++ drop w (drop ((x - a) * 32) called))) ≡ length called
       call_same {part = part} came w wide = rw wide (pasted_length called part ((x - a) * 32) 32 came.size called_room_lem)
 
       module _ {c : ℕ} {handed' : List ℕ} (h : HandedAll bytes own called i (x - a) c handed') where
-        pub end_hand : {d : Cause} → empty_cell ≤ c → d ≡ cause_of c → Came bytes i given (Ended d count) own
+        pub end_hand : {d : Cause} → empty_cell ≤ c → d ≡ cause_of c → Came bytes i given (Err (record { cause = d; count = count })) own
         end_hand {d} high f =
             rw f
-            (ended_came r.own_room r.own_kept (call_stops bytes i given e.world.accepted e.scope r inside (x - a) call h high))
+            (ended_came u.running.own_room u.running.own_kept (call_stops bytes i given e.world.accepted e.scope u.running inside (x - a) call h high))
 
-        module _ (below : c < empty_cell) {j : ℕ} (ji : j ≡ sub_scope_at book i (x - a)) {q : Ran} {part : List ℕ} (came : Came bytes j handed' q part) where
+        module _ (below : c < empty_cell) {j : ℕ} (ji : j ≡ sub_scope_at book i (x - a)) {q : Result ℕ Ended} {part : List ℕ} (came : Came bytes j handed' q part) where
           came' : Came bytes (get_or s.sub_scopes (x - a) 0) handed' q part
           unfolding sub_scope_at
           came' = subst (λ (z : ℕ). Came bytes z handed' q part) ji came
 
-          pub few_ended : {d : Cause} {m : ℕ} → q ≡ Ended d m → count + m ≤ 4096
-          few_ended {d} {m} f = ends_few bytes i given e.world.accepted e.scope r inside (x - a) call h below came' d m f
+          pub few_ended : {d : Ended} → q ≡ Err d → count + d.count ≤ 4096
+          few_ended {d} f = ends_few bytes i given e.world.accepted e.scope u.running inside (x - a) call h below came' d f
 
-          pub few_values : {m : ℕ} → q ≡ Values m → count + m ≤ 4096
-          few_values {m} f = values_few bytes i given e.world.accepted e.scope r inside (x - a) call h below came' m f
+          pub few_values : {m : ℕ} → q ≡ Ok m → count + m ≤ 4096
+          few_values {m} f = values_few bytes i given e.world.accepted e.scope u.running inside (x - a) call h below came' m f
 
-          pub end_call : {d : Cause} {m : ℕ} → q ≡ Ended d m → Came bytes i given (Ended d (count + m)) own
-          end_call {d} {m} f =
-              ended_came r.own_room r.own_kept (call_ends bytes i given e.world.accepted e.scope r inside (x - a) call h below came' d m f)
+          pub end_call : {d : Ended} → q ≡ Err d → Came bytes i given (Err (record { cause = d.cause; count = count + d.count })) own
+          end_call {d} f =
+              ended_came u.running.own_room u.running.own_kept (call_ends bytes i given e.world.accepted e.scope u.running inside (x - a) call h below came' d f)
 
-          pub turn_call : {m : ℕ} (w : ℕ) → w ≡ 32 → q ≡ Values m
+          pub turn_call : {m : ℕ} (w : ℕ) → w ≡ 32 → q ≡ Ok m
               → Running bytes i given own (take ((x - a) * 32) called ++ (part ++ drop w (drop ((x - a) * 32) called))) handed' (count + m) (n + 1)
           turn_call {m} w wide f =
               let z : n + 1 ≡ suc n = omega arith in
-              rw (z, wide) (call_turn bytes i given e.world.accepted e.scope r inside (x - a) call h below came' m f)
+              rw (z, wide) (call_turn bytes i given e.world.accepted e.scope u.running inside (x - a) call h below came' m f)

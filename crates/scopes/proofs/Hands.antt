@@ -12,12 +12,11 @@ use lib.ListN.{length, set, length-set}
 use lib.Seq.{get_or-set_same, get_or-set_other}
 use lib.Dec.{ltb}
 use borrow.Author.Tests.{lt-ltb, le-ltb, ltb-true, ltb-false}
+use Rattle.std.specs.Prelude.{Result, Ok, Err}
 use Rattle.calculus.specs.Defaults.{found}
 use Rattle.calculus.specs.Evaluation.{Env}
 use Rattle.answers.specs.declared.Cause.{Cause}
 use Rattle.answers.specs.declared.Cause.TheVariants.{Empty, Conflict, OutOfRange}
-use Rattle.calculus.specs.declared.Outcome.{Outcome}
-use Rattle.calculus.specs.declared.Outcome.TheVariants.{Gives, Ends}
 use Rattle.laws.proofs.Booleans.{decide}
 use Rattle.cells.specs.Codec.{empty_cell, cell_of, cause_cell, cause_of, Codes, gathered_cell, Gathers, Kept, AllKept}
 use Rattle.cells.specs.Cells.{given_of, given_at}
@@ -32,6 +31,7 @@ use Rattle.terms.specs.Outcomes as cells
 use Rattle.trees.specs.Chains.{tree_outcome, clause_for}
 use Rattle.evaluation.specs.Handing.{hands, stops, falls_back, handed, failed, override, handing_by, handing}
 use Rattle.scopes.specs.Steps.{override_at, handed_of, Hands, givens_from, called_variables, called_count, HandedAll}
+use Rattle.calculus.specs.declared.Value.{Value}
 
 -- the cells hold what the variables from v on are handed
 module _ (env : Env) (s : Scope) (k : ℕ) (cells : List ℕ) where
@@ -68,21 +68,21 @@ end_handed d r e =
     let high : empty_cell ≤ r = rw e (end_high d) in
     rw (le-ltb r empty_cell high) (ap stops (ap cause_of e ∙ cause_decoded d))
 
-found_handed : (o : Outcome) (r : ℕ) → Gathers r (found o) → handed_of r ≡ falls_back o
+found_handed : (o : Result Value Cause) (r : ℕ) → Gathers r (found o) → handed_of r ≡ falls_back o
 unfolding gathered_cell given_of
-found_handed (Gives y) r g =
+found_handed (Ok y) r g =
     let low : r < empty_cell = rw g.is (value_before_ends y g.fits) in
     rw (lt-ltb r empty_cell low) (ap hands (ap given_of g.is ∙ given_cell y g.fits))
-found_handed (Ends Empty) r g = rw g.is refl
-found_handed (Ends Conflict) r g = end_handed Conflict r g.is
-found_handed (Ends (OutOfRange s)) r g = end_handed (OutOfRange s) r g.is
+found_handed (Err Empty) r g = rw g.is refl
+found_handed (Err Conflict) r g = end_handed Conflict r g.is
+found_handed (Err (OutOfRange s)) r g = end_handed (OutOfRange s) r g.is
 
-found_kept : (o : Outcome) (r : ℕ) → Gathers r (found o) → r < empty_cell → Kept r
+found_kept : (o : Result Value Cause) (r : ℕ) → Gathers r (found o) → r < empty_cell → Kept r
 unfolding gathered_cell cell_of
-found_kept (Gives y) r g l = kept_value r y (record { is = g.is; fits = g.fits })
-found_kept (Ends Empty) r g l = subst Kept (sym g.is) kept_nothing
-found_kept (Ends Conflict) r g l = no_value_lem Conflict r (record { is = g.is; fits = g.fits }) l
-found_kept (Ends (OutOfRange s)) r g l = no_value_lem (OutOfRange s) r (record { is = g.is; fits = g.fits }) l
+found_kept (Ok y) r g l = kept_value r y (record { is = g.is; fits = g.fits })
+found_kept (Err Empty) r g l = subst Kept (sym g.is) kept_nothing
+found_kept (Err Conflict) r g l = no_value_lem Conflict r (record { is = g.is; fits = g.fits }) l
+found_kept (Err (OutOfRange s)) r g l = no_value_lem (OutOfRange s) r (record { is = g.is; fits = g.fits }) l
 
 -- one variable is handed over
 module _ (bytes own called : List ℕ) (i k v : ℕ) where

@@ -15,14 +15,11 @@ use lib.ListN.{length, get_or, set, take, drop, replicate, length-set, length-ma
 use lib.Seq.{take-suc, take_all, drop-cons, get_or-set_same, get_or-set_other}
 use lib.Dec.{eqb, ltb}
 use borrow.Author.Tests.{eqb-true, eqb-false, lt-ltb, le-ltb, ltb-true, ltb-false}
+use Rattle.std.specs.Prelude.{Result, Ok, Err, Option, None, Some}
 use Rattle.calculus.specs.Evaluation.{eval, step, takes}
 use Rattle.calculus.specs.declared.Value.{Value}
 use Rattle.calculus.specs.declared.Value.TheVariants.{Truth}
 use Rattle.answers.specs.declared.Cause.{Cause}
-use Rattle.calculus.specs.declared.Outcome.{Outcome}
-use Rattle.calculus.specs.declared.Outcome.TheVariants.{Gives, Ends}
-use Rattle.calculus.specs.declared.Given.{Given}
-use Rattle.calculus.specs.declared.Given.TheVariants.{Absent, Present}
 use Rattle.order.specs.Order.{among}
 use Rattle.laws.proofs.Booleans.{decide, or_cases}
 use Rattle.order.proofs.Among.{among_snoc, among_none}
@@ -36,7 +33,6 @@ use Rattle.book.specs.Trees.{tree, own_target, called_target}
 use Rattle.book.specs.Steps.{reads, depends_on, step_count, step_order}
 use Rattle.book.specs.Judge.{judge}
 use Rattle.book.specs.declared.Target.{Target}
-use Rattle.answers.specs.declared.Judged.TheVariants.{Accepted}
 use Rattle.acceptance.specs.Accepted.{WellFormed, CompleteOrder, AcceptedBook}
 use Rattle.acceptance.proofs.Orders.{accepted_book}
 use Rattle.acceptance.proofs.Reading.{variable_depends, call_depends}
@@ -53,8 +49,7 @@ use Rattle.evaluation.proofs.Running.{count_of, steps_count}
 use Rattle.evaluation.proofs.Entering.{accepted_entered_steps}
 use Rattle.evaluation.proofs.Counts.{bounded_count, entered_bounded}
 use Rattle.scopes.specs.Steps.{step_outcome, givens_from, called_variables, called_count, HandedAll, entered_at, ran_view, Came}
-use Rattle.scopes.specs.declared.Ran.{Ran}
-use Rattle.scopes.specs.declared.Ran.TheVariants.{Values, Ended}
+use Rattle.scopes.specs.declared.Ended.{Ended}
 use Rattle.scopes.proofs.Cells.{Stored, givens_at_lem, values_at, values_held, pasted, pasted_length, pasted_in, pasted_before, pasted_after, kept_pasted, kept_none}
 
 -- the first n steps are done
@@ -79,7 +74,7 @@ pub record Running (bytes : List ℕ) (i : ℕ) (given own called handed : List 
       (givens_from given 0 (length (scope_at (scopes_of bytes) i).variables)) (drop n (step_order (scope_at (scopes_of bytes) i))) state
       ≡ entered_at bytes i given
   pub owns : (x : ℕ) → x < length (scope_at (scopes_of bytes) i).variables → Done bytes i n x
-      → given_at own x ≡ Present (held (get_or state.own x Absent))
+      → given_at own x ≡ Some (held (get_or state.own x None))
   pub calls : (k x : ℕ) → k < length (scope_at (scopes_of bytes) i).sub_scopes → x < called_count (scopes_of bytes) i k
       → Done bytes i n (length (scope_at (scopes_of bytes) i).variables + k)
       → held (given_at called (k * 32 + x)) ≡ get_or (get_or state.called k []) x (Truth false)
@@ -88,7 +83,7 @@ more_than : (k l : ℕ) → k ≤ l → (l ≡ k → ⊥) → k < l
 more_than k l h ne =
     ⊎_elim (λ (t : ltb k l ≡ true). ltb-true k l t) (λ (t : ltb k l ≡ false). absurd (ne (omega (arith, ltb-false k l t)))) (decide (ltb k l))
 
-module _ (bytes : List ℕ) (i : ℕ) (given : List ℕ) (ok : judge bytes ≡ Accepted (length (scopes_of bytes))) (here : i < length (scopes_of bytes)) where
+module _ (bytes : List ℕ) (i : ℕ) (given : List ℕ) (ok : judge bytes ≡ Ok (length (scopes_of bytes))) (here : i < length (scopes_of bytes)) where
   abbrev book : List Scope
   book = scopes_of bytes
 
@@ -98,10 +93,10 @@ module _ (bytes : List ℕ) (i : ℕ) (given : List ℕ) (ok : judge bytes ≡ A
   abbrev vars : ℕ
   vars = length s.variables
 
-  abbrev all_blocks : ℕ → List Given → Entered
+  abbrev all_blocks : ℕ → List (Option Value) → Entered
   all_blocks = enter book (reverse (blocks book))
 
-  abbrev gs : List Given
+  abbrev gs : List (Option Value)
   gs = givens_from given 0 vars
 
   accepted : AcceptedBook bytes (length book)
@@ -171,39 +166,39 @@ module _ (bytes : List ℕ) (i : ℕ) (given : List ℕ) (ok : judge bytes ≡ A
 
     -- a variable's step
     module _ (own_step_lem : x < vars) where
-      outcome : step (get_or gs x Absent) (env_of r.state) (tree s (own_target x)) ≡ step_outcome bytes given own called i x
+      outcome : step (get_or gs x None) (env_of r.state) (tree s (own_target x)) ≡ step_outcome bytes given own called i x
       unfolding step_outcome
       outcome =
           let z : 0 + x ≡ x = omega arith in
-          let g : get_or gs x Absent ≡ given_at given x = givens_at_lem given 0 vars x own_step_lem ∙ ap (given_at given) z in
+          let g : get_or gs x None ≡ given_at given x = givens_at_lem given 0 vars x own_step_lem ∙ ap (given_at given) z in
           let e = agrees (own_target x) (λ w h. steps_after book s w formed complete n more ((variable_depends book s formed (accepted.within i) x w own_step_lem).1 h)) in
           λ j. takes (g j) (e j)
 
       run : run_steps book all_blocks s gs (x ∷ drop (suc n) (step_order s)) r.state
           ≡ on_value (step_outcome bytes given own called i x) r.state.count
-          (λ v. run_steps book all_blocks s gs (drop (suc n) (step_order s)) (record { own = set r.state.own x (Present v); called = r.state.called; count = r.state.count }))
+          (λ v. run_steps book all_blocks s gs (drop (suc n) (step_order s)) (record { own = set r.state.own x (Some v); called = r.state.called; count = r.state.count }))
       unfolding run_steps_by
       run =
           rw (lt-ltb x vars own_step_lem)
           (λ j. on_value (outcome j) r.state.count
-          (λ v. run_steps book all_blocks s gs (drop (suc n) (step_order s)) (record { own = set r.state.own x (Present v); called = r.state.called; count = r.state.count })))
+          (λ v. run_steps book all_blocks s gs (drop (suc n) (step_order s)) (record { own = set r.state.own x (Some v); called = r.state.called; count = r.state.count })))
 
       whole : entered_at bytes i given
           ≡ on_value (step_outcome bytes given own called i x) r.state.count
-          (λ v. run_steps book all_blocks s gs (drop (suc n) (step_order s)) (record { own = set r.state.own x (Present v); called = r.state.called; count = r.state.count }))
+          (λ v. run_steps book all_blocks s gs (drop (suc n) (step_order s)) (record { own = set r.state.own x (Some v); called = r.state.called; count = r.state.count }))
       whole = sym r.rest ∙ ap (λ (xs : List ℕ). run_steps book all_blocks s gs xs r.state) next ∙ run
 
-      pub variable_ends : (c : Cause) → step_outcome bytes given own called i x ≡ Ends c → entered_at bytes i given ≡ ended c count
+      pub variable_ends : (c : Cause) → step_outcome bytes given own called i x ≡ Err c → entered_at bytes i given ≡ ended c count
       variable_ends c q =
           whole
-          ∙ ap (λ (z : Outcome). on_value z r.state.count (λ v. run_steps book all_blocks s gs (drop (suc n) (step_order s)) (record { own = set r.state.own x (Present v); called = r.state.called; count = r.state.count }))) q
+          ∙ ap (λ (z : Result Value Cause). on_value z r.state.count (λ v. run_steps book all_blocks s gs (drop (suc n) (step_order s)) (record { own = set r.state.own x (Some v); called = r.state.called; count = r.state.count }))) q
           ∙ ap (ended c) r.counted
 
-      pub variable_turn : (v : Value) (own' : List ℕ) → step_outcome bytes given own called i x ≡ Gives v → Stored own x v own' → AllKept own'
+      pub variable_turn : (v : Value) (own' : List ℕ) → step_outcome bytes given own called i x ≡ Ok v → Stored own x v own' → AllKept own'
           → Running bytes i given own' called handed count (suc n)
       variable_turn v own' q put kept =
           let st = r.state in
-          let new : State = record { own = set st.own x (Present v); called = st.called; count = st.count } in
+          let new : State = record { own = set st.own x (Some v); called = st.called; count = st.count } in
           let there : x < length st.own = omega (arith, r.own_length) in
           record {
             state = new;
@@ -215,21 +210,21 @@ module _ (bytes : List ℕ) (i : ℕ) (given : List ℕ) (ok : judge bytes ≡ A
             own_kept = kept;
             called_kept = r.called_kept;
             handed_kept = r.handed_kept;
-            own_length = length-set st.own x (Present v) ∙ r.own_length;
+            own_length = length-set st.own x (Some v) ∙ r.own_length;
             called_length = r.called_length;
             rest = sym
                 (whole
-                ∙ ap (λ (z : Outcome). on_value z st.count (λ v. run_steps book all_blocks s gs (drop (suc n) (step_order s)) (record { own = set st.own x (Present v); called = st.called; count = st.count }))) q);
+                ∙ ap (λ (z : Result Value Cause). on_value z st.count (λ v. run_steps book all_blocks s gs (drop (suc n) (step_order s)) (record { own = set st.own x (Some v); called = st.called; count = st.count }))) q);
             owns = λ y l d.
                 ⊎_elim
                 (λ (p : eqb y x ≡ true).
                 let y_is : y ≡ x = eqb-true y x p in
-                rw y_is (put.here ∙ ap (λ (g : Given). Present (held g)) (sym (get_or-set_same st.own x (Present v) Absent there))))
+                rw y_is (put.here ∙ ap (λ (g : Option Value). Some (held g)) (sym (get_or-set_same st.own x (Some v) None there))))
                 (λ (p : eqb y x ≡ false).
                 let ne : y ≡ x → ⊥ = eqb-false y x p in
                 put.there y ne
                 ∙ ⊎_elim (λ (h : Done bytes i n y). r.owns y l h) (λ (h : y ≡ x). absurd (ne h)) (done_now y d)
-                ∙ ap (λ (g : Given). Present (held g)) (sym (get_or-set_other st.own x y (Present v) Absent ne)))
+                ∙ ap (λ (g : Option Value). Some (held g)) (sym (get_or-set_other st.own x y (Some v) None ne)))
                 (decide (eqb y x));
             calls = λ k y l m d.
                 ⊎_elim (λ (h : Done bytes i n (vars + k)). r.calls k y l m h) (λ (h : vars + k ≡ x). absurd (omega arith)) (done_now (vars + k) d);
@@ -252,7 +247,7 @@ module _ (bytes : List ℕ) (i : ℕ) (given : List ℕ) (ok : judge bytes ≡ A
           (ap (λ (z : ℕ). depends_on s z w) (sym call_step) ∙ (call_depends book s formed (accepted.within i) k w call_below).1 (v, h))))
           0 (called_variables book i k)
 
-      abbrev later : List Given → Entered
+      abbrev later : List (Option Value) → Entered
       later handed' =
           on_entered (all_blocks j handed') r.state.count
           (λ vs m. run_steps book all_blocks s gs (drop (suc n) (step_order s)) (record { own = r.state.own; called = set r.state.called k vs; count = m }))
@@ -281,7 +276,7 @@ module _ (bytes : List ℕ) (i : ℕ) (given : List ℕ) (ok : judge bytes ≡ A
             whole_call ∙ ap (λ (z : Handing). on_handing z r.state.count later) (sym q)
 
         -- the scope entered came to q
-        module _ (low : o < empty_cell) {q : Ran} {part : List ℕ} (came : Came bytes j handed' q part) where
+        module _ (low : o < empty_cell) {q : Result ℕ Ended} {part : List ℕ} (came : Came bytes j handed' q part) where
           pub call_came : entered_at bytes i given
               ≡ on_entered (ran_view q part (called_count book i k)) r.state.count
               (λ vs m. run_steps book all_blocks s gs (drop (suc n) (step_order s)) (record { own = r.state.own; called = set r.state.called k vs; count = m }))
@@ -290,30 +285,30 @@ module _ (bytes : List ℕ) (i : ℕ) (given : List ℕ) (ok : judge bytes ≡ A
               handed_over low
               ∙ ap (λ (z : Entered). on_entered z r.state.count (λ vs m. run_steps book all_blocks s gs (drop (suc n) (step_order s)) (record { own = r.state.own; called = set r.state.called k vs; count = m }))) (sym came.same)
 
-          pub call_ends : (c : Cause) (m : ℕ) → q ≡ Ended c m → entered_at bytes i given ≡ ended c (count + m)
-          call_ends c m e =
+          pub call_ends : (d : Ended) → q ≡ Err d → entered_at bytes i given ≡ ended d.cause (count + d.count)
+          call_ends d e =
               call_came
-              ∙ ap (λ (z : Ran). on_entered (ran_view z part (called_count book i k)) r.state.count (λ vs m. run_steps book all_blocks s gs (drop (suc n) (step_order s)) (record { own = r.state.own; called = set r.state.called k vs; count = m }))) e
-              ∙ ap (λ (z : ℕ). ended c (z + m)) r.counted
+              ∙ ap (λ (z : Result ℕ Ended). on_entered (ran_view z part (called_count book i k)) r.state.count (λ vs m. run_steps book all_blocks s gs (drop (suc n) (step_order s)) (record { own = r.state.own; called = set r.state.called k vs; count = m }))) e
+              ∙ ap (λ (z : ℕ). ended d.cause (z + d.count)) r.counted
 
-          pub ends_few : (c : Cause) (m : ℕ) → q ≡ Ended c m → count + m ≤ 4096
-          ends_few c m e = let f : count_of (ended c (count + m)) ≤ 4096 = subst (λ (z : Entered). count_of z ≤ 4096) (call_ends c m e) entered_few in f
+          pub ends_few : (d : Ended) → q ≡ Err d → count + d.count ≤ 4096
+          ends_few d e = let f : count_of (ended d.cause (count + d.count)) ≤ 4096 = subst (λ (z : Entered). count_of z ≤ 4096) (call_ends d e) entered_few in f
 
-          pub call_values : (m : ℕ) → q ≡ Values m → entered_at bytes i given
+          pub call_values : (m : ℕ) → q ≡ Ok m → entered_at bytes i given
               ≡ run_steps book all_blocks s gs (drop (suc n) (step_order s)) (record { own = r.state.own; called = set r.state.called k (values_of part (called_count book i k)); count = count + m })
           call_values m e =
               call_came
-              ∙ ap (λ (z : Ran). on_entered (ran_view z part (called_count book i k)) r.state.count (λ vs m. run_steps book all_blocks s gs (drop (suc n) (step_order s)) (record { own = r.state.own; called = set r.state.called k vs; count = m }))) e
+              ∙ ap (λ (z : Result ℕ Ended). on_entered (ran_view z part (called_count book i k)) r.state.count (λ vs m. run_steps book all_blocks s gs (drop (suc n) (step_order s)) (record { own = r.state.own; called = set r.state.called k vs; count = m }))) e
               ∙ ap (λ (z : ℕ). run_steps book all_blocks s gs (drop (suc n) (step_order s)) (record { own = r.state.own; called = set r.state.called k (values_of part (called_count book i k)); count = z + m })) r.counted
 
-          pub values_few : (m : ℕ) → q ≡ Values m → count + m ≤ 4096
+          pub values_few : (m : ℕ) → q ≡ Ok m → count + m ≤ 4096
           values_few m e =
               let st : State = record { own = r.state.own; called = set r.state.called k (values_of part (called_count book i k)); count = count + m } in
               let a : count + m ≤ count_of (run_steps book all_blocks s gs (drop (suc n) (step_order s)) st) = steps_count book all_blocks s gs (drop (suc n) (step_order s)) st in
               let b : count_of (run_steps book all_blocks s gs (drop (suc n) (step_order s)) st) ≤ 4096 = subst (λ (z : Entered). count_of z ≤ 4096) (call_values m e) entered_few in
               omega (arith, a, b)
 
-          pub call_turn : (m : ℕ) → q ≡ Values m → Running bytes i given own (pasted called (k * 32) 32 part) handed' (count + m) (suc n)
+          pub call_turn : (m : ℕ) → q ≡ Ok m → Running bytes i given own (pasted called (k * 32) 32 part) handed' (count + m) (suc n)
           unfolding values_of
           call_turn m e =
               let st = r.state in
@@ -366,13 +361,13 @@ module _ (bytes : List ℕ) (i : ℕ) (given : List ℕ) (ok : judge bytes ≡ A
                   pasted_after called part (k * 32) 32 came.size room (k' * 32 + y) (omega arith))
                   (decide (ltb k' k))
 
-  pub stop : {own called handed : List ℕ} {count n : ℕ} → Running bytes i given own called handed count n → step_count s ≤ n → Came bytes i given (Values count) own
+  pub stop : {own called handed : List ℕ} {count n : ℕ} → Running bytes i given own called handed count n → step_count s ≤ n → Came bytes i given (Ok count) own
   unfolding values_of run_steps_by step_count
   stop {own} {called} {handed} {count} {n} r l =
       let st = r.state in
       let all_done : (x : ℕ) → x < vars → Done bytes i n x =
       λ x h. ap (λ (xs : List ℕ). among xs x) (take_all n (step_order s) (omega (arith, complete.count))) ∙ complete.every x (omega arith) in
-      let held_own : (x : ℕ) → x < vars → given_at own x ≡ Present (held (get_or st.own x Absent)) = λ x h. r.owns x h (all_done x h) in
+      let held_own : (x : ℕ) → x < vars → given_at own x ≡ Some (held (get_or st.own x None)) = λ x h. r.owns x h (all_done x h) in
       let nil : drop n (step_order s) ≡ [] = drop_of_length-le (step_order s) {i = n} (omega (arith, complete.count)) in
       let over : values (map held st.own) st.count ≡ entered_at bytes i given =
       ap (λ (xs : List ℕ). run_steps book all_blocks s gs xs st) (sym nil) ∙ r.rest in

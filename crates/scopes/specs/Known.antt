@@ -1,18 +1,17 @@
 -- What is known of a scope that was entered with nothing given: it comes to the same each time. A row for each scope: the count of scopes
 -- entered, then the cells of its variables.
-use Rattle.std.specs.Prelude.{ℕ, ◌*◌, ◌<◌, ◌≤◌, ◌≡◌, List, [], length}
+use Rattle.std.specs.Prelude.{ℕ, ◌*◌, ◌<◌, ◌≤◌, ◌≡◌, List, [], length, Ok, Option, Some}
 use Rattle.cells.specs.Codec.{AllKept}
 use Rattle.memo.specs.Rows.{Memo}
 use Rattle.book.specs.Decode.{scopes_of}
 use Rattle.book.specs.References.{scope_at}
 use Rattle.index.specs.Index.{Laid}
 use Rattle.scopes.specs.Steps.{World, Came}
-use Rattle.scopes.specs.declared.Ran.TheVariants.{Values}
 
 -- there is a row for each scope, and every row that has a count is what entering its scope with nothing given comes to
 pub record Known (bytes memo : List ℕ) : Type 0 where
   pub size : length (scopes_of bytes) * 33 ≤ length memo
-  pub table : Memo (λ i count cells. Came bytes i [] (Values count) cells) memo
+  pub table : Memo (λ i count cells. Came bytes i [] (Ok count) cells) memo
 
 -- the row of scope i can be read and written
 pub record Noting (bytes index : List ℕ) (i : ℕ) (own memo : List ℕ) : Type 0 where
@@ -22,11 +21,11 @@ pub record Noting (bytes index : List ℕ) (i : ℕ) (own memo : List ℕ) : Typ
   pub kept : AllKept own
   pub known : Known bytes memo
 
--- where the answer is not 0, it is the count of scopes entered, and the cells hold the values
-pub record Recalled (bytes : List ℕ) (i : ℕ) (given : List ℕ) (r : ℕ) (own : List ℕ) : Type 0 where
+-- where there is an answer, it is the count of scopes entered, and the cells hold the values
+pub record Recalled (bytes : List ℕ) (i : ℕ) (given : List ℕ) (r : Option ℕ) (own : List ℕ) : Type 0 where
   pub size : length own ≡ 32
   pub kept : AllKept own
-  pub found : (r ≡ 0 → ⊥) → Came bytes i given (Values r) own
+  pub found : (m : ℕ) → r ≡ Some m → Came bytes i given (Ok m) own
 
 -- scope i can be entered: its variables have cells, with nothing or a value in each
 pub record Entry (bytes index links orders : List ℕ) (i : ℕ) (given own memo : List ℕ) : Type 0 where

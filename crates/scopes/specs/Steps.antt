@@ -1,8 +1,6 @@
 -- Running the steps of a scope over cells.
-use Rattle.std.specs.Prelude.{ℕ, zero, suc, ◌*◌, ◌<◌, ◌≡◌, true, cond, List, [], ◌∷◌, reverse, length, get_or, take, drop, ltb}
+use Rattle.std.specs.Prelude.{ℕ, zero, suc, ◌*◌, ◌<◌, ◌≡◌, true, cond, List, [], ◌∷◌, reverse, length, get_or, take, drop, ltb, Result, Option, Ok, Err}
 use Rattle.calculus.specs.Evaluation.{step}
-use Rattle.calculus.specs.declared.Outcome.{Outcome}
-use Rattle.calculus.specs.declared.Given.{Given}
 use Rattle.cells.specs.Codec.{empty_cell, cause_of, Kept, AllKept}
 use Rattle.cells.specs.Cells.{given_of, given_at}
 use Rattle.book.specs.Syntax.{Scope}
@@ -13,7 +11,6 @@ use Rattle.book.specs.Trees.{tree, own_target}
 use Rattle.book.specs.Steps.{step_count, step_order}
 use Rattle.book.specs.Judge.{judge}
 use Rattle.book.specs.declared.Variable.{Variable}
-use Rattle.answers.specs.declared.Judged.TheVariants.{Accepted}
 use Rattle.terms.specs.Outcomes.{env_of}
 use Rattle.lists.specs.Inputs.{is_given}
 use Rattle.lists.specs.Writing.{values_of}
@@ -21,11 +18,12 @@ use Rattle.links.specs.Links.{Sound, AllLinked}
 use Rattle.trees.specs.Rows.{Evaluable}
 use Rattle.evaluation.specs.Handing.{Handed, hands, stops, Handing, handed, failed, override, handing}
 use Rattle.evaluation.specs.Run.{Entered, values, ended, enter}
-use Rattle.scopes.specs.declared.Ran.{Ran}
-use Rattle.scopes.specs.declared.Ran.TheVariants.{Values, Ended}
+use Rattle.scopes.specs.declared.Ended.{Ended}
+use Rattle.answers.specs.declared.Cause.{Cause}
+use Rattle.calculus.specs.declared.Value.{Value}
 
 -- what own variable x of scope i comes to
-unfoldable pub step_outcome : List ℕ → List ℕ → List ℕ → List ℕ → ℕ → ℕ → Outcome
+unfoldable pub step_outcome : List ℕ → List ℕ → List ℕ → List ℕ → ℕ → ℕ → Result Value Cause
 step_outcome bytes given own called i x = step (given_at given x) (env_of own called) (tree (scope_at (scopes_of bytes) i) (own_target x))
 
 -- own variable x of scope i can be evaluated: it has cells, with nothing or a value in each
@@ -48,7 +46,7 @@ pub record Hands (bytes own called : List ℕ) (i k v c : ℕ) : Type 0 where
   pub kept : c < empty_cell → Kept c
 
 -- what n cells from v on hold, as what is given
-unfoldable pub givens_from : List ℕ → ℕ → ℕ → List Given
+unfoldable pub givens_from : List ℕ → ℕ → ℕ → List (Option Value)
 givens_from cells v zero = []
 givens_from cells v (suc n) = given_at cells v ∷ givens_from cells (suc v) n
 
@@ -60,7 +58,7 @@ abbrev pub called_count : List Scope → ℕ → ℕ → ℕ
 called_count book i k = length (scope_at book (get_or (scope_at book i).sub_scopes k 0)).variables
 
 -- what a call hands over: the list, or the cause where the cell is an end's
-abbrev pub handing_of : ℕ → List Given → Handing
+abbrev pub handing_of : ℕ → List (Option Value) → Handing
 handing_of c gs = cond (ltb c empty_cell) (handed gs) (failed (cause_of c))
 
 -- the variables of sub-scope k of scope i can be handed over: there are cells for them, with nothing or a value in each
@@ -79,7 +77,7 @@ pub record HandedAll (bytes own called : List ℕ) (i k c : ℕ) (handed : List 
 
 -- the tables that a run rests on
 pub record World (bytes index links orders : List ℕ) : Type 0 where
-  pub accepted : judge bytes ≡ Accepted (length (scopes_of bytes))
+  pub accepted : judge bytes ≡ Ok (length (scopes_of bytes))
   pub sound : Sound bytes index
   pub linked : AllLinked bytes (length (scopes_of bytes)) links
   pub step_orders : (i : ℕ) → i < length (scopes_of bytes)
@@ -90,13 +88,13 @@ unfoldable pub entered_at : List ℕ → ℕ → List ℕ → Entered
 entered_at bytes i given =
     enter (scopes_of bytes) (reverse (blocks (scopes_of bytes))) i (givens_from given 0 (length (scope_at (scopes_of bytes) i).variables))
 
-abbrev pub ran_view : Ran → List ℕ → ℕ → Entered
-ran_view (Values m) own n = values (values_of own n) m
-ran_view (Ended c m) own n = ended c m
+abbrev pub ran_view : Result ℕ Ended → List ℕ → ℕ → Entered
+ran_view (Ok m) own n = values (values_of own n) m
+ran_view (Err e) own n = ended e.cause e.count
 
 -- a run ended as it should, and its values are in the cells, each of which holds nothing or a value
-pub record Came (bytes : List ℕ) (i : ℕ) (given : List ℕ) (r : Ran) (own : List ℕ) : Type 0 where
+pub record Came (bytes : List ℕ) (i : ℕ) (given : List ℕ) (r : Result ℕ Ended) (own : List ℕ) : Type 0 where
   pub size : length own ≡ 32
   pub same : ran_view r own (length (scope_at (scopes_of bytes) i).variables) ≡ entered_at bytes i given
   pub kept : AllKept own
-  pub present : (m : ℕ) → r ≡ Values m → (x : ℕ) → x < length (scope_at (scopes_of bytes) i).variables → is_given (given_at own x) ≡ true
+  pub present : (m : ℕ) → r ≡ Ok m → (x : ℕ) → x < length (scope_at (scopes_of bytes) i).variables → is_given (given_at own x) ≡ true

@@ -5,7 +5,7 @@
 --     written       the bytes stand where they were written
 --     chain         two runs, one behind the other, are one
 -- Assumes nothing.
-use Prim.Native.Nat.{ℕ, suc, ◌+◌, ◌-◌, ◌≤◌, ◌<◌}
+use Prim.Native.Nat.{ℕ, suc, ◌+◌, ◌≤◌, ◌<◌}
 use mathlib.Core.Path.{◌≡◌, refl, sym, ap, ◌∙◌}
 use mathlib.Core.Bool.{Bool, true, false}
 use mathlib.Core.List.{List, [], ◌∷◌, ◌++◌, append_assoc}
@@ -16,14 +16,6 @@ use lib.ListN.{length, take, drop, set, length-append}
 use lib.Seq.{sets, sets-eq, length-sets, length-take-le, drop_at, take-append_seam}
 use borrow.Author.Tests.{le-leb, lt-leb, leb-true, leb-false}
 use Rattle.slices.specs.Bytes.{overwrite}
-
--- the test by a difference is the test by a sum
-pub sub_leb : (at n l : ℕ) → n ≤ l → leb at (l - n) ≡ leb (at + n) l
-sub_leb at n l h = go (leb at (l - n)) refl
-  where
-    go : (t : Bool) → leb at (l - n) ≡ t → t ≡ leb (at + n) l
-    go true e = sym (le-leb (at + n) l (omega (arith, leb-true at (l - n) e)))
-    go false e = sym (lt-leb (at + n) l (omega (arith, leb-false at (l - n) e)))
 
 module _ (s : List ℕ) (at : ℕ) (bs : List ℕ) where
   pub stores : at + length bs ≤ length s → sets s at bs ≡ overwrite s at bs

@@ -8,37 +8,30 @@ ghost use Rattle.slices.specs.Bytes.{overwrite};
 pub fn part_of(s: &[u8], start: usize, length: usize) -> &[u8]
     ensures { result.now ≡ take length (drop start s.now) }
 {
-    if s.len() < start {
-        return &s[..0];
-    }
-    if s.len() - start < length {
-        return &s[start..];
-    }
-    &s[start..start + length]
+    let first = start.min(s.len());
+    let n = length.min(s.len() - first);
+    &s[first..first + n]
 }
 
 // A byte, or 0 past the end.
 pub fn byte_at(s: &[u8], at: usize) -> u8
     ensures { result ≡ get_or s.now at 0 }
 {
-    if at < s.len() { s[at] } else { 0 }
+    s.get(at).copied().unwrap_or(0)
 }
 
 // Whether n bytes from at on are within a length.
 pub fn fits(length: usize, at: usize, n: usize) -> bool
     ensures { result ≡ leb (at + n) length }
 {
-    if length < n {
-        return false;
-    }
-    at <= length - n
+    n <= length && at <= length - n
 }
 
 // A byte written at a position; nothing past the end.
 pub fn put_byte(s: &mut [u8], at: usize, b: u8)
     ensures { s.new ≡ overwrite s.old at (b ∷ []) }
 {
-    if fits(s.len(), at, 1) {
+    if at < s.len() {
         s[at] = b;
     }
 }

@@ -1,5 +1,5 @@
 -- Orders that are written from a matrix.
---     written, not-unfit     what `fill_order` writes, where all fits
+--     fit, written           `fill_order` answers, where all fits, and what it writes
 --     same_order             the order of a matrix that has the edges of f alone is that of f
 --     blocks_written         so the order of a matrix of calls is that of the blocks
 --     steps_written          and that of a matrix of what a scope's steps depend on is that of the steps
@@ -13,11 +13,10 @@ use mathlib.Core.Logic.{⊎_elim}
 use native.Mathlib.Omega.{arith}
 use lib.ListN.{length, get_or, replicate, get_or-replicate}
 use borrow.Author.Tests.{ne_eqb}
+use Rattle.std.specs.Prelude.{Option, Some, IsSome}
 use Rattle.order.specs.Order.{order}
 use Rattle.order.specs.Matrix.{linked, edge_of}
 use Rattle.order.specs.Answer.{Filled}
-use Rattle.order.specs.declared.Ordered.{Ordered}
-use Rattle.order.specs.declared.Ordered.TheVariants.{Taken, Unfit}
 use Rattle.laws.proofs.Booleans.{decide}
 use Rattle.order.proofs.Matrix.{edge_linked}
 use Rattle.order.proofs.Answer.{filled_fit}
@@ -30,19 +29,16 @@ use Rattle.book.specs.Limits.{Within}
 use Rattle.steps.specs.Edges.{Whole, Marked}
 use Rattle.steps.specs.Answers.{Written}
 
-module _ (deps : List ℕ) (n : ℕ) (out to : List ℕ) (r : Ordered) (h : Filled deps n out r to)
+module _ (deps : List ℕ) (n : ℕ) (out to : List ℕ) (r : Option ℕ) (h : Filled deps n out r to)
     (few : n ≤ 40) (size : length deps ≡ 1640) (room : n ≤ length out) where
-  pub written : (k : ℕ) → r ≡ Taken k → Written (order (edge_of deps) n) out k to
+  pub fit : IsSome r
+  fit = rw (filled_fit deps n out few (omega arith) room r to h).0
+
+  pub written : (k : ℕ) → r ≡ Some k → Written (order (edge_of deps) n) out k to
   written k e =
       let f = filled_fit deps n out few (omega arith) room r to h in
       let same : k ≡ length (order (edge_of deps) n) = cc f.0 in
       record { count = same; bytes = f.1 }
-
-  pub not_unfit : r ≡ Unfit → Written (order (edge_of deps) n) out 0 to
-  not_unfit e =
-      let f = filled_fit deps n out few (omega arith) room r to h in
-      let z : ◌≡◌ {A = ℕ} 0 1 = cc f.0 in
-      absurd (omega arith)
 
 edge_whole : (deps : List ℕ) → Whole deps → (x y : ℕ) → x < 40 → y < 40 → edge_of deps x y ≡ linked deps x y
 unfolding edge_of

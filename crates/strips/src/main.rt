@@ -1,7 +1,7 @@
 // The trial strips a to m, each a book of one scope that the engine evaluates: a line each, its letter and what it gives.
 #![tactic(auto)]
 
-use engine::{Answer, Cause, Side, evaluate, refusal_number};
+use engine::{Answer, Refusal, evaluate, refusal_number};
 use integers::number_at;
 use std::io;
 
@@ -124,24 +124,13 @@ const M: [u8; 11] = *b"\x01\x02\x02\
 // The variable is 9.
 const GIVEN: [u8; 6] = *b"\x02\x00\x00\x00\x00\x09";
 
-fn word_of(c: Cause) -> &'static str {
-    match c {
-        Cause::Empty => "empty",
-        Cause::Conflict => "conflict",
-        Cause::OutOfRange(s) => match s {
-            Side::Above => "above",
-            Side::Below => "below",
-        },
-    }
-}
-
 // A space, and the variable's value or why it has none.
-fn print_answer(rt: &impl Print, a: Answer, results: &[u8]) -> io::Result<()> {
+fn print_answer(rt: &impl Print, a: Result<Answer, Refusal>, results: &[u8]) -> io::Result<()> {
     match a {
-        Answer::Values(_, _) => print!(rt; " {}", number_at(results, 2)),
-        Answer::Ended(c, _) => print!(rt; " {}", word_of(c)),
+        Ok(Answer::Values(_, _)) => print!(rt; " {}", number_at(results, 2)),
+        Ok(Answer::Ended(c, _)) => print!(rt; " {c}"),
         // Never met: each book is accepted.
-        Answer::Refused(r) => print!(rt; " refused {}", refusal_number(r)),
+        Err(r) => print!(rt; " refused {}", refusal_number(r)),
     }
 }
 

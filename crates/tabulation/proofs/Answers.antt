@@ -18,6 +18,7 @@ use native.Mathlib.Omega.{arith}
 use lib.ListN.{length, take, drop}
 use lib.Dec.{ltb}
 use borrow.Author.Tests.{ltb-true, ltb-false}
+use Rattle.std.specs.Prelude.{Result, ℕ, Ok, Err}
 use Rattle.laws.proofs.Booleans.{decide}
 use Rattle.book.specs.Decode.{scopes_of}
 use Rattle.book.specs.References.{scope_at}
@@ -26,12 +27,8 @@ use Rattle.book.specs.declared.Variable.{Variable}
 use Rattle.answers.specs.Response.{on_judged, memory_after}
 use Rattle.answers.specs.Numbers.{produced_numbers}
 use Rattle.answers.specs.Production.{Production, refuse, fitting}
-use Rattle.answers.specs.declared.Judged.{Judged}
-use Rattle.answers.specs.declared.Judged.TheVariants as judged
 use Rattle.answers.specs.declared.Refusal.{Refusal}
 use Rattle.answers.specs.declared.Refusal.TheVariants.{Book, NoSuchScope, BadInput, BufferTooSmall, BadChoice}
-use Rattle.answers.specs.declared.Produced.{Produced}
-use Rattle.answers.specs.declared.Produced.TheVariants.{Written, Refused}
 use Rattle.answers.proofs.Within.{Within, is_written, fitting_cases, within_refused, within_unchanged, within_size, within_length}
 use Rattle.acceptance.proofs.Acceptance.{accepted_count}
 use Rattle.lists.specs.Inputs.{Inputs, bad, good, inputs}
@@ -43,6 +40,7 @@ use Rattle.tabulation.specs.Assignments.{row_number, assigned}
 use Rattle.tabulation.specs.Tabulate.{table, on_inputs, asked, tabulate}
 use Rattle.tabulation.specs.Answers.{Tabulable, Rowed, Replied, InTable}
 use Rattle.tabulation.proofs.Rows.{table_length_lem, choice_in, choice_answers, table_most}
+use Rattle.answers.specs.declared.Fault.{Fault}
 
 -- The cases
 
@@ -64,7 +62,7 @@ module _ (bytes : List ℕ) (i : ℕ) (chosen fixed : List ℕ) (room : ℕ) whe
       (λ (q : bad_choice variables given chosen ≡ false). rw q (on_fitting (record { asked = a; given = given; read = h; fit = q })))
       (decide (bad_choice variables given chosen))
 
-  on_asked : (n : ℕ) → judge bytes ≡ judged.Accepted n → Replied bytes i chosen fixed room (asked bytes i chosen fixed room)
+  on_asked : (n : ℕ) → judge bytes ≡ Ok n → Replied bytes i chosen fixed room (asked bytes i chosen fixed room)
   unfolding asked
   on_asked n h =
       let book = scopes_of bytes in
@@ -76,9 +74,9 @@ module _ (bytes : List ℕ) (i : ℕ) (chosen fixed : List ℕ) (room : ℕ) whe
       (λ (q : ltb i (length book) ≡ false). rw q (Replied.absent n h (omega (arith, ltb-false i (length book) q, count))))
       (decide (ltb i (length book)))
 
-  on_judged_lem : (j : Judged) → judge bytes ≡ j → Replied bytes i chosen fixed room (on_judged refuse j (asked bytes i chosen fixed room))
-  on_judged_lem (judged.Accepted n) h = on_asked n h
-  on_judged_lem (judged.Refused f) h = Replied.faulty f h
+  on_judged_lem : (j : Result ℕ Fault) → judge bytes ≡ j → Replied bytes i chosen fixed room (on_judged refuse j (asked bytes i chosen fixed room))
+  on_judged_lem (Ok n) h = on_asked n h
+  on_judged_lem (Err f) h = Replied.faulty f h
 
   pub tabulated_replied : Replied bytes i chosen fixed room (tabulate bytes i chosen fixed room)
   unfolding tabulate
@@ -121,16 +119,16 @@ module _ (bytes : List ℕ) (i : ℕ) (chosen fixed memory : List ℕ) where
   abbrev variables : List Variable
   variables = (scope_at (scopes_of bytes) i).variables
 
-  pub tabulated_refused : (r : Refusal) → reply.answer ≡ Refused r → memory_after reply memory ≡ memory
+  pub tabulated_refused : (r : Refusal) → reply.answer ≡ Err r → memory_after reply memory ≡ memory
   tabulated_refused r e = within_refused (tabulated_within bytes i chosen fixed (length memory)) r e memory
 
-  pub tabulated_unchanged : ((size : ℕ) → reply.answer ≡ Written size → ⊥) → memory_after reply memory ≡ memory
+  pub tabulated_unchanged : ((size : ℕ) → reply.answer ≡ Ok size → ⊥) → memory_after reply memory ≡ memory
   tabulated_unchanged other = within_unchanged (tabulated_within bytes i chosen fixed (length memory)) other memory
 
   pub tabulated_size : length (memory_after reply memory) ≡ length memory
   tabulated_size = within_size memory (tabulated_within bytes i chosen fixed (length memory))
 
-  in_table : (size : ℕ) (p : Production) → Replied bytes i chosen fixed (length memory) p → p.answer ≡ Written size
+  in_table : (size : ℕ) (p : Production) → Replied bytes i chosen fixed (length memory) p → p.answer ≡ Ok size
       → InTable bytes i chosen fixed memory size (memory_after p memory)
   unfolding memory_after
   in_table size p (Replied.faulty f h) e = absurd (false≢true (ap is_written e))
@@ -139,7 +137,7 @@ module _ (bytes : List ℕ) (i : ℕ) (chosen fixed memory : List ℕ) where
   in_table size p (Replied.unfit a given h q) e = absurd (false≢true (ap is_written e))
   in_table size p (Replied.short c l) e = absurd (false≢true (ap is_written e))
   in_table size p (Replied.whole c l) e =
-      let long = ap (λ (r : Produced). (produced_numbers r).length) e in
+      let long = ap (λ (r : Result ℕ Refusal). (produced_numbers r).length) e in
       let whole : length (table bytes i chosen fixed) ≡ size = table_length_lem bytes i chosen fixed c ∙ long in
       record {
         choosing = c;
@@ -149,11 +147,11 @@ module _ (bytes : List ℕ) (i : ℕ) (chosen fixed memory : List ℕ) where
         written = ap (λ (k : ℕ). table bytes i chosen fixed ++ drop k memory) whole;
       }
 
-  pub tabulated_table : (size : ℕ) → reply.answer ≡ Written size → InTable bytes i chosen fixed memory size (memory_after reply memory)
+  pub tabulated_table : (size : ℕ) → reply.answer ≡ Ok size → InTable bytes i chosen fixed memory size (memory_after reply memory)
   tabulated_table size = in_table size reply (tabulated_replied bytes i chosen fixed (length memory))
 
   -- "Every choice is there once, with evaluation's answer": the row of an assignment, in the memory afterwards
-  pub tabulated_choice : (size : ℕ) → reply.answer ≡ Written size → (a : List Bool) → length a ≡ length chosen
+  pub tabulated_choice : (size : ℕ) → reply.answer ≡ Ok size → (a : List Bool) → length a ≡ length chosen
       → Rowed (result_length variables) (evaluate bytes i (fixed ++ assigned (in_order chosen variables) a) (result_length variables))
       (take (suc (result_length variables)) (drop (row_number a * suc (result_length variables)) (memory_after reply memory)))
   tabulated_choice size e a long =

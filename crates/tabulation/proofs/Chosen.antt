@@ -17,8 +17,8 @@ use native.Mathlib.Omega.{arith}
 use lib.ListN.{length, get_or}
 use lib.Dec.{eqb, ltb}
 use borrow.Author.Tests.{ltb-true, ltb-false, lt-ltb, eqb-true, eqb-false, eq-eqb, ne_eqb, not-false}
+use Rattle.std.specs.Prelude.{Option}
 use Rattle.laws.proofs.Booleans.{decide, both, or_cases, neither, both_ways, untrue}
-use Rattle.calculus.specs.declared.Given.{Given}
 use Rattle.book.specs.Lists.{any}
 use Rattle.order.proofs.Among.{among_at}
 use Rattle.book.specs.declared.ValueType.TheVariants.{YesNo}
@@ -27,6 +27,7 @@ use Rattle.lists.proofs.Reading.{Free, can_give}
 use Rattle.order.specs.Order.{among}
 use Rattle.book.specs.Sharing.{repeats}
 use Rattle.tabulation.specs.Chosen.{unfit, bad_choice, chosen_from, in_order}
+use Rattle.calculus.specs.declared.Value.{Value}
 
 -- Members
 
@@ -198,7 +199,7 @@ count_order variables (c ∷ cs) once known =
 
 -- Lists that are not refused
 
-known_from : (variables : List Variable) (fixed : List Given) (chosen : List ℕ) → any (unfit variables fixed) chosen ≡ false
+known_from : (variables : List Variable) (fixed : List (Option Value)) (chosen : List ℕ) → any (unfit variables fixed) chosen ≡ false
     → any (λ v. not (ltb v (length variables))) chosen ≡ false
 unfolding any
 known_from variables fixed [] e = refl
@@ -206,7 +207,7 @@ known_from variables fixed (c ∷ cs) e =
     let n = neither (unfit variables fixed c) (any (unfit variables fixed) cs) e in
     rw (lt-ltb c (length variables) (can_give variables fixed YesNo c n.0).known, known_from variables fixed cs n.1)
 
-module _ (variables : List Variable) (fixed : List Given) (chosen : List ℕ) (ok : bad_choice variables fixed chosen ≡ false) where
+module _ (variables : List Variable) (fixed : List (Option Value)) (chosen : List ℕ) (ok : bad_choice variables fixed chosen ≡ false) where
   tests : (ltb 12 (length chosen) ≡ false) × (repeats chosen ≡ false) × (any (unfit variables fixed) chosen ≡ false)
   unfolding bad_choice
   tests =

@@ -19,7 +19,7 @@ use native.Mathlib.Omega.{arith}
 use native.Mathlib.Nat.{suc-mul, mul-le-mul_right}
 use lib.ListN.{length, get_or, take, drop, replicate, length-append, length-drop, length-replicate}
 use lib.Seq.{take_at, take-append-le, drop-append-le, drop-append-add}
-use Rattle.calculus.specs.declared.Given.{Given}
+use Rattle.std.specs.Prelude.{Option, Ok}
 use Rattle.book.specs.Sharing.{gathered}
 use Rattle.book.specs.Decode.{scopes_of}
 use Rattle.book.specs.References.{scope_at}
@@ -29,7 +29,6 @@ use Rattle.answers.specs.Numbers.{cause_number}
 use Rattle.answers.specs.declared.Side.TheVariants.{Above, Below}
 use Rattle.answers.specs.declared.Cause.{Cause}
 use Rattle.answers.specs.declared.Cause.TheVariants.{OutOfRange}
-use Rattle.answers.specs.declared.Judged.TheVariants as judged
 use Rattle.answers.specs.declared.Answer.TheVariants.{Values}
 use Rattle.acceptance.proofs.Limits.{accepted_within}
 use Rattle.lists.specs.Inputs.{good, inputs}
@@ -48,6 +47,7 @@ use Rattle.tabulation.proofs.Chosen.{order_repeated, order_fit, chosen_count, ch
 use Rattle.tabulation.proofs.Assignments.{assignments_count, assignment_at, assignment_length, row_number_below}
 use Rattle.tabulation.proofs.Giving.{assigned_inputs}
 use Rattle.tabulation.proofs.Widths.{results_narrow, rows_most}
+use Rattle.calculus.specs.declared.Value.{Value}
 
 -- The row of a reply
 
@@ -66,8 +66,8 @@ row_empty : (size : ℕ) (cause : Cause) (count : ℕ) → Rowed size (reply_of 
 row_empty size cause count = subst (Rowed size (reply_of (ended cause count))) (sym (end_row size cause count)) (Rowed.in_end cause count)
 
 row_full : (size count : ℕ) (written : List ℕ) → length written ≡ size
-    → Rowed size (record { answer = Values count (length written); written = written })
-    (row_of size (record { answer = Values count (length written); written = written }))
+    → Rowed size (record { answer = Ok (Values count (length written)); written = written })
+    (row_of size (record { answer = Ok (Values count (length written)); written = written }))
 unfolding row_of
 row_full size count written e =
     let none : size - size ≡ 0 = omega arith in
@@ -78,11 +78,11 @@ rowed_length (Rowed.in_values count written e) = ap suc e
 rowed_length {size} (Rowed.in_end cause count) = ap suc (length-replicate {A = ℕ} size 0)
 
 -- a scope of an accepted book, a good fixed list, and chosen variables that are not refused
-module _ (bytes : List ℕ) (n i : ℕ) (ok : judge bytes ≡ judged.Accepted n) (here : i < n) where
+module _ (bytes : List ℕ) (n i : ℕ) (ok : judge bytes ≡ Ok n) (here : i < n) where
   abbrev variables : List Variable
   variables = (scope_at (scopes_of bytes) i).variables
 
-  module _ (chosen fixed : List ℕ) (gs : List Given) (read : inputs variables fixed ≡ good gs) (fit : bad_choice variables gs chosen ≡ false) where
+  module _ (chosen fixed : List ℕ) (gs : List (Option Value)) (read : inputs variables fixed ≡ good gs) (fit : bad_choice variables gs chosen ≡ false) where
     module _ (a : List Bool) (long : length a ≡ length (in_order chosen variables)) where
       row_inputs : inputs variables (fixed ++ assigned (in_order chosen variables) a) ≡ good (giving gs (in_order chosen variables) a)
       row_inputs = assigned_inputs variables fixed gs (in_order chosen variables) a read (order_repeated chosen variables) (order_fit variables gs chosen fit) long

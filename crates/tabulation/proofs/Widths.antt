@@ -10,8 +10,8 @@ use mathlib.Core.Logic.{⊎_elim}
 use native.Mathlib.Omega.{arith}
 use native.Mathlib.Nat.{mul-le-mul_left, mul_left_comm, mul_assoc}
 use lib.ListN.{length, get_or}
+use Rattle.std.specs.Prelude.{Option}
 use Rattle.laws.proofs.Booleans.{decide}
-use Rattle.calculus.specs.declared.Given.{Given}
 use Rattle.order.specs.Order.{among}
 use Rattle.book.specs.Syntax.{same_type}
 use Rattle.book.specs.declared.ValueType.{ValueType}
@@ -22,6 +22,7 @@ use Rattle.lists.proofs.Lengths.{size_most}
 use Rattle.tabulation.specs.Chosen.{bad_choice, chosen_from}
 use Rattle.tabulation.specs.Assignments.{power}
 use Rattle.tabulation.proofs.Chosen.{chosen_fit, chosen_count}
+use Rattle.calculus.specs.declared.Value.{Value}
 
 yes_no_size : (t : ValueType) → same_type YesNo t ≡ true → result_size t ≤ 3
 yes_no_size YesNo e = omega arith
@@ -43,7 +44,7 @@ module _ (chosen : List ℕ) where
       (λ (q : among chosen v ≡ false). let s = size_most x.holds in rw q (omega (arith, s, rest)))
       (decide (among chosen v))
 
-pub results_narrow : (variables : List Variable) (fixed : List Given) (chosen : List ℕ) → bad_choice variables fixed chosen ≡ false
+pub results_narrow : (variables : List Variable) (fixed : List (Option Value)) (chosen : List ℕ) → bad_choice variables fixed chosen ≡ false
     → result_length variables + 3 * length chosen ≤ 6 * length variables
 results_narrow variables fixed chosen ok =
     let all = narrow_from chosen 0 variables (λ j q. let e : 0 + j ≡ j = omega arith in (chosen_fit variables fixed chosen ok j (ap (among chosen) (sym e) ∙ q)).typed) in

@@ -1,19 +1,19 @@
 -- The chosen variables: which lists of them are refused, and their order.
-use Rattle.std.specs.Prelude.{ℕ, suc, Bool, cond, ◌||◌, List, [], ◌∷◌, length, ltb}
-use Rattle.calculus.specs.declared.Given.{Given}
+use Rattle.std.specs.Prelude.{ℕ, suc, Bool, cond, ◌||◌, List, [], ◌∷◌, length, ltb, Option}
 use Rattle.order.specs.Order.{among}
 use Rattle.book.specs.Lists.{any}
 use Rattle.book.specs.Sharing.{repeats}
 use Rattle.book.specs.declared.ValueType.TheVariants.{YesNo}
 use Rattle.book.specs.declared.Variable.{Variable}
 use Rattle.lists.specs.Inputs.{cannot_give}
+use Rattle.calculus.specs.declared.Value.{Value}
 
 -- one variable, by the variables of the scope and what the fixed input list gives: "absent, not yes/no, or in the fixed list"
-abbrev pub unfit : List Variable → List Given → ℕ → Bool
+abbrev pub unfit : List Variable → List (Option Value) → ℕ → Bool
 unfit variables fixed = cannot_give variables fixed YesNo
 
 -- 18: "more than 12 chosen, one chosen twice, absent, not yes/no, or in the fixed list"
-unfoldable pub bad_choice : List Variable → List Given → List ℕ → Bool
+unfoldable pub bad_choice : List Variable → List (Option Value) → List ℕ → Bool
 bad_choice variables fixed chosen = ltb 12 (length chosen) || (repeats chosen || any (unfit variables fixed) chosen)
 
 -- the chosen ones of the variables from v on, in number order, whatever order they are handed in

@@ -1,11 +1,10 @@
 -- The service: "List every choice of no and yes for at most 12 chosen yes/no variables of a scope, with a fixed input list for the rest." The
 -- paper's "sheet" is the table, its "line" a row.
-use Rattle.std.specs.Prelude.{ℕ, ◌-◌, Bool, cond, List, ◌∷◌, ◌++◌, length, replicate, ltb}
+use Rattle.std.specs.Prelude.{ℕ, ◌-◌, Bool, cond, List, ◌∷◌, ◌++◌, length, replicate, ltb, Result}
 use Rattle.answers.specs.Response.{on_judged, Responds}
 use Rattle.answers.specs.Numbers.{answer_numbers}
 use Rattle.answers.specs.Production.{Production, refuse, fitting}
 use Rattle.answers.specs.declared.Refusal.TheVariants.{NoSuchScope, BadInput, BadChoice}
-use Rattle.answers.specs.declared.Produced.{Produced}
 use Rattle.book.specs.Decode.{scopes_of}
 use Rattle.book.specs.Sharing.{gathered}
 use Rattle.book.specs.References.{scope_at}
@@ -16,6 +15,7 @@ use Rattle.lists.specs.Results.{result_length}
 use Rattle.evaluation.specs.Evaluate.{Reply, evaluate}
 use Rattle.tabulation.specs.Chosen.{bad_choice, in_order}
 use Rattle.tabulation.specs.Assignments.{assignments, assigned}
+use Rattle.answers.specs.declared.Refusal.{Refusal}
 
 -- bytes, and zeros after them up to a length
 abbrev pub padded : ℕ → List ℕ → List ℕ
@@ -58,5 +58,5 @@ unfoldable pub tabulate : List ℕ → ℕ → List ℕ → List ℕ → ℕ →
 tabulate bytes i chosen fixed room = on_judged refuse (judge bytes) (asked bytes i chosen fixed room)
 
 -- the answer and the memory are those of tabulating
-abbrev pub Tabulates : List ℕ → ℕ → List ℕ → List ℕ → List ℕ → Produced → List ℕ → Type 0
+abbrev pub Tabulates : List ℕ → ℕ → List ℕ → List ℕ → List ℕ → Result ℕ Refusal → List ℕ → Type 0
 Tabulates bytes i chosen fixed before = Responds (tabulate bytes i chosen fixed (length before)) before

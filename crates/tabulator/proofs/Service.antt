@@ -11,20 +11,15 @@ use mathlib.Core.List.{List, [], ◌∷◌, ◌++◌, map}
 use native.Mathlib.Omega.{arith}
 use lib.ListN.{length, get_or, take, drop, set, length-set}
 use borrow.Author.Tests.{lt-ltb, le-ltb}
+use Rattle.std.specs.Prelude.{Result, ℕ, Ok, Err, Option, None}
 use Rattle.answers.specs.Response.{on_judged}
 use Rattle.answers.specs.Production.{refuse, fitting}
 use Rattle.answers.proofs.Response.{same_response, nothing_written}
 use Rattle.answers.proofs.Production.{produces_all, produces_none}
 use Rattle.answers.specs.declared.Fault.{Fault}
-use Rattle.answers.specs.declared.Judged.{Judged}
-use Rattle.answers.specs.declared.Judged.TheVariants as judged
 use Rattle.answers.specs.declared.Refusal.TheVariants.{Book, NoSuchScope, BadInput, BufferTooSmall, BadChoice}
-use Rattle.answers.specs.declared.Produced.{Produced}
-use Rattle.answers.specs.declared.Produced.TheVariants.{Written, Refused}
 use Rattle.laws.proofs.Booleans.{neither}
 use Rattle.calculus.specs.declared.Value.TheVariants.{Truth}
-use Rattle.calculus.specs.declared.Given.{Given}
-use Rattle.calculus.specs.declared.Given.TheVariants.{Absent}
 use Rattle.cells.specs.Codec.{value_cell}
 use Rattle.cells.specs.Cells.{given_of}
 use Rattle.book.specs.Lists.{any}
@@ -56,16 +51,18 @@ use Rattle.tabulation.proofs.Rows.{row_run, table_length_lem}
 use Rattle.rows.specs.Filling.{assign, cell_row, cell_rows, FillsRows}
 use Rattle.rows.proofs.Cells.{givens_set}
 use Rattle.tabulator.specs.Service.{TableAsked, WritesTable}
+use Rattle.calculus.specs.declared.Value.{Value}
+use Rattle.answers.specs.declared.Refusal.{Refusal}
 
 -- chosen variables are judged by what is given alone
-unfit_same : (variables : List Variable) (gs hs : List Given) → ((v : ℕ) → get_or gs v Absent ≡ get_or hs v Absent) → (chosen : List ℕ)
+unfit_same : (variables : List Variable) (gs hs : List (Option Value)) → ((v : ℕ) → get_or gs v None ≡ get_or hs v None) → (chosen : List ℕ)
     → any (unfit variables gs) chosen ≡ any (unfit variables hs) chosen
 unfolding any cannot_give
 unfit_same variables gs hs same [] = refl
 unfit_same variables gs hs same (v ∷ vs) = rw (same v, unfit_same variables gs hs same vs)
 
 -- an assignment in the cells gives what it gives
-assign_giving : (variables : List Variable) (gs : List Given) (n : ℕ) (vs : List ℕ) (a : List Bool) (cells : List ℕ)
+assign_giving : (variables : List Variable) (gs : List (Option Value)) (n : ℕ) (vs : List ℕ) (a : List Bool) (cells : List ℕ)
     → any (unfit variables gs) vs ≡ false → length variables ≤ length cells → givens_from (assign cells vs a) 0 n ≡ giving (givens_from cells 0 n) vs a
 unfolding any assign giving
 assign_giving variables gs n [] a cells ok few = refl
@@ -75,7 +72,7 @@ assign_giving variables gs n (v ∷ vs) (b ∷ bs) cells ok few =
     let there = (can_give variables gs YesNo v k.0).known in
     let next = set cells v (value_cell (Truth b)) in
     assign_giving variables gs n vs bs next k.1 (omega (arith, few, length-set cells v (value_cell (Truth b))))
-    ∙ ap (λ (g : List Given). giving g vs bs) (givens_set cells n v b (omega (arith, there, few)))
+    ∙ ap (λ (g : List (Option Value)). giving g vs bs) (givens_set cells n v b (omega (arith, there, few)))
 
 pub results_few : (book : List Scope) (i : ℕ) → length (scope_at book i).variables ≤ 32 → result_length_at book i ≤ 192
 unfolding result_length_at
@@ -86,14 +83,14 @@ pub sized : (k : ℕ) {size s t : ℕ} → size ≡ power k * suc s → s ≡ t 
 sized k e f = e ∙ ap (λ (x : ℕ). power k * suc x) f
 
 module _ (bytes : List ℕ) (i : ℕ) (chosen fixed : List ℕ) where
-  pub refused_book : {memory : List ℕ} {f : Fault} → judge bytes ≡ judged.Refused f → Tabulates bytes i chosen fixed memory (Refused (Book f)) memory
+  pub refused_book : {memory : List ℕ} {f : Fault} → judge bytes ≡ Err f → Tabulates bytes i chosen fixed memory (Err (Book f)) memory
   unfolding tabulate
-  refused_book {memory} {f} e = nothing_written (ap (λ (j : Judged). on_judged refuse j (asked bytes i chosen fixed (length memory))) e)
+  refused_book {memory} {f} e = nothing_written (ap (λ (j : Result ℕ Fault). on_judged refuse j (asked bytes i chosen fixed (length memory))) e)
 
-  module _ (n : ℕ) (ok : judge bytes ≡ judged.Accepted n) where
+  module _ (n : ℕ) (ok : judge bytes ≡ Ok n) where
     is_asked : (room : ℕ) → tabulate bytes i chosen fixed room ≡ asked bytes i chosen fixed room
     unfolding tabulate
-    is_asked room = ap (λ (j : Judged). on_judged refuse j (asked bytes i chosen fixed room)) ok
+    is_asked room = ap (λ (j : Result ℕ Fault). on_judged refuse j (asked bytes i chosen fixed room)) ok
 
     count : n ≡ length (scopes_of bytes)
     count = accepted_count bytes n ok
@@ -102,7 +99,7 @@ module _ (bytes : List ℕ) (i : ℕ) (chosen fixed : List ℕ) where
     unfolding asked
     none_asked room l = rw (le-ltb i (length (scopes_of bytes)) (omega (arith, count)))
 
-    pub refused_scope : {memory : List ℕ} → n ≤ i → Tabulates bytes i chosen fixed memory (Refused NoSuchScope) memory
+    pub refused_scope : {memory : List ℕ} → n ≤ i → Tabulates bytes i chosen fixed memory (Err NoSuchScope) memory
     refused_scope {memory} l = nothing_written (is_asked (length memory) ∙ none_asked (length memory) l)
 
     module _ (here : i < n) where
@@ -113,7 +110,7 @@ module _ (bytes : List ℕ) (i : ℕ) (chosen fixed : List ℕ) where
       unfolding asked
       bad_asked room e = rw (lt-ltb i (length (scopes_of bytes)) (omega (arith, count)), e)
 
-      pub refused_input : {memory : List ℕ} → inputs variables fixed ≡ bad → Tabulates bytes i chosen fixed memory (Refused BadInput) memory
+      pub refused_input : {memory : List ℕ} → inputs variables fixed ≡ bad → Tabulates bytes i chosen fixed memory (Err BadInput) memory
       refused_input {memory} e = nothing_written (is_asked (length memory) ∙ bad_asked (length memory) e)
 
       module _ {given : List ℕ} (taken : Taken variables fixed given) where
@@ -126,7 +123,7 @@ module _ (bytes : List ℕ) (i : ℕ) (chosen fixed : List ℕ) where
         chosen_asked room e = rw (lt-ltb i (length (scopes_of bytes)) (omega (arith, count)), taken.list, sym same_choice ∙ e)
 
         pub refused_choice : {memory : List ℕ} → bad_choice variables (map given_of given) chosen ≡ true
-            → Tabulates bytes i chosen fixed memory (Refused BadChoice) memory
+            → Tabulates bytes i chosen fixed memory (Err BadChoice) memory
         refused_choice {memory} e = nothing_written (is_asked (length memory) ∙ chosen_asked (length memory) e)
 
         module _ (good : bad_choice variables (map given_of given) chosen ≡ false) where
@@ -142,7 +139,7 @@ module _ (bytes : List ℕ) (i : ℕ) (chosen fixed : List ℕ) where
           fitting_asked room = rw (lt-ltb i (length (scopes_of bytes)) (omega (arith, count)), taken.list, fits)
 
           fits_cells : bad_choice variables (givens_from given 0 (length variables)) chosen ≡ false
-          fits_cells = ap (λ (gs : List Given). bad_choice variables gs chosen) (taken_givens taken) ∙ fits
+          fits_cells = ap (λ (gs : List (Option Value)). bad_choice variables gs chosen) (taken_givens taken) ∙ fits
 
           module _ (room : length given ≡ 32) (few : length variables ≤ 32) where
             -- a row by its cells
@@ -150,10 +147,10 @@ module _ (bytes : List ℕ) (i : ℕ) (chosen fixed : List ℕ) where
                 → cell_row bytes i (assign given (in_order chosen variables) a) ≡ row bytes i chosen fixed a
             unfolding cell_row entered_at result_length_at
             same_row a e =
-                ap (λ (gs : List Given). row_of (result_length_at (scopes_of bytes) i) (reply_of (run_scope (scopes_of bytes) i gs)))
+                ap (λ (gs : List (Option Value)). row_of (result_length_at (scopes_of bytes) i) (reply_of (run_scope (scopes_of bytes) i gs)))
                 (assign_giving variables (givens_from given 0 (length variables)) (length variables) (in_order chosen variables) a given
                 (order_fit variables (givens_from given 0 (length variables)) chosen fits_cells) (omega (arith, room, few))
-                ∙ ap (λ (gs : List Given). giving gs (in_order chosen variables) a) (taken_givens taken))
+                ∙ ap (λ (gs : List (Option Value)). giving gs (in_order chosen variables) a) (taken_givens taken))
                 ∙ sym (row_run bytes n i ok here chosen fixed taken.givens taken.list fits a e)
 
             same_table : cell_rows bytes i (in_order chosen variables) given ≡ table bytes i chosen fixed
@@ -181,7 +178,7 @@ module _ (bytes : List ℕ) (i : ℕ) (chosen fixed : List ℕ) where
                   long = cells_long;
                 }
 
-            pub tabulated : {memory after : List ℕ} {r : Produced} → WritesTable bytes i chosen given memory r after
+            pub tabulated : {memory after : List ℕ} {r : Result ℕ Refusal} → WritesTable bytes i chosen given memory r after
                 → Tabulates bytes i chosen fixed memory r after
             tabulated {memory} =
                 same_response
@@ -209,12 +206,12 @@ module _ {bytes index links orders : List ℕ} {i : ℕ} {chosen ordered given :
       })
 
   pub short_so : {memory : List ℕ} {size : ℕ} → size ≡ power (length chosen) * suc (result_length_at (scopes_of bytes) i) → length memory < size
-      → WritesTable bytes i chosen given memory (Refused BufferTooSmall) memory
+      → WritesTable bytes i chosen given memory (Err BufferTooSmall) memory
   short_so {memory} whole l = produces_none (cell_rows bytes i (in_order chosen own) given) refl (omega (arith, whole, l, o.long))
 
   pub written_so : {memory part order : List ℕ} {size : ℕ} → order ≡ take (length chosen) (drop 0 ordered) → part ≡ cell_rows bytes i order given
       → size ≡ power (length chosen) * suc (result_length_at (scopes_of bytes) i) → size ≤ length memory
-      → WritesTable bytes i chosen given memory (Written size) (part ++ drop size memory)
+      → WritesTable bytes i chosen given memory (Ok size) (part ++ drop size memory)
   written_so {memory} {part} {order} {size} same filled whole enough =
       let is : part ≡ cell_rows bytes i (in_order chosen own) given = filled ∙ ap (λ (vs : List ℕ). cell_rows bytes i vs given) (same ∙ o.order) in
       let size_is : size ≡ length (cell_rows bytes i (in_order chosen own) given) = whole ∙ sym o.long in

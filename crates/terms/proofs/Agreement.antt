@@ -7,13 +7,14 @@ use Prim.Native.Nat.{ℕ, ◌+◌}
 use mathlib.Core.Path.{◌≡◌, refl}
 use mathlib.Core.Bool.{Bool, true, false, ◌||◌}
 use borrow.Author.Tests.{eq-eqb}
+use Rattle.std.specs.Prelude.{Result, Ok}
 use Rattle.calculus.specs.Terms.{Term, Terms, literal, own, called, error, unary, binary, choice, default, none, also}
 use Rattle.calculus.specs.Evaluation.{Env, eval, exceptions}
 use Rattle.calculus.specs.declared.Joined.TheVariants.{Nothing}
-use Rattle.calculus.specs.declared.Gathered.{Gathered}
-use Rattle.calculus.specs.declared.Gathered.TheVariants.{SoFar}
 use Rattle.book.specs.Steps.{reads, reads_any}
 use Rattle.terms.specs.Agreement.{EachRead, EachReadIn, Agree}
+use Rattle.answers.specs.declared.Cause.{Cause}
+use Rattle.calculus.specs.declared.Joined.{Joined}
 
 module _ (e f : Env) where
   abbrev AgreeIn : Terms → Type 0
@@ -30,9 +31,9 @@ module _ (e f : Env) where
     eval_agrees (unary op a) h = rw (eval_agrees a h)
     eval_agrees (binary op a b) h = rw (eval_agrees a h.0, eval_agrees b h.1)
     eval_agrees (choice c a b) h = rw (eval_agrees c h.0, eval_agrees a h.1, eval_agrees b h.2)
-    eval_agrees (default es j c) h = rw (exceptions_agree (SoFar Nothing) es h.0, eval_agrees j h.1, eval_agrees c h.2)
+    eval_agrees (default es j c) h = rw (exceptions_agree (Ok Nothing) es h.0, eval_agrees j h.1, eval_agrees c h.2)
 
-    exceptions_agree : (g : Gathered) (ts : Terms) → AgreeIn ts → exceptions e g ts ≡ exceptions f g ts
+    exceptions_agree : (g : Result Joined Cause) (ts : Terms) → AgreeIn ts → exceptions e g ts ≡ exceptions f g ts
     exceptions_agree g none h = refl
     exceptions_agree g (also t ts) h = rw (eval_agrees t h.0) (exceptions_agree _ ts h.1)
 

@@ -16,6 +16,7 @@ use lib.ListN.{length, get_or, drop}
 use lib.Dec.{T, eqb, leb, leb→le}
 use types.Run.{OneOf}
 use borrow.Author.Tests.{eq-eqb, ne_eqb, eqb-false}
+use Rattle.std.specs.Prelude.{Result, Ok, Err}
 use Rattle.record.specs.Kinds.{kinds, shapes_of, shape_in}
 use Rattle.record.proofs.Decision.{NoneOf}
 use Rattle.laws.proofs.Booleans.{decide}
@@ -25,13 +26,9 @@ use Rattle.calculus.specs.Terms.{Term, Terms, none, also}
 use Rattle.calculus.specs.Evaluation.{Env, eval, exceptions}
 use Rattle.calculus.proofs.Numbers.{zero_fits}
 use Rattle.answers.specs.declared.Cause.TheVariants as cause
-use Rattle.calculus.specs.declared.Outcome.{Outcome}
-use Rattle.calculus.specs.declared.Outcome.TheVariants.{Gives, Ends}
 use Rattle.calculus.specs.declared.Unary.TheVariants.{Not, Negate}
 use Rattle.calculus.specs.declared.Binary.{Binary as Operator}
 use Rattle.calculus.specs.declared.Joined.TheVariants.{Nothing}
-use Rattle.calculus.specs.declared.Gathered.{Gathered}
-use Rattle.calculus.specs.declared.Gathered.TheVariants.{SoFar, Ended}
 use Rattle.book.specs.Syntax.{no_node, node_of, type_of}
 use Rattle.book.specs.Positions.{node_from, node_length}
 use Rattle.book.specs.Trees.{exception, node_term, term_below}
@@ -46,6 +43,9 @@ use Rattle.terms.specs.Outcomes.{env_of, nodes_in, outcome_in, gather_in, is_lea
 use Rattle.terms.proofs.Defaults.{no_so_far, settled_many, settled, unsettled}
 use Rattle.cells.proofs.Codec.{no_end, no_value_lem, is_yes}
 use Rattle.terms.proofs.Leaves.{inner_kinds, own_node, called_node}
+use Rattle.calculus.specs.declared.Joined.{Joined}
+use Rattle.answers.specs.declared.Cause.{Cause}
+use Rattle.calculus.specs.declared.Value.{Value}
 
 at_or_past : (m k : ℕ) → m ≤ k → (k ≡ m) ⊎ (m < k)
 at_or_past m k l = ⊎_elim (λ (e : m ≡ k). inl (sym e)) inr (eq-or-lt_of_le {n = m} {m = k} l)
@@ -120,7 +120,7 @@ default_of k body out =
     )
 
 -- an exception is gathered; 255 is none
-exceptions_listed : (e : Env) (lower : ℕ → Term) (g : Gathered) (x : ℕ) (ts : Terms)
+exceptions_listed : (e : Env) (lower : ℕ → Term) (g : Result Joined Cause) (x : ℕ) (ts : Terms)
     → exceptions e g (exception lower x ts) ≡ exceptions e (cond (eqb x 255) g (gather g (eval e (lower x)))) ts
 unfolding exceptions
 exceptions_listed e lower g x ts = go (eqb x 255)
@@ -130,19 +130,19 @@ exceptions_listed e lower g x ts = go (eqb x 255)
     go false = refl
 
 -- what an end of the left operand, or of a condition, comes to
-end_of_two : (op : Operator) (x : ℕ) (a b : Outcome) → Codes x a → empty_cell ≤ x → Codes x (binary_on op a b)
-end_of_two op x (Gives v) b h l = no_end v x h l
-end_of_two op x (Ends c) b h l = h
+end_of_two : (op : Operator) (x : ℕ) (a b : Result Value Cause) → Codes x a → empty_cell ≤ x → Codes x (binary_on op a b)
+end_of_two op x (Ok v) b h l = no_end v x h l
+end_of_two op x (Err c) b h l = h
 
-pub end_of_choice : (x : ℕ) (o a b : Outcome) → Codes x o → empty_cell ≤ x → Codes x (choose o a b)
-end_of_choice x (Gives v) a b h l = no_end v x h l
-end_of_choice x (Ends c) a b h l = h
+pub end_of_choice : (x : ℕ) (o a b : Result Value Cause) → Codes x o → empty_cell ≤ x → Codes x (choose o a b)
+end_of_choice x (Ok v) a b h l = no_end v x h l
+end_of_choice x (Err c) a b h l = h
 
 -- the branch that a condition takes
-pub branch_of_choice : (x r : ℕ) (o a b : Outcome) (q : Bool) → Codes x o → x < empty_cell → eqb x yes_cell ≡ q
+pub branch_of_choice : (x r : ℕ) (o a b : Result Value Cause) (q : Bool) → Codes x o → x < empty_cell → eqb x yes_cell ≡ q
     → Codes r (cond q a b) → Codes r (choose o a b)
-branch_of_choice x r (Gives v) a b q h l e k = rw (← is_yes v x h, e) k
-branch_of_choice x r (Ends c) a b q h l e k = no_value_lem c x h l
+branch_of_choice x r (Ok v) a b q h l e k = rw (← is_yes v x h, e) k
+branch_of_choice x r (Err c) a b q h l e k = no_value_lem c x h l
 
 pub get_d_nodes : (bytes row : List ℕ) (n : ℕ) → n < length row → get_or (nodes_in bytes row) n no_node ≡ node_from bytes (get_or row n 0)
 unfolding nodes_in
@@ -157,7 +157,7 @@ module _ (bytes row own called : List ℕ) where
   lower n a l =
       ap (eval (env_of own called)) (term_here (nodes_in bytes row) n a l ∙ sym (term_here (nodes_in bytes row) (suc a) a (omega arith)))
 
-  gathered_below : (n x : ℕ) (g : Gathered) → NamesException n x
+  gathered_below : (n x : ℕ) (g : Result Joined Cause) → NamesException n x
       → cond (eqb x 255) g (gather g (eval (env_of own called) (term_below (nodes_in bytes row) n x))) ≡ gather_in bytes row own called g x
   unfolding gather_in
   gathered_below n x g named =
@@ -174,8 +174,8 @@ module _ (bytes row own called : List ℕ) where
 
     pub ended_gathered : (x ≡ 255 → ⊥) → empty_cell ≤ c → GathersIn bytes row own called c x c
     unfolding gather_in
-    ended_gathered e l (SoFar j) h = no_so_far j c h l
-    ended_gathered e l (Ended k) h = rw (ne_eqb x 255 e) h
+    ended_gathered e l (Ok j) h = no_so_far j c h l
+    ended_gathered e l (Err k) h = rw (ne_eqb x 255 e) h
 
     pub one_gathered : (o : ℕ) → (x ≡ 255 → ⊥) → Codes o (outcome_in bytes row own called x) → OnBoth c o r → GathersIn bytes row own called c x r
     unfolding gather_in
@@ -192,7 +192,7 @@ module _ (bytes row own called : List ℕ) (n : ℕ) (s : Readable bytes row own
   abbrev byte : ℕ → ℕ
   byte k = get_or bytes (at + k) 0
 
-  abbrev outcome : ℕ → Outcome
+  abbrev outcome : ℕ → Result Value Cause
   outcome m = outcome_in bytes row own called m
 
   here : Stands bytes row own called n
@@ -349,11 +349,11 @@ module _ (bytes row own called : List ℕ) (n : ℕ) (s : Readable bytes row own
   branch e x r q h l p k = rw (choice_here e) (branch_of_choice x r _ _ _ q h l p k)
 
   -- a default: its exceptions, and what decides where they come to nothing
-  abbrev gathered : Gathered
-  gathered = gather_in bytes row own called (gather_in bytes row own called (gather_in bytes row own called (SoFar Nothing) (byte 1)) (byte 2)) (byte 3)
+  abbrev gathered : Result Joined Cause
+  gathered = gather_in bytes row own called (gather_in bytes row own called (gather_in bytes row own called (Ok Nothing) (byte 1)) (byte 2)) (byte 3)
 
-  abbrev rest : Outcome
-  rest = choose (outcome (byte 4)) (outcome (byte 5)) (Ends cause.Empty)
+  abbrev rest : Result Value Cause
+  rest = choose (outcome (byte 4)) (outcome (byte 5)) (Err cause.Empty)
 
   default_here : node_from bytes at ≡ default_from bytes at → outcome n ≡ settle gathered rest
   unfolding eval exceptions
@@ -363,17 +363,17 @@ module _ (bytes row own called : List ℕ) (n : ℕ) (s : Readable bytes row own
       let low = term_below (nodes_in bytes row) n in
       rw (
         found _ is,
-        exceptions_listed e low (SoFar Nothing) (byte 1) (exception low (byte 2) (exception low (byte 3) none)),
-        gathered_below bytes row own called n (byte 1) (SoFar Nothing) b.0,
-        exceptions_listed e low (gather_in bytes row own called (SoFar Nothing) (byte 1)) (byte 2) (exception low (byte 3) none),
-        gathered_below bytes row own called n (byte 2) (gather_in bytes row own called (SoFar Nothing) (byte 1)) b.1,
-        exceptions_listed e low (gather_in bytes row own called (gather_in bytes row own called (SoFar Nothing) (byte 1)) (byte 2)) (byte 3) none,
-        gathered_below bytes row own called n (byte 3) (gather_in bytes row own called (gather_in bytes row own called (SoFar Nothing) (byte 1)) (byte 2)) b.2,
+        exceptions_listed e low (Ok Nothing) (byte 1) (exception low (byte 2) (exception low (byte 3) none)),
+        gathered_below bytes row own called n (byte 1) (Ok Nothing) b.0,
+        exceptions_listed e low (gather_in bytes row own called (Ok Nothing) (byte 1)) (byte 2) (exception low (byte 3) none),
+        gathered_below bytes row own called n (byte 2) (gather_in bytes row own called (Ok Nothing) (byte 1)) b.1,
+        exceptions_listed e low (gather_in bytes row own called (gather_in bytes row own called (Ok Nothing) (byte 1)) (byte 2)) (byte 3) none,
+        gathered_below bytes row own called n (byte 3) (gather_in bytes row own called (gather_in bytes row own called (Ok Nothing) (byte 1)) (byte 2)) b.2,
         lower bytes row own called n (byte 4) b.3,
         lower bytes row own called n (byte 5) b.4,
       )
 
-  nothing : Gathers 0 (SoFar Nothing)
+  nothing : Gathers 0 (Ok Nothing)
   unfolding gathered_cell
   nothing = record { is = refl; fits = zero_fits }
 

@@ -12,6 +12,7 @@ use lib.Signed.{lt_z}
 use mir.Syntax.{w32}
 use mir.Val.{SFits}
 use mir.ValLaws.{to_z-Fits}
+use Rattle.std.specs.Prelude.{Ok, Err}
 use Rattle.calculus.specs.Values.{ranged}
 use Rattle.calculus.specs.Operators.{unary_of, binary_of}
 use Rattle.calculus.proofs.Numbers.{zero_fits}
@@ -19,7 +20,6 @@ use Rattle.calculus.specs.declared.Value.{Value}
 use Rattle.calculus.specs.declared.Value.TheVariants.{Truth, Number}
 use Rattle.answers.specs.declared.Side.{Side}
 use Rattle.answers.specs.declared.Cause.TheVariants.{OutOfRange}
-use Rattle.calculus.specs.declared.Outcome.TheVariants.{Gives, Ends}
 use Rattle.calculus.specs.declared.Unary.{Unary}
 use Rattle.calculus.specs.declared.Unary.TheVariants.{Not, Negate}
 use Rattle.calculus.specs.declared.Binary.{Binary}
@@ -29,37 +29,37 @@ use Rattle.cells.proofs.Codec.{no_end, no_value_lem, is_yes, is_number, are_same
 use Rattle.terms.specs.Operators.{OnOne, OnTwo}
 
 pub end_passes : (op : Unary) (x : ℕ) → empty_cell ≤ x → OnOne op x x
-end_passes op x l (Gives v) h = no_end v x h l
-end_passes op x l (Ends k) h = h
+end_passes op x l (Ok v) h = no_end v x h l
+end_passes op x l (Err k) h = h
 
-pub on_value_lem : (op : Unary) (x r : ℕ) → x < empty_cell → ((v : Value) → Codes x (Gives v) → Codes r (unary_of op v)) → OnOne op x r
-on_value_lem op x r l f (Gives v) h = f v h
-on_value_lem op x r l f (Ends k) h = no_value_lem k x h l
+pub on_value_lem : (op : Unary) (x r : ℕ) → x < empty_cell → ((v : Value) → Codes x (Ok v) → Codes r (unary_of op v)) → OnOne op x r
+on_value_lem op x r l f (Ok v) h = f v h
+on_value_lem op x r l f (Err k) h = no_value_lem k x h l
 
 pub left_passes : (op : Binary) (x y : ℕ) → empty_cell ≤ x → OnTwo op x y x
-left_passes op x y l (Gives v) b h k = no_end v x h l
-left_passes op x y l (Ends c) b h k = h
+left_passes op x y l (Ok v) b h k = no_end v x h l
+left_passes op x y l (Err c) b h k = h
 
 pub right_passes : (op : Binary) (x y : ℕ) → x < empty_cell → empty_cell ≤ y → OnTwo op x y y
-right_passes op x y l m (Gives v) (Gives w) h k = no_end w y k m
-right_passes op x y l m (Gives v) (Ends c) h k = k
-right_passes op x y l m (Ends c) b h k = no_value_lem c x h l
+right_passes op x y l m (Ok v) (Ok w) h k = no_end w y k m
+right_passes op x y l m (Ok v) (Err c) h k = k
+right_passes op x y l m (Err c) b h k = no_value_lem c x h l
 
 pub on_values : (op : Binary) (x y r : ℕ) → x < empty_cell → y < empty_cell
-    → ((v w : Value) → Codes x (Gives v) → Codes y (Gives w) → Codes r (binary_of op v w)) → OnTwo op x y r
-on_values op x y r l m f (Gives v) (Gives w) h k = f v w h k
-on_values op x y r l m f (Gives v) (Ends c) h k = no_value_lem c y k m
-on_values op x y r l m f (Ends c) b h k = no_value_lem c x h l
+    → ((v w : Value) → Codes x (Ok v) → Codes y (Ok w) → Codes r (binary_of op v w)) → OnTwo op x y r
+on_values op x y r l m f (Ok v) (Ok w) h k = f v w h k
+on_values op x y r l m f (Ok v) (Err c) h k = no_value_lem c y k m
+on_values op x y r l m f (Err c) b h k = no_value_lem c x h l
 
-pub truth_codes : (r : ℕ) (b d : Bool) → r ≡ truth_cell b → b ≡ d → Codes r (Gives (Truth d))
+pub truth_codes : (r : ℕ) (b d : Bool) → r ≡ truth_cell b → b ≡ d → Codes r (Ok (Truth d))
 unfolding cell_of value_cell
 truth_codes r b d e f = record { is = e ∙ ap truth_cell f; fits = zero_fits }
 
-pub number_codes : (r : ℕ) (z : ℤ) → SFits w32 z → r ≡ value_cell (Number z) → Codes r (Gives (Number z))
+pub number_codes : (r : ℕ) (z : ℤ) → SFits w32 z → r ≡ value_cell (Number z) → Codes r (Ok (Number z))
 unfolding cell_of
 number_codes r z f e = record { is = e; fits = f }
 
-pub side_codes : (s : Side) → Codes (side_cell s) (Ends (OutOfRange s))
+pub side_codes : (s : Side) → Codes (side_cell s) (Err (OutOfRange s))
 unfolding cell_of
 side_codes s = record { is = refl; fits = zero_fits }
 

@@ -1,16 +1,17 @@
 -- What the nodes of a scope evaluate to, by its row of positions, over the cells of its variables and of its sub-scopes' variables.
-use Rattle.std.specs.Prelude.{ℕ, suc, ◌+◌, ◌*◌, ◌<◌, ◌≤◌, ◌≡◌, Bool, true, false, cond, ◌&&◌, List, [], ◌∷◌, length, get_or, eqb, leb, ltb}
+use Rattle.std.specs.Prelude.{ℕ, suc, ◌+◌, ◌*◌, ◌<◌, ◌≤◌, ◌≡◌, Bool, true, false, cond, ◌&&◌, List, [], ◌∷◌, length, get_or, eqb, leb, ltb, Result}
 use Rattle.calculus.specs.Terms.{Term}
 use Rattle.calculus.specs.Evaluation.{Env, eval}
 use Rattle.calculus.specs.Defaults.{gather}
-use Rattle.calculus.specs.declared.Outcome.{Outcome}
-use Rattle.calculus.specs.declared.Gathered.{Gathered}
 use Rattle.book.specs.Positions.{node_from, node_length}
 use Rattle.book.specs.Trees.{node_term, term_below}
 use Rattle.book.specs.declared.Node.{Node}
 use Rattle.book.specs.declared.Node.TheVariants as node
 use Rattle.cells.specs.Codec.{Codes, Gathers, AllKept}
 use Rattle.cells.specs.Cells.{given_at, held}
+use Rattle.calculus.specs.declared.Joined.{Joined}
+use Rattle.answers.specs.declared.Cause.{Cause}
+use Rattle.calculus.specs.declared.Value.{Value}
 
 -- one cell for each own variable, 32 for each sub-scope
 abbrev pub env_of : List ℕ → List ℕ → Env
@@ -22,11 +23,11 @@ nodes_in bytes [] = []
 nodes_in bytes (at ∷ row) = node_from bytes at ∷ nodes_in bytes row
 
 -- node n of a row
-unfoldable pub outcome_in : List ℕ → List ℕ → List ℕ → List ℕ → ℕ → Outcome
+unfoldable pub outcome_in : List ℕ → List ℕ → List ℕ → List ℕ → ℕ → Result Value Cause
 outcome_in bytes row own called n = eval (env_of own called) (term_below (nodes_in bytes row) (suc n) n)
 
 -- the exceptions so far and one more, a node of a row, "255: none"
-unfoldable pub gather_in : List ℕ → List ℕ → List ℕ → List ℕ → Gathered → ℕ → Gathered
+unfoldable pub gather_in : List ℕ → List ℕ → List ℕ → List ℕ → Result Joined Cause → ℕ → Result Joined Cause
 gather_in bytes row own called g x = cond (eqb x 255) g (gather g (outcome_in bytes row own called x))
 
 -- a default whose record begins at a position
@@ -95,4 +96,4 @@ abbrev pub ReadableException : List ℕ → List ℕ → List ℕ → List ℕ �
 ReadableException bytes row own called x = (x ≡ 255 → ⊥) → Readable bytes row own called x
 
 abbrev pub GathersIn : List ℕ → List ℕ → List ℕ → List ℕ → ℕ → ℕ → ℕ → Type 0
-GathersIn bytes row own called c x r = (g : Gathered) → Gathers c g → Gathers r (gather_in bytes row own called g x)
+GathersIn bytes row own called c x r = (g : Result Joined Cause) → Gathers c g → Gathers r (gather_in bytes row own called g x)

@@ -11,6 +11,7 @@ use native.Mathlib.Nat.{eq-or-lt_of_le}
 use lib.ListN.{length, get_or, get_or-eq_default}
 use lib.Dec.{eqb, leb, ltb, leb→le}
 use borrow.Author.Tests.{eqb-false, leb-true, ltb-true, ltb-false}
+use Rattle.std.specs.Prelude.{None}
 use Rattle.laws.proofs.Booleans.{both, decide}
 use Rattle.record.specs.Kinds.{kinds, shapes_of, pick_shape, shape_in}
 use Rattle.record.specs.declared.Medium.TheVariants.{Book}
@@ -20,7 +21,6 @@ use Rattle.book.specs.Decode.{Parsed, in_front, parse, scopes_of}
 use Rattle.book.specs.Judge.{scan}
 use Rattle.book.specs.declared.Node.{Node}
 use Rattle.book.specs.declared.Tally.{Tally}
-use Rattle.book.specs.declared.Scanned.TheVariants.{Sound}
 use Rattle.book.proofs.Shapes.{every, at_every, stage_below}
 use Rattle.book.proofs.Sorts.{variable, sub_scope, node, clause, Staged, begins, has, staged, begun}
 use Rattle.book.proofs.Sound.{sounds}
@@ -97,19 +97,19 @@ record_adds m p (has sub_scope e) = let l : least 3 ≤ (shape_in Book m.kind).l
 record_adds m p (has node e) = let l = node_adds m.kind (body_of m) e in rw e (omega (arith, l))
 record_adds m p (has clause e) = let l : least 5 ≤ (shape_in Book m.kind).length = rw e at (body_least m.kind) in rw e (omega (arith, l))
 
-met_bytes : (m : Met) (more : List Met) → scan (m ∷ cond (unknown_kind m) [] more) ≡ Sound
-    → ((shape_in Book m.kind).length ≤ length m.rest → scan more ≡ Sound → (shape_in Book m.kind).length + bytes_in (parse more) ≤ length m.rest)
+met_bytes : (m : Met) (more : List Met) → scan (m ∷ cond (unknown_kind m) [] more) ≡ None
+    → ((shape_in Book m.kind).length ≤ length m.rest → scan more ≡ None → (shape_in Book m.kind).length + bytes_in (parse more) ≤ length m.rest)
     → bytes_in (parse (m ∷ cond (unknown_kind m) [] more)) ≤ suc (length m.rest)
 unfolding parse
 met_bytes m more e f =
     let h = sounds m (cond (unknown_kind m) [] more) e in
     let l = ltb-false (length m.rest) (shape_in Book m.kind).length h.clean.whole in
-    let q : scan more ≡ Sound = rw h.clean.known at h.more in
+    let q : scan more ≡ None = rw h.clean.known at h.more in
     let d = staged (stage_of m) (eqb-false (stage_of m) 0 h.clean.known) (stage_below m.kind) in
     rw h.clean.known (omega (arith, record_adds m (parse more) d, f l q))
 
 -- n bytes of a body left to pass
-records_bytes : (l : List ℕ) (n : ℕ) (t : Tally) → n ≤ length l → scan (records_from l n t) ≡ Sound → n + bytes_in (parse (records_from l n t)) ≤ length l
+records_bytes : (l : List ℕ) (n : ℕ) (t : Tally) → n ≤ length l → scan (records_from l n t) ≡ None → n + bytes_in (parse (records_from l n t)) ≤ length l
 unfolding records_from parse together all_bytes
 records_bytes [] n t h e = omega arith
 records_bytes (k ∷ rest) zero t h e =
@@ -118,6 +118,6 @@ records_bytes (k ∷ rest) zero t h e =
     omega (arith, r)
 records_bytes (b ∷ rest) (suc n) t h e = let r = records_bytes rest n t (omega arith) e in omega (arith, r)
 
-pub scopes_bytes : (bytes : List ℕ) → scan (records bytes) ≡ Sound → together (scopes_of bytes) ≤ length bytes
+pub scopes_bytes : (bytes : List ℕ) → scan (records bytes) ≡ None → together (scopes_of bytes) ≤ length bytes
 unfolding scopes_of records
 scopes_bytes bytes e = let r = records_bytes bytes 0 start (omega arith) e in omega (arith, r)

@@ -15,6 +15,7 @@ use native.Mathlib.Omega.{arith}
 use lib.ListN.{length, get_or}
 use lib.Dec.{eqb, ltb}
 use borrow.Author.Tests.{eqb-true, ne_eqb, lt-ltb, le-ltb}
+use Rattle.std.specs.Prelude.{Ok}
 use Rattle.laws.proofs.Booleans.{decide, neither}
 use Rattle.order.specs.Order.{among}
 use Rattle.order.proofs.Among.{among_place}
@@ -33,7 +34,6 @@ use Rattle.book.specs.Judge.{judge}
 use Rattle.book.specs.declared.Target.{Target}
 use Rattle.book.specs.declared.Clause.{Clause}
 use Rattle.book.specs.declared.Variable.{Variable}
-use Rattle.answers.specs.declared.Judged.TheVariants.{Accepted}
 use Rattle.book.specs.declared.Node.{Node}
 use Rattle.book.proofs.Sums.{range}
 use Rattle.book.proofs.Terms.{term_here}
@@ -484,7 +484,7 @@ module _ (f : ℕ → ℕ) where
       subst (λ (m : ℕ). Short (f m) (get_or ss k empty_scope)) y (h (suc k) (omega arith))) in
       (omega (arith, here.seven, rest.0), omega (arith, here.tight, rest.1))
 
-module _ (bytes : List ℕ) (n : ℕ) (accepted : judge bytes ≡ Accepted n) where
+module _ (bytes : List ℕ) (n : ℕ) (accepted : judge bytes ≡ Ok n) where
   both_bounds : (length (code_of (scopes_of bytes)) ≤ 7 * length bytes) × (14 * length (code_of (scopes_of bytes)) ≤ 46 * length bytes + 41024 * n)
   unfolding code_of
   both_bounds =

@@ -6,11 +6,11 @@ use Prim.Native.Nat.{ℕ, ◌<◌}
 use mathlib.Core.Path.{◌≡◌}
 use mathlib.Core.List.{List}
 use native.Mathlib.Omega.{arith}
+use Rattle.std.specs.Prelude.{Ok}
 use Rattle.book.specs.Decode.{scopes_of}
 use Rattle.book.specs.References.{scope_at}
 use Rattle.book.specs.Trees.{tree}
 use Rattle.book.specs.Judge.{judge}
-use Rattle.answers.specs.declared.Judged.TheVariants.{Accepted}
 use Rattle.book.specs.declared.Target.{Target}
 use Rattle.acceptance.proofs.Orders.{accepted_book}
 use Rattle.translation.specs.Measures.{Runnable}
@@ -18,7 +18,7 @@ use Rattle.translation.proofs.Parts.{size_parts, leaves_parts, defaults_parts}
 use Rattle.translation.proofs.Bounds.{tree_parts}
 use Rattle.translation.proofs.Sayable.{book_sayable, tree_sayable}
 
-pub tree_runnable : (bytes : List ℕ) (n : ℕ) → judge bytes ≡ Accepted n → (i : ℕ) → i < n → (t : Target)
+pub tree_runnable : (bytes : List ℕ) (n : ℕ) → judge bytes ≡ Ok n → (i : ℕ) → i < n → (t : Target)
     → Runnable (tree (scope_at (scopes_of bytes) i) t)
 tree_runnable bytes n e i l t =
     let a = accepted_book bytes n e in

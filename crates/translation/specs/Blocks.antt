@@ -2,13 +2,11 @@
 use Rattle.std.specs.Prelude.{ℕ, suc, ◌+◌, ◌-◌, cond, List, [], ◌∷◌, ◌++◌, length, get_or, ltb}
 use Rattle.slices.specs.Bytes.{bytes_of}
 use Rattle.calculus.specs.Terms.{Term}
-use Rattle.book.specs.Syntax.{Scope}
+use Rattle.book.specs.Syntax.{Scope, type_byte}
 use Rattle.book.specs.References.{scope_at}
 use Rattle.book.specs.Trees.{tree, has_clause, own_target, called_target}
 use Rattle.book.specs.Scopes.{blocks}
 use Rattle.book.specs.Steps.{step_order}
-use Rattle.book.specs.declared.ValueType.{ValueType}
-use Rattle.book.specs.declared.ValueType.TheVariants.{YesNo, Numeric}
 use Rattle.book.specs.declared.Variable.{Variable}
 use Rattle.translation.specs.Code.{far, size, code}
 
@@ -42,11 +40,6 @@ step_code book s x k =
 unfoldable pub steps_code : List Scope → Scope → List ℕ → List ℕ → List ℕ
 steps_code book s [] k = k
 steps_code book s (x ∷ xs) k = step_code book s x (steps_code book s xs k)
-
--- "type: 1 yes/no, 2 number"
-abbrev pub type_byte : ValueType → ℕ
-type_byte YesNo = 1
-type_byte Numeric = 2
 
 unfoldable pub variables_code : List Variable → List ℕ → List ℕ
 variables_code [] k = k

@@ -11,17 +11,14 @@ use native.Mathlib.Omega.{arith}
 use lib.ListN.{length, get_or}
 use lib.Dec.{eqb}
 use borrow.Author.Tests.{eqb-true, eq-eqb, ne_eqb}
+use Rattle.std.specs.Prelude.{Result, Ok, Err}
 use Rattle.laws.proofs.Booleans.{both, or_cases, both_ways}
 use Rattle.calculus.specs.Defaults.{gather, settle}
 use Rattle.calculus.specs.Terms.{Terms, none, also}
 use Rattle.calculus.specs.Evaluation.{Env, eval, exceptions}
 use Rattle.calculus.specs.declared.Value.TheVariants.{Truth}
 use Rattle.answers.specs.declared.Cause.TheVariants.{Empty, Conflict, OutOfRange}
-use Rattle.calculus.specs.declared.Outcome.{Outcome}
-use Rattle.calculus.specs.declared.Outcome.TheVariants.{Gives, Ends}
 use Rattle.calculus.specs.declared.Joined.TheVariants.{Nothing}
-use Rattle.calculus.specs.declared.Gathered.{Gathered}
-use Rattle.calculus.specs.declared.Gathered.TheVariants.{SoFar}
 use Rattle.book.specs.Lists.{any}
 use Rattle.book.specs.Syntax.{Scope, same_target, is_rule}
 use Rattle.book.specs.Decode.{scopes_of}
@@ -36,6 +33,9 @@ use Rattle.trees.specs.Chains.{chain_outcome, tree_outcome, clause_for, Ready}
 use Rattle.links.proofs.Slots.{slot_bound, slot_same, in_bases}
 use Rattle.links.proofs.Named.{Chained, sound_chained}
 use Rattle.trees.proofs.Chains.{any_first, bases_chain}
+use Rattle.calculus.specs.declared.Joined.{Joined}
+use Rattle.answers.specs.declared.Cause.{Cause}
+use Rattle.calculus.specs.declared.Value.{Value}
 
 -- Searches
 
@@ -59,24 +59,24 @@ any_leads p q ds (c ∷ cs) h e =
 -- Trees
 
 -- one exception alone, and nothing else, is itself
-alone : (o : Outcome) → settle (gather (SoFar Nothing) o) (Ends Empty) ≡ o
-alone (Gives v) = refl
-alone (Ends Empty) = refl
-alone (Ends Conflict) = refl
-alone (Ends (OutOfRange s)) = refl
+alone : (o : Result Value Cause) → settle (gather (Ok Nothing) o) (Err Empty) ≡ o
+alone (Ok v) = refl
+alone (Err Empty) = refl
+alone (Err Conflict) = refl
+alone (Err (OutOfRange s)) = refl
 
-without_rules_lem : (e : Env) (ts : Terms) → eval e (without_rules ts) ≡ settle (exceptions e (SoFar Nothing) ts) (Ends Empty)
+without_rules_lem : (e : Env) (ts : Terms) → eval e (without_rules ts) ≡ settle (exceptions e (Ok Nothing) ts) (Err Empty)
 unfolding eval exceptions
 without_rules_lem e none = refl
 without_rules_lem e (also t none) = sym (alone (eval e t))
 without_rules_lem e (also t (also u us)) = refl
 
 module _ (e : Env) (s : Scope) (t : Target) where
-  ruled : has_rule s t ≡ true → eval e (tree s t) ≡ settle (exceptions e (SoFar Nothing) (bases s t)) (Gives (Truth false))
+  ruled : has_rule s t ≡ true → eval e (tree s t) ≡ settle (exceptions e (Ok Nothing) (bases s t)) (Ok (Truth false))
   unfolding tree eval
   ruled h = rw h
 
-  unruled : has_rule s t ≡ false → eval e (tree s t) ≡ settle (exceptions e (SoFar Nothing) (bases s t)) (Ends Empty)
+  unruled : has_rule s t ≡ false → eval e (tree s t) ≡ settle (exceptions e (Ok Nothing) (bases s t)) (Err Empty)
   unfolding tree
   unruled h = rw h (without_rules_lem e (bases s t))
 
@@ -148,23 +148,23 @@ module _ (bytes index links : List ℕ) (i : ℕ) (w : Ready bytes index links i
       ∙ sym (claused scope target chained)
 
   module _ (own called : List ℕ) where
-    bases_outcome : chain_outcome bytes own called i slot ≡ exceptions (env_of own called) (SoFar Nothing) (bases scope target)
+    bases_outcome : chain_outcome bytes own called i slot ≡ exceptions (env_of own called) (Ok Nothing) (bases scope target)
     unfolding chain_outcome
-    bases_outcome = ap (exceptions (env_of own called) (SoFar Nothing)) (rw at (sym (bases_chain scope chained target)))
+    bases_outcome = ap (exceptions (env_of own called) (Ok Nothing)) (rw at (sym (bases_chain scope chained target)))
 
-    pub tree_unruled : get_or links (545 + slot) 0 ≡ 255 → tree_outcome bytes own called i k v ≡ settle (chain_outcome bytes own called i slot) (Ends Empty)
+    pub tree_unruled : get_or links (545 + slot) 0 ≡ 255 → tree_outcome bytes own called i k v ≡ settle (chain_outcome bytes own called i slot) (Err Empty)
     unfolding tree_outcome
     tree_unruled z =
         let none : has_rule scope target ≡ false =
         rule_first scope target chained ∙ ap (λ (n : ℕ). not (eqb n 255)) (sym (rule_link _ refl) ∙ z) in
-        unruled (env_of own called) scope target none ∙ sym (ap (λ (a : Gathered). settle a (Ends Empty)) bases_outcome)
+        unruled (env_of own called) scope target none ∙ sym (ap (λ (a : Result Joined Cause). settle a (Err Empty)) bases_outcome)
 
     pub tree_ruled : (get_or links (545 + slot) 0 ≡ 255 → ⊥)
-        → tree_outcome bytes own called i k v ≡ settle (chain_outcome bytes own called i slot) (Gives (Truth false))
+        → tree_outcome bytes own called i k v ≡ settle (chain_outcome bytes own called i slot) (Ok (Truth false))
     unfolding tree_outcome
     tree_ruled z =
         let some : has_rule scope target ≡ true =
         rule_first scope target chained
         ∙ ap (λ (n : ℕ). not (eqb n 255)) (sym (rule_link _ refl))
         ∙ ap not (ne_eqb (get_or links (545 + slot) 0) 255 z) in
-        ruled (env_of own called) scope target some ∙ sym (ap (λ (a : Gathered). settle a (Gives (Truth false))) bases_outcome)
+        ruled (env_of own called) scope target some ∙ sym (ap (λ (a : Result Joined Cause). settle a (Ok (Truth false))) bases_outcome)

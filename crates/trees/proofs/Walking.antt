@@ -10,15 +10,13 @@ use native.Mathlib.Omega.{arith}
 use lib.ListN.{length, get_or, drop}
 use lib.Dec.{ltb}
 use borrow.Author.Tests.{eqb-true, ltb-true, ltb-false}
+use Rattle.std.specs.Prelude.{Result, Ok, Err}
 use Rattle.laws.proofs.Booleans.{decide}
 use Rattle.calculus.specs.Defaults.{gather, settle}
 use Rattle.calculus.specs.Terms.{Terms}
 use Rattle.calculus.specs.Evaluation.{eval, exceptions}
 use Rattle.answers.specs.declared.Cause.{Cause}
-use Rattle.calculus.specs.declared.Outcome.{Outcome}
 use Rattle.calculus.specs.declared.Joined.TheVariants.{Nothing}
-use Rattle.calculus.specs.declared.Gathered.{Gathered}
-use Rattle.calculus.specs.declared.Gathered.TheVariants.{SoFar, Ended}
 use Rattle.calculus.proofs.Exceptions.{exceptions_ended}
 use Rattle.book.specs.Syntax.{Scope}
 use Rattle.book.specs.Decode.{scopes_of}
@@ -31,6 +29,8 @@ use Rattle.trees.specs.Chains.{chain_outcome, rest_outcome, settled_clause}
 use Rattle.trees.specs.Rows.{Walk}
 use Rattle.links.proofs.Named.{Chained, chained_head}
 use Rattle.trees.proofs.Chains.{found, clause_term, chain_from, from_start, from_past, from_here, from_first, exceptions_chain}
+use Rattle.calculus.specs.declared.Joined.{Joined}
+use Rattle.calculus.specs.declared.Value.{Value}
 
 abbrev clauses_of : List ℕ → ℕ → List Clause
 clauses_of bytes i = (scope_at (scopes_of bytes) i).clauses
@@ -42,10 +42,10 @@ module _ (bytes own called : List ℕ) (i : ℕ) (few : Chained (clauses_of byte
   unfolding clause_term settled_clause rest_outcome chain_outcome clause_at eval
   term_chain c l =
       ap
-      (λ (ts : Terms). settle (exceptions (env_of own called) (SoFar Nothing) ts) (rest_outcome bytes own called i c))
+      (λ (ts : Terms). settle (exceptions (env_of own called) (Ok Nothing) ts) (rest_outcome bytes own called i c))
       (exceptions_chain (scope_at (scopes_of bytes) i) few c l)
 
-pub record Walking (bytes own called : List ℕ) (i k : ℕ) (g : Gathered) (c : ℕ) : Type 0 where
+pub record Walking (bytes own called : List ℕ) (i k : ℕ) (g : Result Joined Cause) (c : ℕ) : Type 0 where
   pub has : c < length (clauses_of bytes i) → in_chain k (get_or (clauses_of bytes i) c no_clause) ≡ true
   pub left : chain_outcome bytes own called i k ≡ exceptions (env_of own called) g (chain_from (scope_at (scopes_of bytes) i) k c)
 
@@ -56,17 +56,17 @@ module _ (bytes row links own called : List ℕ) (i k : ℕ) (w : Walk bytes row
   abbrev cs : List Clause
   cs = scope.clauses
 
-  pub begin : (c : ℕ) → c ≡ get_or links k 0 → Walking bytes own called i k (SoFar Nothing) c
+  pub begin : (c : ℕ) → c ≡ get_or links k 0 → Walking bytes own called i k (Ok Nothing) c
   unfolding chain_outcome
   begin c e =
       let few = w.chained.few in
       let f = e ∙ w.linked.first k w.head in
       record {
         has = λ l. (found (in_chain k) cs few c l 0 f).1;
-        left = ap (exceptions (env_of own called) (SoFar Nothing)) (from_start scope k ∙ from_first scope k few 0 c f);
+        left = ap (exceptions (env_of own called) (Ok Nothing)) (from_start scope k ∙ from_first scope k few 0 c f);
       }
 
-  module _ (g : Gathered) (c : ℕ) (v : Walking bytes own called i k g c) where
+  module _ (g : Result Joined Cause) (c : ℕ) (v : Walking bytes own called i k g c) where
     pub stop : length cs ≤ c → g ≡ chain_outcome bytes own called i k
     unfolding exceptions
     stop l = sym (v.left ∙ ap (exceptions (env_of own called) g) (from_past scope k c l))
@@ -95,22 +95,22 @@ module _ (bytes row links own called : List ℕ) (i k : ℕ) (w : Walk bytes row
           (λ (q : ltb d (length cs) ≡ false). let m = ltb-false d (length cs) q in omega arith)
           (decide (ltb d (length cs)))
 
-      module _ (x : Gathered) (ex : x ≡ chain_outcome bytes own called i (289 + c)) (o : Outcome) (eo : o ≡ settled_clause bytes own called i c x)
-          (h : Gathered) (eh : h ≡ gather g o) where
+      module _ (x : Result Joined Cause) (ex : x ≡ chain_outcome bytes own called i (289 + c)) (o : Result Value Cause) (eo : o ≡ settled_clause bytes own called i c x)
+          (h : Result Joined Cause) (eh : h ≡ gather g o) where
         gathered : chain_outcome bytes own called i k ≡ exceptions (env_of own called) h (chain_from scope k (suc c))
         unfolding exceptions
         gathered =
             let e : o ≡ eval (env_of own called) (clause_term scope c) = eo ∙ ap (settled_clause bytes own called i c) ex ∙ sym (term_chain bytes own called i w.chained c l) in
             v.left
             ∙ ap (exceptions (env_of own called) g) (from_here scope k c l (v.has l))
-            ∙ ap (λ (a : Gathered). exceptions (env_of own called) a (chain_from scope k (suc c))) (sym (eh ∙ ap (gather g) e))
+            ∙ ap (λ (a : Result Joined Cause). exceptions (env_of own called) a (chain_from scope k (suc c))) (sym (eh ∙ ap (gather g) e))
 
-        pub ended : (a : Cause) → h ≡ Ended a → h ≡ chain_outcome bytes own called i k
+        pub ended : (a : Cause) → h ≡ Err a → h ≡ chain_outcome bytes own called i k
         ended a e =
             e
             ∙ sym
             (gathered
-            ∙ ap (λ (b : Gathered). exceptions (env_of own called) b (chain_from scope k (suc c))) e
+            ∙ ap (λ (b : Result Joined Cause). exceptions (env_of own called) b (chain_from scope k (suc c))) e
             ∙ exceptions_ended (env_of own called) a (chain_from scope k (suc c)))
 
         pub again : (d : ℕ) → d ≡ get_or links (417 + c) 0 → Walking bytes own called i k h d
@@ -123,5 +123,5 @@ module _ (bytes row links own called : List ℕ) (i k : ℕ) (w : Walk bytes row
             }
 
   -- a chain that begins with no clause
-  pub none_there : (d : ℕ) → d ≡ get_or links k 0 → length cs ≤ d → SoFar Nothing ≡ chain_outcome bytes own called i k
-  none_there d e l = stop (SoFar Nothing) d (begin d e) l
+  pub none_there : (d : ℕ) → d ≡ get_or links k 0 → length cs ≤ d → Ok Nothing ≡ chain_outcome bytes own called i k
+  none_there d e l = stop (Ok Nothing) d (begin d e) l

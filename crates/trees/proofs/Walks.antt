@@ -9,14 +9,12 @@ use native.Mathlib.Omega.{arith}
 use lib.ListN.{length, get_or, drop, length-drop}
 use lib.Dec.{eqb}
 use borrow.Author.Tests.{eqb-true}
+use Rattle.std.specs.Prelude.{Result, Ok, Err}
 use Rattle.laws.proofs.Booleans.{both}
 use Rattle.calculus.specs.Defaults.{gather}
 use Rattle.calculus.proofs.Numbers.{zero_fits}
 use Rattle.answers.specs.declared.Cause.{Cause}
-use Rattle.calculus.specs.declared.Outcome.{Outcome}
 use Rattle.calculus.specs.declared.Joined.TheVariants.{Nothing}
-use Rattle.calculus.specs.declared.Gathered.{Gathered}
-use Rattle.calculus.specs.declared.Gathered.TheVariants.{SoFar, Ended}
 use Rattle.book.specs.Decode.{scopes_of}
 use Rattle.book.specs.References.{scope_at}
 use Rattle.book.specs.declared.Clause.{Clause}
@@ -29,6 +27,8 @@ use Rattle.trees.specs.Chains.{alone, chain_outcome, settled_clause}
 use Rattle.trees.specs.Rows.{clause_place, Walk, Settles}
 use Rattle.trees.proofs.Clauses as clauses
 use Rattle.trees.proofs.Walking as walking
+use Rattle.calculus.specs.declared.Joined.{Joined}
+use Rattle.calculus.specs.declared.Value.{Value}
 
 -- a search finds a clause that is there, or 255
 first_there : (p : Clause → Bool) (n : ℕ) (cs : List Clause) → (first_from p n cs ≡ 255) ⊎ (first_from p n cs < n + length cs)
@@ -47,18 +47,18 @@ found_there p n cs l d e h =
     let long = length-drop n cs in
     ⊎_elim (λ q. absurd (omega (arith, q, e))) (λ q. omega (arith, q, e)) (first_there p n (drop n cs))
 
-pub nothing : Gathers 0 (SoFar Nothing)
+pub nothing : Gathers 0 (Ok Nothing)
 unfolding gathered_cell
 nothing = record { is = refl; fits = zero_fits }
 
 -- what has ended, by its cell
-pub cause_of_lem : (h : ℕ) (g : Gathered) → Gathers h g → empty_cell ≤ h → (a : Cause) × (g ≡ Ended a)
-cause_of_lem h (SoFar j) k l = no_so_far j h k l
-cause_of_lem h (Ended a) k l = (a, refl)
+pub cause_of_lem : (h : ℕ) (g : Result Joined Cause) → Gathers h g → empty_cell ≤ h → (a : Cause) × (g ≡ Err a)
+cause_of_lem h (Ok j) k l = no_so_far j h k l
+cause_of_lem h (Err a) k l = (a, refl)
 
 -- what holds at a clause of the chain
 pub record Walks (bytes own called : List ℕ) (i k g c : ℕ) : Type 0 where
-  pub so_far : Gathered
+  pub so_far : Result Joined Cause
   pub is : Gathers g so_far
   pub walking : walking.Walking bytes own called i k so_far c
   pub there : c < 128 → c < length (scope_at (scopes_of bytes) i).clauses
@@ -70,7 +70,7 @@ module _ (bytes row links own called : List ℕ) (i k : ℕ) (w : Walk bytes row
   pub begin : (c : ℕ) → c ≡ get_or links k 0 → Walks bytes own called i k 0 c
   begin c e =
       record {
-        so_far = SoFar Nothing;
+        so_far = Ok Nothing;
         is = nothing;
         walking = walking.begin bytes row links own called i k w c e;
         there = found_there (in_chain k) 0 cs (omega arith) c (e ∙ w.linked.first k w.head);
@@ -108,7 +108,7 @@ module _ (bytes row links own called : List ℕ) (i k : ℕ) (w : Walk bytes row
 
       module _ (x o h : ℕ) (ex : Gathers x (chain_outcome bytes own called i (289 + c)))
           (eo : Settles bytes row own called (get_or row (clause_place c) 0) x o) (eh : OnBoth g o h) where
-        abbrev clause : Outcome
+        abbrev clause : Result Value Cause
         clause = settled_clause bytes own called i c (chain_outcome bytes own called i (289 + c))
 
         settled : Codes o clause

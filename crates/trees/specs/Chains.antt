@@ -1,15 +1,11 @@
 -- What chains of clauses, clauses and default trees evaluate to, over the cells of the variables.
-use Rattle.std.specs.Prelude.{ℕ, ◌+◌, Bool, ◌&&◌, List, get_or, eqb}
+use Rattle.std.specs.Prelude.{ℕ, ◌+◌, Bool, ◌&&◌, List, get_or, eqb, Result, Err, Ok}
 use Rattle.calculus.specs.Outcomes.{choose}
 use Rattle.calculus.specs.Defaults.{settle}
 use Rattle.calculus.specs.Terms.{Terms}
 use Rattle.calculus.specs.Evaluation.{eval, exceptions}
 use Rattle.answers.specs.declared.Cause.TheVariants.{Empty}
-use Rattle.calculus.specs.declared.Outcome.{Outcome}
-use Rattle.calculus.specs.declared.Outcome.TheVariants.{Ends}
 use Rattle.calculus.specs.declared.Joined.TheVariants.{Nothing}
-use Rattle.calculus.specs.declared.Gathered.{Gathered}
-use Rattle.calculus.specs.declared.Gathered.TheVariants.{SoFar}
 use Rattle.book.specs.Lists.{any}
 use Rattle.book.specs.Syntax.{Scope}
 use Rattle.book.specs.Decode.{scopes_of}
@@ -18,6 +14,9 @@ use Rattle.book.specs.Positions.{clause_at}
 use Rattle.book.specs.Trees.{condition_term, consequence_term, select, clause_terms, has_target, tree, called_target}
 use Rattle.terms.specs.Outcomes.{env_of}
 use Rattle.links.specs.Links.{in_chain, Sound, Linked}
+use Rattle.calculus.specs.declared.Joined.{Joined}
+use Rattle.answers.specs.declared.Cause.{Cause}
+use Rattle.calculus.specs.declared.Value.{Value}
 
 -- by the links of a scope, no clause stands behind clause c in its chain, and it has no exception
 abbrev pub alone : List ℕ → ℕ → Bool
@@ -27,23 +26,23 @@ alone links c = eqb (get_or links (417 + c) 0) 255 && eqb (get_or links (289 + c
 unfoldable pub chain_terms : Scope → ℕ → Terms
 chain_terms s k = select (in_chain k) s.clauses (clause_terms s 0 s.clauses)
 
-unfoldable pub chain_outcome : List ℕ → List ℕ → List ℕ → ℕ → ℕ → Gathered
-chain_outcome bytes own called i k = exceptions (env_of own called) (SoFar Nothing) (chain_terms (scope_at (scopes_of bytes) i) k)
+unfoldable pub chain_outcome : List ℕ → List ℕ → List ℕ → ℕ → ℕ → Result Joined Cause
+chain_outcome bytes own called i k = exceptions (env_of own called) (Ok Nothing) (chain_terms (scope_at (scopes_of bytes) i) k)
 
 -- "With none, the justification is evaluated; yes evaluates the consequence, no gives empty": of clause c
-unfoldable pub rest_outcome : List ℕ → List ℕ → List ℕ → ℕ → ℕ → Outcome
+unfoldable pub rest_outcome : List ℕ → List ℕ → List ℕ → ℕ → ℕ → Result Value Cause
 rest_outcome bytes own called i c =
     choose
     (eval (env_of own called) (condition_term (scope_at (scopes_of bytes) i) (clause_at (scopes_of bytes) i c).condition))
     (eval (env_of own called) (consequence_term (scope_at (scopes_of bytes) i) (clause_at (scopes_of bytes) i c).consequence))
-    (Ends Empty)
+    (Err Empty)
 
 -- clause c, its exceptions having come to g
-unfoldable pub settled_clause : List ℕ → List ℕ → List ℕ → ℕ → ℕ → Gathered → Outcome
+unfoldable pub settled_clause : List ℕ → List ℕ → List ℕ → ℕ → ℕ → Result Joined Cause → Result Value Cause
 settled_clause bytes own called i c g = settle g (rest_outcome bytes own called i c)
 
 -- the default tree of a target of scope i: a variable of sub-scope k, or an own variable where k is 255
-unfoldable pub tree_outcome : List ℕ → List ℕ → List ℕ → ℕ → ℕ → ℕ → Outcome
+unfoldable pub tree_outcome : List ℕ → List ℕ → List ℕ → ℕ → ℕ → ℕ → Result Value Cause
 tree_outcome bytes own called i k v = eval (env_of own called) (tree (scope_at (scopes_of bytes) i) (called_target k v))
 
 -- some clause of scope i has the target

@@ -1,7 +1,6 @@
 -- The part of a scope's row that has its nodes and clauses, and what evaluating its trees rests on.
-use Rattle.std.specs.Prelude.{ℕ, ◌+◌, ◌*◌, ◌<◌, ◌≤◌, ◌≡◌, true, false, List, length, get_or, take, drop}
+use Rattle.std.specs.Prelude.{ℕ, ◌+◌, ◌*◌, ◌<◌, ◌≤◌, ◌≡◌, true, false, List, length, get_or, take, drop, Result}
 use Rattle.calculus.specs.Defaults.{settle}
-use Rattle.calculus.specs.declared.Gathered.{Gathered}
 use Rattle.cells.specs.Codec.{Codes, Gathers, AllKept}
 use Rattle.book.specs.Syntax.{Scope, no_node}
 use Rattle.book.specs.Decode.{scopes_of}
@@ -11,6 +10,8 @@ use Rattle.links.specs.Links.{Linked}
 use Rattle.links.proofs.Named.{Chained}
 use Rattle.terms.specs.Clauses.{rest_in}
 use Rattle.trees.specs.Chains.{Ready}
+use Rattle.answers.specs.declared.Cause.{Cause}
+use Rattle.calculus.specs.declared.Joined.{Joined}
 
 -- the positions of scope i's nodes, and then of its clauses
 abbrev pub row_of : List ℕ → ℕ → List ℕ
@@ -46,7 +47,7 @@ pub record Walk (bytes row links own called : List ℕ) (i cell : ℕ) : Type 0 
 
 -- the clause at a position, its exceptions having come to what the cell x says
 abbrev pub Settles : List ℕ → List ℕ → List ℕ → List ℕ → ℕ → ℕ → ℕ → Type 0
-Settles bytes row own called at x r = (g : Gathered) → Gathers x g → Codes r (settle g (rest_in bytes row own called at))
+Settles bytes row own called at x r = (g : Result Joined Cause) → Gathers x g → Codes r (settle g (rest_in bytes row own called at))
 
 -- the trees of scope i can be evaluated: 32 own cells and 32 for each of its sub-scopes, with nothing or a value in each
 pub record Evaluable (bytes index links own called : List ℕ) (i : ℕ) : Type 0 where

@@ -1,4 +1,5 @@
-// The default trees of a scope over the cells of variables, by the links of its clauses. An outcome is a cell.
+// The default trees of a scope over the cells of variables, by the links of its clauses. An outcome is a cell, which takes less time
+// than an enum.
 #![tactic(auto)]
 
 ghost use Rattle.std.specs.Prelude.{◌≡◌, ◌<◌, length};
@@ -9,7 +10,7 @@ ghost use Rattle.trees.specs.Rows.{Walk, Settles, Evaluable};
 
 use book::Target;
 use cells::{CONFLICT, EMPTY, MANY, NO, NOTHING};
-use index::{NODES, ROW, ROWS};
+use index::{IndexedBook, NODES, ROW, ROWS};
 use links::{EXCEPTIONS, RULES, SIBLINGS, slot_of};
 use slices::byte_at;
 use terms::{eval_rest, gather};
@@ -48,12 +49,14 @@ fn eval_chain(
     ensures { Gathers result (chain_outcome book.now own.now called.now i cell) }
 {
     let mut g: u64 = NOTHING;
+    // The links lead from clause to clause, so the loop counts no numbers.
     let mut c = links[cell] as usize;
     while c < 128 {
-        let mut x: u64 = NOTHING;
-        if links[EXCEPTIONS + c] != 255 {
-            x = eval_chain(book, row, links, own, called, i, EXCEPTIONS + c);
-        }
+        let x = if links[EXCEPTIONS + c] != 255 {
+            eval_chain(book, row, links, own, called, i, EXCEPTIONS + c)
+        } else {
+            NOTHING
+        };
         let at = row[CLAUSES + c] as usize;
         let o = settle_clause(book, row, own, called, at, x);
         g = gather(g, o);
@@ -70,10 +73,7 @@ fn is_alone(links: &[u8], c: usize) -> bool
     requires { (c < 128) × (length links.now ≡ 834) }
     ensures { result ≡ alone links.now c }
 {
-    if links[SIBLINGS + c] != 255 {
-        return false;
-    }
-    links[EXCEPTIONS + c] == 255
+    links[SIBLINGS + c] == 255 && links[EXCEPTIONS + c] == 255
 }
 
 // The bases of a target, whose chain begins in a cell of the links. One alone and without exceptions, as most targets have it, is evaluated
@@ -91,20 +91,17 @@ fn eval_bases(
     ensures { Gathers result (chain_outcome book.now own.now called.now i cell) }
 {
     let c = links[cell] as usize;
-    if c < 128 {
-        if is_alone(links, c) {
-            let at = row[CLAUSES + c] as usize;
-            let o = settle_clause(book, row, own, called, at, NOTHING);
-            return gather(NOTHING, o);
-        }
+    if c < 128 && is_alone(links, c) {
+        let at = row[CLAUSES + c] as usize;
+        let o = settle_clause(book, row, own, called, at, NOTHING);
+        return gather(NOTHING, o);
     }
     eval_chain(book, row, links, own, called, i, cell)
 }
 
 // The default tree of a target of scope i: its bases; where none has a value, no if it has rules, empty if it has none.
 pub fn eval_tree(
-    book: &[u8],
-    index: &[u16],
+    book: &IndexedBook,
     links: &[u8],
     own: &[u64],
     called: &[u64],
@@ -112,14 +109,14 @@ pub fn eval_tree(
     sub: u8,
     variable: u8,
 ) -> u64
-    requires { Evaluable book.now index.now links.now own.now called.now i }
-    ensures { Codes result (tree_outcome book.now own.now called.now i sub variable) }
+    requires { Evaluable book.now.bytes.now book.now.index.now links.now own.now called.now i }
+    ensures { Codes result (tree_outcome book.now.bytes.now own.now called.now i sub variable) }
 {
     let slot = slot_of(Target { sub, variable });
     let start = ROWS + i * ROW + NODES;
     let g = eval_bases(
-        book,
-        &index[start..start + RECORDS],
+        book.bytes,
+        &book.index[start..start + RECORDS],
         links,
         own,
         called,
@@ -140,9 +137,9 @@ pub fn eval_tree(
 }
 
 // Whether some clause of scope i has the target.
-pub fn has_clause(book: &[u8], index: &[u16], links: &[u8], i: usize, sub: u8, variable: u8) -> bool
-    requires { Ready book.now index.now links.now i }
-    ensures { result ≡ clause_for book.now i sub variable }
+pub fn has_clause(book: &IndexedBook, links: &[u8], i: usize, sub: u8, variable: u8) -> bool
+    requires { Ready book.now.bytes.now book.now.index.now links.now i }
+    ensures { result ≡ clause_for book.now.bytes.now i sub variable }
 {
     let slot = slot_of(Target { sub, variable });
     byte_at(links, slot) != 255

@@ -2,7 +2,7 @@
 #![tactic(auto)]
 
 ghost use Rattle.std.specs.Prelude.{◌≡◌};
-ghost use Rattle.book.specs.Syntax.{type_of, same_type};
+ghost use Rattle.book.specs.Syntax.{type_of};
 ghost use Rattle.book.specs.Typing.{unary_type, operand_type};
 
 use book::ValueType;
@@ -16,21 +16,6 @@ pub fn type_of(b: u8) -> ValueType
         ValueType::YesNo
     } else {
         ValueType::Numeric
-    }
-}
-
-pub fn same_type(a: ValueType, b: ValueType) -> bool
-    ensures { result ≡ same_type a b }
-{
-    match a {
-        ValueType::YesNo => match b {
-            ValueType::YesNo => true,
-            ValueType::Numeric => false,
-        },
-        ValueType::Numeric => match b {
-            ValueType::YesNo => false,
-            ValueType::Numeric => true,
-        },
     }
 }
 
@@ -50,9 +35,7 @@ pub fn operand_type(op: Binary, left: ValueType) -> ValueType
 {
     match op {
         Binary::And => ValueType::YesNo,
-        Binary::Add => ValueType::Numeric,
-        Binary::Subtract => ValueType::Numeric,
+        Binary::Add | Binary::Subtract | Binary::Less => ValueType::Numeric,
         Binary::Equal => left,
-        Binary::Less => ValueType::Numeric,
     }
 }

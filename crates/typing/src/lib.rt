@@ -3,13 +3,11 @@
 
 ghost use Rattle.std.specs.Prelude.{◌≡◌};
 ghost use Rattle.book.specs.Decode.{scopes_of};
-ghost use Rattle.index.specs.Index.{Laid};
 ghost use Rattle.typing.specs.Types.{type_in, own_type, called_type, named_fits};
 
 use book::ValueType;
-use index::{sub_scope_at, variable_at};
+use index::IndexedBook;
 use slices::byte_at;
-use types::same_type;
 
 // The type that a table of bytes has for a node.
 pub fn type_in(types: &[u8], n: u8) -> ValueType
@@ -23,28 +21,23 @@ pub fn type_in(types: &[u8], n: u8) -> ValueType
 }
 
 // The type of variable v of scope i.
-pub fn own_type(book: &[u8], index: &[u16], i: usize, v: u8) -> ValueType
-    requires { Laid book.now index.now }
-    ensures { result ≡ own_type (scopes_of book.now) i v }
+pub fn own_type(book: &IndexedBook, i: usize, v: u8) -> ValueType
+    ensures { result ≡ own_type (scopes_of book.now.bytes.now) i v }
 {
-    let variable = variable_at(book, index, i, v as usize);
+    let variable = book.variable_at(i, v as usize);
     variable.holds
 }
 
 // The type of variable v of sub-scope k of scope i.
-pub fn called_type(book: &[u8], index: &[u16], i: usize, k: u8, v: u8) -> ValueType
-    requires { Laid book.now index.now }
-    ensures { result ≡ called_type (scopes_of book.now) i k v }
+pub fn called_type(book: &IndexedBook, i: usize, k: u8, v: u8) -> ValueType
+    ensures { result ≡ called_type (scopes_of book.now.bytes.now) i k v }
 {
-    own_type(book, index, sub_scope_at(book, index, i, k as usize), v)
+    own_type(book, book.sub_scope_at(i, k as usize), v)
 }
 
 // Whether a number is 255, none, or a node of this type.
 pub fn named_fits(types: &[u8], t: ValueType, n: u8) -> bool
     ensures { result ≡ named_fits types.now t n }
 {
-    if n == 255 {
-        return true;
-    }
-    same_type(type_in(types, n), t)
+    n == 255 || type_in(types, n) == t
 }

@@ -14,6 +14,7 @@ use lib.ListN.{length, get_or, take, drop, set, length-set}
 use lib.Seq.{get_or-set_same, get_or-set_other, take-suc}
 use lib.Dec.{ltb}
 use borrow.Author.Tests.{lt-ltb, ltb-true, ltb-false, not-false}
+use Rattle.std.specs.Prelude.{None, Some}
 use Rattle.laws.proofs.Booleans.{decide}
 use Rattle.book.specs.Scopes.{sum}
 use Rattle.book.specs.Syntax.{variable_of}
@@ -30,7 +31,6 @@ use Rattle.verifier.proofs.Ring.{quiet_next, marks_quiet}
 use Rattle.verifier.proofs.Turns.{More, drop_more, next_at, is_clean, next_inside, sound_next, was_open}
 use Rattle.book.specs.declared.ValueType.TheVariants.{YesNo}
 use native.Mathlib.Nat.{eq-or-lt_of_le}
-use Rattle.verifier.specs.declared.Step.TheVariants.{Refused, Next}
 use native.Mathlib.Numerals.{add-one}
 use Rattle.book.proofs.Searches.{any_false}
 use Rattle.verifier.proofs.Entries.{closed_same, row_room, sized_same}
@@ -358,32 +358,28 @@ module _ (code : List ℕ) (at : ℕ) (u : Progress) (directory ring : List ℕ)
 
 -- What the code reads
 
-module _ (scope next : ℕ) (u : Progress) (directory : List ℕ) (i x : ℕ) (ei : i ≡ scope) (ex : x ≡ place_in directory i) where
-  place_is : x ≡ place_in directory scope
-  place_is = ex ∙ ap (place_in directory) ei
+pub sub_missing : (scope next : ℕ) (u : Progress) (directory : List ℕ) → (0 < place_in directory scope → ⊥) → SubRead scope next u directory directory None
+sub_missing scope next u directory h = record { missing = λ _. refl; read = λ n. absurd (n (omega (arith, h))) }
 
-  pub sub_missing : x ≡ 0 → SubRead scope next u directory directory Refused
-  sub_missing h = record { missing = λ _. refl; read = λ n. absurd (n (sym place_is ∙ h)) }
+module _ (scope next : ℕ) (u : Progress) (directory : List ℕ) (p : ℕ) (there : (0 < place_in directory scope) × (p ≡ block_of directory scope)) where
+  -- the block is one of 32
+  pub sub_block_below : SubRoom scope u directory → p < 32
+  sub_block_below room = let z = room.place in omega arith
 
-  module _ (there : x ≡ 0 → ⊥) where
-    -- the block is one of 32
-    pub sub_block_below : SubRoom scope u directory → x - 1 < 32
-    sub_block_below room = let z = room.place in let y = place_is in omega arith
+  module _ (w : ℕ) (ew : w ≡ block_weight directory p) where
+    weight_is : w ≡ block_weight directory (block_of directory scope)
+    weight_is = ew ∙ ap (block_weight directory) there.1
 
-    module _ (w : ℕ) (ew : w ≡ block_weight directory (x - 1)) where
-      weight_is : w ≡ block_weight directory (block_of directory scope)
-      weight_is = ew ∙ ap (λ (p : ℕ). block_weight directory (p - 1)) place_is
+    pub weight_room_lem : SubRoom scope u directory → u.weight + w ≤ 40000
+    weight_room_lem room = rw weight_is (room.weight there.0)
 
-      pub weight_room_lem : SubRoom scope u directory → u.weight + w ≤ 40000
-      weight_room_lem room = let z = room.weight (let y = place_is in omega arith) in rw weight_is z
-
-      pub sub_read : SubRead scope next u directory (set directory (u.blocks * 45 + 37 + u.subs) (x - 1)) (Next next (sub_scope_read u w next))
-      sub_read =
-          record {
-            missing = λ z. absurd (there (place_is ∙ z));
-            read =
-                λ _. (
-                  ap (λ (y : ℕ). Next next (sub_scope_read u y next)) weight_is,
-                  ap (λ (p : ℕ). set directory (u.blocks * 45 + 37 + u.subs) (p - 1)) place_is,
-                );
-          }
+    pub sub_read : SubRead scope next u directory (set directory (u.blocks * 45 + 37 + u.subs) p) (Some (next, sub_scope_read u w next))
+    sub_read =
+        record {
+          missing = λ z. absurd (omega arith);
+          read =
+              λ _. (
+                ap (λ (y : ℕ). Some (next, sub_scope_read u y next)) weight_is,
+                ap (set directory (u.blocks * 45 + 37 + u.subs)) there.1,
+              );
+        }

@@ -7,13 +7,14 @@
 -- Assumes nothing.
 use Prim.Native.Nat.{ℕ, zero, suc, ◌+◌, ◌-◌, ◌%◌, ◌<◌, ◌≤◌}
 use mathlib.Core.Path.{◌≡◌, refl, sym, ap, ◌∙◌}
-use mathlib.Core.Bool.{true, false, false≢true}
+use mathlib.Core.Bool.{true, false, not, false≢true}
 use mathlib.Core.List.{List, ◌∷◌}
 use mathlib.Core.Logic.{⊎_elim}
 use native.Mathlib.Omega.{arith}
 use lib.ListN.{length, get_or, drop, replicate, length-replicate, drop_of_length-le}
 use lib.Dec.{eqb, ltb}
-use borrow.Author.Tests.{lt-ltb, ltb-true, ltb-false, eqb-true, eqb-false}
+use borrow.Author.Tests.{lt-ltb, ltb-true, ltb-false, eqb-true, eqb-false, ne_eqb}
+use Rattle.std.specs.Prelude.{Option, ℕ, Some, None, SomeIff, is_some}
 use Rattle.laws.proofs.Booleans.{decide}
 use Rattle.book.specs.Lists.{any}
 use Rattle.book.specs.Scopes.{sum}
@@ -21,18 +22,13 @@ use Rattle.machine.specs.Blocks.{Block, Parsed, empty_block, stage_of, parse, ha
 use Rattle.machine.specs.Acceptance.{start, counted, sound, all_well_formed, accepted}
 use Rattle.directory.specs.Layout.{place_in}
 use Rattle.directory.specs.Tabled.{block_at, Tabled, block_count, Room}
-use Rattle.verifier.specs.Pass.{count_of, faulty_at, block_read, mark, Quiet, earlier, ahead, Reading, nothing_read, filled, Leaving, AllClosed, Beginning, opening, Empty, Stepped, Left}
+use Rattle.verifier.specs.Pass.{count_of, faulty_at, block_read, mark, Quiet, earlier, ahead, Reading, nothing_read, filled, Leaving, AllClosed, Beginning, opening, Empty, Step, Stepped, Left, Judged}
 use Rattle.verifier.specs.declared.Progress.{Progress}
 use Rattle.verifier.proofs.Reading.{ahead_at, front_one, ahead_end, length_below}
 use Rattle.verifier.proofs.Blocks.{refused, block_fits, Formed, formed, all_accepted}
 use Rattle.verifier.proofs.Ring.{quiet_next, marks_quiet}
 use Rattle.verifier.proofs.Turns.{More, drop_more, drop_end, next_at, next_inside, sound_next}
 use Rattle.verifier.proofs.Entries.{filled_room, filled_bound}
-use Rattle.verifier.specs.declared.Step.{Step}
-use Rattle.verifier.specs.declared.Step.TheVariants.{Refused, Next}
-use Rattle.verifier.specs.declared.Closing.{Closing}
-use Rattle.verifier.specs.declared.Closing.TheVariants.{Closed}
-use Rattle.verifier.specs.declared.Closing.TheVariants as closing
 use Rattle.laws.proofs.Zeros.{zeros}
 use native.Mathlib.Numerals.{add-one}
 
@@ -168,11 +164,11 @@ begin_stepped code at next scope u directory₀ ring₀ g m directory ring c r e
     ring c)
 
 -- a refused end
-pub left_refused : (code : List ℕ) (at : ℕ) (directory ring : List ℕ) (x : Closing) → x ≡ closing.Refused
+pub left_refused : (code : List ℕ) (at : ℕ) (directory ring : List ℕ) (x : Option ℕ) → x ≡ None
     → Left code at directory ring x → accepted code ≡ false
 left_refused code at directory ring x e l = rw e at l
 
-pub left_closed : (code : List ℕ) (at m : ℕ) (directory ring : List ℕ) (x : Closing) → x ≡ Closed m
+pub left_closed : (code : List ℕ) (at m : ℕ) (directory ring : List ℕ) (x : Option ℕ) → x ≡ Some m
     → Left code at directory ring x → AllClosed code at m directory ring
 left_closed code at m directory ring x e l = rw e at l
 
@@ -252,13 +248,25 @@ module _ (code : List ℕ) (at m : ℕ) (u : Progress) (directory ring : List �
 
 -- The loop
 
-pub stepped_refused : (code : List ℕ) (at : ℕ) (directory ring : List ℕ) (x : Step) → x ≡ Refused
+pub stepped_refused : (code : List ℕ) (at : ℕ) (directory ring : List ℕ) (x : Step) → x ≡ None
     → Stepped code at directory ring x → accepted code ≡ false
 stepped_refused code at directory ring x e s = rw e at s
 
-pub stepped_next : (code : List ℕ) (at : ℕ) (directory ring : List ℕ) (x : Step) (next : ℕ) (u : Progress) → x ≡ Next next u
+pub stepped_next : (code : List ℕ) (at : ℕ) (directory ring : List ℕ) (x : Step) (next : ℕ) (u : Progress) → x ≡ Some (next, u)
     → Stepped code at directory ring x → (at < next) × Reading code next u directory ring
 stepped_next code at directory ring x next u e s = rw e at s
+
+-- all are 0 before the first record
+pub all_zero : {u : Progress} → (u.stage ≡ 0) × ((u.variables ≡ 0) × ((u.subs ≡ 0) × ((u.blocks ≡ 0) × ((u.scope ≡ 0) × ((u.begin ≡ 0) × ((u.weight ≡ 0) × (u.reach ≡ 0)))))))
+    → u ≡ nothing_read
+all_zero {u} h =
+    let e : u ≡ record { stage = u.stage; variables = u.variables; subs = u.subs; blocks = u.blocks; scope = u.scope; begin = u.begin; weight = u.weight; reach = u.reach } = refl in
+    e ∙ rw (h.0, h.1.0, h.1.1.0, h.1.1.1.0, h.1.1.1.1.0, h.1.1.1.1.1.0, h.1.1.1.1.1.1.0, h.1.1.1.1.1.1.1)
+
+-- whether a scope has a block, by its place
+pub is_placed : (x : Option ℕ) (n : ℕ) → SomeIff x (0 < n) (n - 1) → is_some x ≡ not (eqb n 0)
+is_placed None n h = let z : n ≡ 0 = omega (arith, h) in rw z
+is_placed (Some p) n h = rw (ne_eqb n 0 (λ z. omega (arith, h.0)))
 
 pub empty_start : (code directory ring : List ℕ) (u : Progress) → Empty code directory ring
     → u ≡ nothing_read
@@ -267,10 +275,9 @@ empty_start code directory ring u e eu = rw eu (start_reading code directory rin
 
 pub end_judged : (code : List ℕ) (at : ℕ) (u : Progress) (directory₀ ring₀ : List ℕ)
     → Reading code at u directory₀ ring₀ → length code ≤ at
-    → (m : ℕ) (directory ring : List ℕ) → AllClosed code at m directory ring
-    → (accepted code ≡ true) × Tabled code directory m
-end_judged code at u directory₀ ring₀ r h m directory ring c = (
+    → (directory ring : List ℕ) (x : Option ℕ) → Left code at directory ring x → Judged code directory x
+end_judged code at u directory₀ ring₀ r h directory ring None c = c
+end_judged code at u directory₀ ring₀ r h directory ring (Some m) c = (
   end_accepted code at m u directory ring h r.sound c,
-  end_tabled code at m u directory ring
-      h r.sound c,
+  end_tabled code at m u directory ring h r.sound c,
 )

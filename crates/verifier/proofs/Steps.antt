@@ -14,6 +14,7 @@ use lib.ListN.{length, get_or, take, drop, set, length-set, get_or-append}
 use lib.Seq.{drop-drop, take-add, length-take-le, get_or-take}
 use lib.Dec.{eqb, ltb}
 use borrow.Author.Tests.{lt-ltb, ltb-true}
+use Rattle.std.specs.Prelude.{Some}
 use Rattle.laws.proofs.Booleans.{decide, both}
 use Rattle.machine.specs.Blocks.{Block, Parsed, body_length, stage_of, variables_of}
 use Rattle.machine.specs.Instructions.{instruction_of}
@@ -29,7 +30,6 @@ use Rattle.verifier.proofs.Fitting.{fits_parts, local}
 use Rattle.verifier.proofs.Ring.{lands_short, back_fits, back_inside, moved_on, marks_next}
 use Rattle.verifier.proofs.Entries.{sized_same}
 use Rattle.verifier.proofs.Turns.{drop_end, next_at, is_clean, next_inside, sound_next, was_open, fine_of}
-use Rattle.verifier.specs.declared.Step.TheVariants.{Next}
 use Rattle.verifier.specs.declared.Landing.{Landing}
 use Rattle.verifier.specs.declared.Landing.TheVariants.{Ahead}
 use Rattle.verifier.specs.declared.Landing.TheVariants as landing
@@ -321,7 +321,7 @@ module _ (code : List ℕ) (at : ℕ) (u : Progress) (directory ring : List ℕ)
         record { here = r.sized.ring_room at (omega arith); landing = r.sized.ring_room (at + 1 + n + d) f; small = omega arith }
 
     pub instruction_stepped : (ring' : List ℕ) (v : Progress) → Instructed at (at + 1 + n) d u ring ring' v
-        → Stepped code at directory ring' (Next (at + 1 + n) v)
+        → Stepped code at directory ring' (Some (at + 1 + n, v))
     instruction_stepped ring' v i =
         let o = at_instruction in
         let t = instruction_turn code at u directory ring r here o.fine o.stage d o.distance_is (rw o.length_is at o.fit) in

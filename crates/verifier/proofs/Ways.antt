@@ -13,19 +13,19 @@ use lib.ListN.{length, get_or, drop}
 use lib.Seq.{get_or-drop}
 use lib.Dec.{eqb}
 use borrow.Author.Tests.{eqb-true, eqb-false}
+use Rattle.std.specs.Prelude.{Some}
 use Rattle.laws.proofs.Booleans.{decide}
 use Rattle.machine.specs.Blocks.{stage_of}
 use Rattle.record.specs.Kinds.{shape_in}
 use Rattle.record.specs.declared.Shape.{Shape}
 use Rattle.record.specs.declared.Medium.TheVariants.{Code}
 use Rattle.directory.specs.Layout.{place_in}
-use Rattle.verifier.specs.Pass.{faulty_at, AtKind, VariableRoom, VariableNoted, Reading, AtHeading, Beginning, SubRoom, SubRead, Stepped}
+use Rattle.verifier.specs.Pass.{faulty_at, AtKind, VariableRoom, VariableNoted, Reading, AtHeading, Beginning, SubRoom, SubRead, Step, Stepped}
 use Rattle.verifier.specs.declared.Progress.{Progress}
 use Rattle.book.proofs.Shapes.{in_order_lem}
 use Rattle.verifier.proofs.Reading.{stage_below}
 use Rattle.verifier.proofs.Turns.{next_at, is_clean, next_inside}
 use Rattle.verifier.proofs.Heads.{variable_room, variable_turn, sub_room, sub_refused, sub_turn}
-use Rattle.verifier.specs.declared.Step.{Step}
 
 module _ (code : List ℕ) (at : ℕ) (u : Progress) (directory ring : List ℕ)
     (r : Reading code at u directory ring) (here : at < length code)
@@ -49,8 +49,8 @@ module _ (code : List ℕ) (at : ℕ) (u : Progress) (directory ring : List ℕ)
     pub makes_beginning : s.stage ≡ 1 → Beginning code at (at + 1 + s.length) b u directory ring
     makes_beginning e = record { reading = r; here = here; fine = ok; stage = sym stage_is ∙ e; next_is = next_is_lem; scope_is = first_is }
 
-    pub variable_stepped : s.stage ≡ 2 → (directory' : List ℕ) (y : Step) → VariableNoted b (at + 1 + s.length) u directory directory' y
-        → Stepped code at directory' ring y
+    pub variable_stepped : s.stage ≡ 2 → (directory' : List ℕ) (y : Progress) → VariableNoted b (at + 1 + s.length) u directory directory' y
+        → Stepped code at directory' ring (Some (at + 1 + s.length, y))
     variable_stepped e directory' y h =
         rw (h.0, h.1, next_is_lem, first_is) (omega arith, variable_turn code at u directory ring r here ok (sym stage_is ∙ e) (rw first_is at h.2))
 

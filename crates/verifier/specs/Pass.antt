@@ -1,5 +1,5 @@
 -- The pass over the records of code: what was read before a record, and what is known of it.
-use Rattle.std.specs.Prelude.{ℕ, zero, suc, ◌+◌, ◌-◌, ◌*◌, ◌%◌, ◌<◌, ◌≤◌, ◌≡◌, Bool, true, false, cond, ◌&&◌, ◌||◌, List, ◌++◌, reverse, ◌⊎◌, length, get_or, take, drop, set, eqb, ltb}
+use Rattle.std.specs.Prelude.{ℕ, zero, suc, ◌+◌, ◌-◌, ◌*◌, ◌%◌, ◌<◌, ◌≤◌, ◌≡◌, Bool, true, false, cond, ◌&&◌, ◌||◌, List, ◌++◌, reverse, ◌⊎◌, length, get_or, take, drop, set, eqb, ltb, Option, Some, None}
 use Rattle.book.specs.Scopes.{sum}
 use Rattle.book.specs.declared.ValueType.TheVariants.{YesNo}
 use Rattle.record.specs.Kinds.{shape_in}
@@ -11,16 +11,9 @@ use Rattle.verifier.specs.Instructions.{form_of, named, distance_of, reach_after
 use Rattle.directory.specs.Layout.{place_in, block_weight, block_in, size_in, type_in}
 use Rattle.directory.specs.Tabled.{block_at, Entered, Tabled, Room}
 use Rattle.verifier.specs.declared.Progress.{Progress}
-use Rattle.verifier.specs.declared.Step.{Step}
-use Rattle.verifier.specs.declared.Step.TheVariants.{Refused, Next}
 use Rattle.verifier.specs.declared.Landing.{Landing}
 use Rattle.verifier.specs.declared.Landing.TheVariants.{Ahead}
 use Rattle.verifier.specs.declared.Landing.TheVariants as landing
-use Rattle.verifier.specs.declared.Closing.{Closing}
-use Rattle.verifier.specs.declared.Closing.TheVariants.{Closed}
-use Rattle.verifier.specs.declared.Closing.TheVariants as closing
-use Rattle.verifier.specs.declared.Verdict.{Verdict}
-use Rattle.verifier.specs.declared.Verdict.TheVariants as verdict
 
 -- what acceptance counts of it
 abbrev pub count_of : Progress → Count
@@ -240,10 +233,14 @@ pub record Reading (code : List ℕ) (at : ℕ) (u : Progress) (directory ring :
 
 -- The contracts of a record's ways
 
+-- the position of the next record and what was read, unless the code is refused
+abbrev pub Step : Type 0
+Step = Option (ℕ × Progress)
+
 -- after the record at a position: code that is not accepted is refused, else the next record is read
 abbrev pub Stepped : List ℕ → ℕ → List ℕ → List ℕ → Step → Type 0
-Stepped code at directory ring Refused = accepted code ≡ false
-Stepped code at directory ring (Next next u) = (at < next) × Reading code next u directory ring
+Stepped code at directory ring None = accepted code ≡ false
+Stepped code at directory ring (Some x) = (at < x.0) × Reading code x.0 x.1 directory ring
 
 -- the record at a position is no instruction, or one before any block
 pub record AtHeading (code : List ℕ) (at : ℕ) (u : Progress) (directory ring : List ℕ) : Type 0 where
@@ -320,9 +317,9 @@ pub record AllClosed (code : List ℕ) (at m : ℕ) (directory ring : List ℕ) 
   pub idle : Idle code at m ring
 
 -- after a block's end: code that is not accepted is refused, else the block is closed
-abbrev pub Left : List ℕ → ℕ → List ℕ → List ℕ → Closing → Type 0
-Left code at directory ring closing.Refused = accepted code ≡ false
-Left code at directory ring (Closed m) = AllClosed code at m directory ring
+abbrev pub Left : List ℕ → ℕ → List ℕ → List ℕ → Option ℕ → Type 0
+Left code at directory ring None = accepted code ≡ false
+Left code at directory ring (Some m) = AllClosed code at m directory ring
 
 -- the record at a position begins a block of a scope
 pub record Beginning (code : List ℕ) (at next scope : ℕ) (u : Progress) (directory ring : List ℕ) : Type 0 where
@@ -336,7 +333,7 @@ pub record Beginning (code : List ℕ) (at next scope : ℕ) (u : Progress) (dir
 -- a block of a scope after m closed ones: "a repeated scope or one above 31" is refused
 unfoldable pub opening : ℕ → ℕ → ℕ → List ℕ → Step
 opening scope next m directory =
-    cond (ltb 31 scope) Refused (cond (eqb (place_in directory scope) 0) (Next next (block_read m scope next)) Refused)
+    cond (ltb 31 scope) None (cond (eqb (place_in directory scope) 0) (Some (next, block_read m scope next)) None)
 
 -- there is room for one more variable
 pub record VariableRoom (u : Progress) (directory : List ℕ) : Type 0 where
@@ -345,9 +342,9 @@ pub record VariableRoom (u : Progress) (directory : List ℕ) : Type 0 where
   pub row : u.blocks * 45 + 77 ≤ length directory
 
 -- one more variable, of a type byte
-abbrev pub VariableNoted : ℕ → ℕ → Progress → List ℕ → List ℕ → Step → Type 0
+abbrev pub VariableNoted : ℕ → ℕ → Progress → List ℕ → List ℕ → Progress → Type 0
 VariableNoted byte next u directory directory' r =
-    (r ≡ Next next (variable_read u next)) × (directory' ≡ set directory (u.blocks * 45 + 45 + u.variables) byte) × (byte < 256)
+    (r ≡ variable_read u next) × (directory' ≡ set directory (u.blocks * 45 + 45 + u.variables) byte) × (byte < 256)
 
 -- the block of a scope that has one
 abbrev pub block_of : List ℕ → ℕ → ℕ
@@ -363,8 +360,8 @@ pub record SubRoom (scope : ℕ) (u : Progress) (directory : List ℕ) : Type 0 
 
 -- one more sub-scope, unless its scope has no block yet
 pub record SubRead (scope next : ℕ) (u : Progress) (directory directory' : List ℕ) (r : Step) : Type 0 where
-  pub missing : place_in directory scope ≡ 0 → r ≡ Refused
-  pub read : (place_in directory scope ≡ 0 → ⊥) → (r ≡ Next next (sub_scope_read u (block_weight directory (block_of directory scope)) next)) ×
+  pub missing : place_in directory scope ≡ 0 → r ≡ None
+  pub read : (place_in directory scope ≡ 0 → ⊥) → (r ≡ Some (next, sub_scope_read u (block_weight directory (block_of directory scope)) next)) ×
       (directory' ≡ set directory (u.blocks * 45 + 37 + u.subs) (block_of directory scope))
 
 -- a directory and a ring that are still empty
@@ -375,6 +372,6 @@ pub record Empty (code directory ring : List ℕ) : Type 0 where
   pub ring_room : RingRoom ring (length code)
 
 -- the answer says whether code is accepted, and of accepted code the directory holds the blocks
-abbrev pub Judged : List ℕ → List ℕ → Verdict → Type 0
-Judged code directory verdict.Refused = accepted code ≡ false
-Judged code directory (verdict.Accepted n) = (accepted code ≡ true) × Tabled code directory n
+abbrev pub Judged : List ℕ → List ℕ → Option ℕ → Type 0
+Judged code directory None = accepted code ≡ false
+Judged code directory (Some n) = (accepted code ≡ true) × Tabled code directory n

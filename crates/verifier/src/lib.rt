@@ -8,8 +8,8 @@ ghost use Rattle.record.specs.Kinds.{shape_in};
 ghost use Rattle.record.specs.declared.Medium.TheVariants.{Code};
 ghost use Rattle.directory.specs.Layout.{place_in};
 ghost use Rattle.directory.specs.Tabled.{Room};
-ghost use Rattle.verifier.specs.Instructions.{limit_by, farthest, distance_at};
-ghost use Rattle.verifier.specs.Pass.{faulty_at, exceeds_with, Limited, Called, called_at, RingRoom, Passed, nothing_read, Reading, Stepped};
+ghost use Rattle.verifier.specs.Instructions.{limit_by, distance_at};
+ghost use Rattle.verifier.specs.Pass.{faulty_at, exceeds_with, Limited, Called, called_at, RingRoom, Passed, Reading, Stepped};
 ghost use Rattle.verifier.specs.Pass.{AtKind, BodyRoom, BodyPassed, Bodied, Landed, Instructing, Instructed, AtHeading};
 ghost use Rattle.verifier.specs.Pass.{Leaving, Left, Beginning, opening, VariableRoom, VariableNoted, SubRoom, SubRead, Empty, Judged};
 
@@ -27,16 +27,12 @@ use validity::{is_invalid, may_follow};
 // No memory has this many bytes.
 const UNREACHED: usize = 9223372036854775808;
 
-// Code is refused, or accepted with the number of its blocks.
-#[derive(Clone, Copy)]
-pub enum Verdict {
-    Refused,
-    Accepted(usize),
-}
+// The limit of a block's weight.
+const WEIGHT_LIMIT: usize = 4096;
 
 // What was read: the stage of the last record, how many blocks are closed, and of the present block its variables and sub-scopes so far,
-// its scope, where its instructions begin, its weight so far, and the position of its farthest landing.
-#[derive(Clone, Copy)]
+// its scope, where its instructions begin, its weight so far, and the position of its farthest landing. All are 0 before the first record.
+#[derive(Clone, Copy, Default)]
 struct Progress {
     pub stage: usize,
     pub variables: usize,
@@ -48,13 +44,6 @@ struct Progress {
     pub reach: usize,
 }
 
-// After a record: the code is refused, or the position of the next record and what was read.
-#[derive(Clone, Copy)]
-enum Step {
-    Refused,
-    Next(usize, Progress),
-}
-
 // What stands at a position: no instruction, or one before any block; an instruction that is refused; or one that lands so far behind its end, 0 where
 // it has no distance.
 #[derive(Clone, Copy)]
@@ -64,47 +53,16 @@ enum Landing {
     Ahead(usize),
 }
 
-// At a block's end: the code is refused, or the number of closed blocks.
-#[derive(Clone, Copy)]
-enum Closing {
-    Refused,
-    Closed(usize),
-}
-
-fn wide(b: u8) -> usize
-    ensures { result ≡ b }
-{
-    b as usize
-}
-
-// What was read before the first record.
-fn nothing_read() -> Progress
-    ensures { result ≡ nothing_read }
-{
-    Progress {
-        stage: 0,
-        variables: 0,
-        subs: 0,
-        blocks: 0,
-        scope: 0,
-        begin: 0,
-        weight: 0,
-        reach: 0,
-    }
-}
-
 // Whether one more record of a stage is one variable or one sub-scope too many.
 fn too_many(stage: usize, u: Progress) -> bool
     requires { Limited u }
     ensures { result ≡ exceeds_with stage u }
 {
-    if stage == 2 {
-        return 31 < u.variables;
+    match stage {
+        2 => 31 < u.variables,
+        3 => 7 < u.subs,
+        _ => false,
     }
-    if stage == 3 {
-        return 7 < u.subs;
-    }
-    false
 }
 
 // Whether a record at a position that is no instruction, or one before any block, has one of the faults 1 to 5, by its kind and the kind's shape.
@@ -138,7 +96,7 @@ fn is_faulty(code: &[u8], at: usize, kind: u8, shape: Shape, u: Progress) -> boo
 fn joined(high: u8, low: u8) -> usize
     ensures { (result ≡ high * 256 + low) × (result < 65536) }
 {
-    (high as usize) * 256 + (low as usize)
+    usize::from(u16::from_be_bytes([high, low]))
 }
 
 // Whether no landing is marked from a position on up to an end at most four bytes on: no body is longer. One test after the other is quicker
@@ -174,16 +132,6 @@ fn unmarked(ring: &[u8], from: usize, end: usize) -> bool
     true
 }
 
-// The farther of two positions.
-fn farther(reach: usize, landing: usize) -> usize
-    ensures { result ≡ farthest reach landing }
-{
-    if reach < landing {
-        return landing;
-    }
-    reach
-}
-
 // Whether the body of so many bytes behind a position is whole, and nothing lands in it.
 fn body_passes(code: &[u8], at: usize, length: usize, ring: &[u8]) -> bool
     requires { BodyRoom code.now at length ring.now }
@@ -214,7 +162,7 @@ fn one_name(code: &[u8], at: usize, count: usize, ring: &[u8]) -> Landing
     if !body_passes(code, at, LENGTH_OWN, ring) {
         return Landing::Refused;
     }
-    if wide(code[at + 1]) < count {
+    if usize::from(code[at + 1]) < count {
         return Landing::Ahead(0);
     }
     Landing::Refused
@@ -228,11 +176,11 @@ fn two_names(code: &[u8], at: usize, u: Progress, directory: &[usize], ring: &[u
     if !body_passes(code, at, LENGTH_CALLED, ring) {
         return Landing::Refused;
     }
-    let k = wide(code[at + 1]);
+    let k = usize::from(code[at + 1]);
     if u.subs <= k {
         return Landing::Refused;
     }
-    if wide(code[at + 2]) < variables_in(directory, block_of(directory, u.blocks, k)) {
+    if usize::from(code[at + 2]) < variables_in(directory, block_of(directory, u.blocks, k)) {
         return Landing::Ahead(0);
     }
     Landing::Refused
@@ -262,23 +210,18 @@ fn jump(there: bool, code: &[u8], at: usize, length: usize, ring: &[u8]) -> Land
 fn limit_of(kind: u8, u: Progress) -> usize
     ensures { result ≡ limit_by kind u.variables u.subs }
 {
-    if kind == KIND_CONSTANT {
-        return 2;
+    match kind {
+        KIND_CONSTANT => 2,
+        KIND_ENTER => u.subs,
+        _ => u.variables,
     }
-    if kind == KIND_ENTER {
-        return u.subs;
-    }
-    u.variables
 }
 
 // Whether an instruction with two bytes names a sub-scope and its variable; else they are a distance.
 fn has_names(kind: u8) -> bool
     ensures { result ≡ eqb kind 7 || eqb kind 42 }
 {
-    if kind == KIND_CALLED {
-        return true;
-    }
-    kind == KIND_OVERRIDE
+    kind == KIND_CALLED || kind == KIND_OVERRIDE
 }
 
 // Whether the instruction at a position fits, by the shape of its kind, and where it lands.
@@ -311,7 +254,7 @@ fn landing_of(
             jump(true, code, at, LENGTH_DISTANCE, ring)
         }
         3 => {
-            let x = wide(byte_at(code, at + 1));
+            let x = usize::from(byte_at(code, at + 1));
             jump(x < u.variables, code, at, LENGTH_OWN_DISTANCE, ring)
         }
         // Four: no body is longer.
@@ -326,31 +269,38 @@ fn instruction(at: usize, next: usize, d: usize, u: Progress, ring: &mut [u8]) -
     ensures { Instructed at next d u ring.old ring.new result }
 {
     ring[at % 65536] = 0;
-    let mut v = u;
-    v.stage = 4;
     if d == 0 {
-        return v;
+        return Progress { stage: 4, ..u };
     }
     let landing = next + d;
     ring[landing % 65536] = 1;
-    v.reach = farther(u.reach, landing);
-    v
+    Progress {
+        stage: 4,
+        reach: u.reach.max(landing),
+        ..u
+    }
 }
 
 // Closes the present block, if there is one: nothing lands past its end, and its weight is within the limit.
-fn leave(code: &[u8], at: usize, u: Progress, directory: &mut [usize], ring: &mut [u8]) -> Closing
+fn leave(
+    code: &[u8],
+    at: usize,
+    u: Progress,
+    directory: &mut [usize],
+    ring: &mut [u8],
+) -> Option<usize>
     requires { Leaving code.now at u directory.old ring.old }
     ensures { Left code.now at directory.new ring.new result }
 {
     let m = u.blocks;
     if u.stage == 0 {
-        return Closing::Closed(m);
+        return Some(m);
     }
     if at < u.reach {
-        return Closing::Refused;
+        return None;
     }
-    if 4096 < u.weight {
-        return Closing::Refused;
+    if WEIGHT_LIMIT < u.weight {
+        return None;
     }
     let row = m * ROW;
     directory[row + BEGIN] = u.begin;
@@ -361,33 +311,26 @@ fn leave(code: &[u8], at: usize, u: Progress, directory: &mut [usize], ring: &mu
     let scope = u.scope;
     directory[scope] = m + 1;
     ring[at % 65536] = 0;
-    Closing::Closed(m + 1)
+    Some(m + 1)
 }
 
 // Opens a block of a scope after m closed ones, unless the scope is above 31 or has a block already.
-fn open_block(scope: u8, next: usize, m: usize, directory: &[usize]) -> Step
+fn open_block(scope: u8, next: usize, m: usize, directory: &[usize]) -> Option<(usize, Progress)>
     ensures { result ≡ opening scope next m directory.now }
 {
-    let i = wide(scope);
-    if 31 < i {
-        return Step::Refused;
+    let scope = usize::from(scope);
+    if 31 < scope || place_of(directory, scope).is_some() {
+        return None;
     }
-    if place_of(directory, i) != 0 {
-        return Step::Refused;
-    }
-    Step::Next(
-        next,
-        Progress {
-            stage: 1,
-            variables: 0,
-            subs: 0,
-            blocks: m,
-            scope: i,
-            begin: next,
-            weight: 1,
-            reach: 0,
-        },
-    )
+    let u = Progress {
+        stage: 1,
+        blocks: m,
+        scope,
+        begin: next,
+        weight: 1,
+        ..Progress::default()
+    };
+    Some((next, u))
 }
 
 // A record of kind 1.
@@ -399,59 +342,66 @@ fn begin_block(
     u: Progress,
     directory: &mut [usize],
     ring: &mut [u8],
-) -> Step
+) -> Option<(usize, Progress)>
     requires { Beginning code.now at next scope u directory.old ring.old }
     ensures { Stepped code.now at directory.new ring.new result }
 {
-    match leave(code, at, u, directory, ring) {
-        Closing::Refused => Step::Refused,
-        Closing::Closed(m) => open_block(scope, next, m, directory),
-    }
+    let m = leave(code, at, u, directory, ring)?;
+    open_block(scope, next, m, directory)
 }
 
 // A record of kind 2.
-fn variable(byte: u8, next: usize, u: Progress, directory: &mut [usize]) -> Step
+fn variable(byte: u8, next: usize, u: Progress, directory: &mut [usize]) -> Progress
     requires { VariableRoom u directory.old }
     ensures { VariableNoted byte next u directory.old directory.new result }
 {
-    let v = u.variables;
-    directory[u.blocks * ROW + TYPES + v] = wide(byte);
-    let mut w = u;
-    w.stage = 2;
-    w.variables = v + 1;
-    w.begin = next;
-    Step::Next(next, w)
+    directory[u.blocks * ROW + TYPES + u.variables] = usize::from(byte);
+    Progress {
+        stage: 2,
+        variables: u.variables + 1,
+        begin: next,
+        ..u
+    }
 }
 
 // A record of kind 3, unless its scope has no block yet.
-fn sub_scope(scope: u8, next: usize, u: Progress, directory: &mut [usize]) -> Step
+fn sub_scope(
+    scope: u8,
+    next: usize,
+    u: Progress,
+    directory: &mut [usize],
+) -> Option<(usize, Progress)>
     requires { SubRoom scope u directory.old }
     ensures { SubRead scope next u directory.old directory.new result }
 {
-    let place = place_of(directory, wide(scope));
-    if place == 0 {
-        return Step::Refused;
-    }
-    let block = place - 1;
-    let k = u.subs;
-    let mut v = u;
-    v.stage = 3;
-    v.subs = k + 1;
-    v.begin = next;
-    v.weight = u.weight + weight_of(directory, block);
-    directory[u.blocks * ROW + BLOCKS + k] = block;
-    Step::Next(next, v)
+    let block = place_of(directory, usize::from(scope))?;
+    let weight = weight_of(directory, block);
+    directory[u.blocks * ROW + BLOCKS + u.subs] = block;
+    let v = Progress {
+        stage: 3,
+        subs: u.subs + 1,
+        begin: next,
+        weight: u.weight + weight,
+        ..u
+    };
+    Some((next, v))
 }
 
 // A record at a position that is no instruction, or one before any block: of kind 1, 2 or 3, or refused.
-fn heading_at(code: &[u8], at: usize, u: Progress, directory: &mut [usize], ring: &mut [u8]) -> Step
+fn heading_at(
+    code: &[u8],
+    at: usize,
+    u: Progress,
+    directory: &mut [usize],
+    ring: &mut [u8],
+) -> Option<(usize, Progress)>
     requires { AtHeading code.now at u directory.old ring.old }
     ensures { Stepped code.now at directory.new ring.new result }
 {
     let kind = code[at];
     let shape = shape_in(Medium::Code, kind);
     if is_faulty(code, at, kind, shape, u) {
-        return Step::Refused;
+        return None;
     }
     let next = at + 1 + shape.length;
     let first = byte_at(code, at + 1);
@@ -459,54 +409,50 @@ fn heading_at(code: &[u8], at: usize, u: Progress, directory: &mut [usize], ring
         return begin_block(code, at, next, first, u, directory, ring);
     }
     if shape.stage == 2 {
-        return variable(first, next, u, directory);
+        return Some((next, variable(first, next, u, directory)));
     }
     sub_scope(first, next, u, directory)
 }
 
 // The record at a position, after what was read.
-fn step_at(code: &[u8], at: usize, u: Progress, directory: &mut [usize], ring: &mut [u8]) -> Step
+fn step_at(
+    code: &[u8],
+    at: usize,
+    u: Progress,
+    directory: &mut [usize],
+    ring: &mut [u8],
+) -> Option<(usize, Progress)>
     requires { (at < length code.now) × Reading code.now at u directory.old ring.old }
     ensures { Stepped code.now at directory.new ring.new result }
 {
     let shape = shape_in(Medium::Code, code[at]);
     match landing_of(code, at, shape, u, directory, ring) {
         Landing::Heading => heading_at(code, at, u, directory, ring),
-        Landing::Refused => Step::Refused,
+        Landing::Refused => None,
         Landing::Ahead(d) => {
             let next = at + 1 + shape.length;
-            Step::Next(next, instruction(at, next, d, u, ring))
+            Some((next, instruction(at, next, d, u, ring)))
         }
     }
 }
 
 // Reads the records of code one after the other; the directory is still empty.
-fn judge_code(code: &[u8], directory: &mut [usize], ring: &mut [u8]) -> Verdict
+fn judge_code(code: &[u8], directory: &mut [usize], ring: &mut [u8]) -> Option<usize>
     requires { Empty code.now directory.old ring.old }
     ensures { Judged code.now directory.new result }
 {
-    let mut u = nothing_read();
-    let mut at: usize = 0;
+    let mut u = Progress::default();
+    let mut at = 0;
+    // No index loop: the position moves by a record's length.
     while at < code.len() {
-        match step_at(code, at, u, directory, ring) {
-            Step::Refused => {
-                return Verdict::Refused;
-            }
-            Step::Next(next, v) => {
-                at = next;
-                u = v;
-            }
-        }
+        (at, u) = step_at(code, at, u, directory, ring)?;
     }
-    match leave(code, at, u, directory, ring) {
-        Closing::Refused => Verdict::Refused,
-        Closing::Closed(m) => Verdict::Accepted(m),
-    }
+    leave(code, at, u, directory, ring)
 }
 
 // Judges code of any length, with a ring of 65,536 marks. It calls itself first, `again` times, which is 0: a function that may call itself is not
 // made part of its caller, where the ring would take its room on the stack for short code, too.
-fn judge_long(code: &[u8], directory: &mut [usize], again: usize) -> Verdict
+fn judge_long(code: &[u8], directory: &mut [usize], again: usize) -> Option<usize>
     requires { Room code.now directory.old × ((i : ℕ) → place_in directory.old i ≡ 0) }
     ensures { Judged code.now directory.new result }
 {
@@ -518,7 +464,7 @@ fn judge_long(code: &[u8], directory: &mut [usize], again: usize) -> Verdict
 }
 
 // Judges code: whether it is accepted, and of accepted code the directory of its blocks. A smaller ring has a mark for each position of short code.
-pub fn verify(code: &[u8], directory: &mut [usize]) -> Verdict
+pub fn verify(code: &[u8], directory: &mut [usize]) -> Option<usize>
     requires { Room code.now directory.old × ((i : ℕ) → place_in directory.old i ≡ 0) }
     ensures { Judged code.now directory.new result }
 {

@@ -10,8 +10,8 @@ use mathlib.Core.List.{List}
 use mathlib.Core.Logic.{⊎_elim}
 use native.Mathlib.Omega.{arith}
 use native.Mathlib.Numerals.{add-one}
-use lib.ListN.{length, get_or, take, drop, set, length-set, length-take, drop_of_length-le}
-use lib.Seq.{drop-cons, get_or-take, get_or-set_same, get_or-set_other, take_all}
+use lib.ListN.{length, get_or, take, drop, set, length-set, drop_of_length-le}
+use lib.Seq.{drop-cons, get_or-set_same, get_or-set_other, take_all}
 use lib.Dec.{eqb}
 use borrow.Author.Tests.{eqb-true, eqb-false}
 use Rattle.order.specs.Order.{among}
@@ -20,7 +20,7 @@ use Rattle.book.specs.Decode.{scopes_of}
 use Rattle.book.specs.References.{scope_at}
 use Rattle.book.specs.Scopes.{blocks, sum, weight}
 use Rattle.book.specs.Positions.{sub_scope_at}
-use Rattle.steps.specs.Limits.{Scoped, WholeOrder}
+use Rattle.steps.specs.Limits.{WholeOrder}
 use Rattle.weights.specs.Weighing.{weight_by, Weighed}
 use Rattle.laws.proofs.Booleans.{decide}
 use Rattle.book.proofs.Sums.{sum_same}
@@ -57,20 +57,25 @@ pub first : (book : List Scope) (from : List ℕ) → Weighing book from from 0
 unfolding among
 first book from = record { at = omega arith; long = refl; done = λ j m. absurd (false≢true m) }
 
-module _ (bytes order from : List ℕ) (n : ℕ) (scoped : Scoped bytes n) (blocked : WholeOrder bytes order n) where
+module _ (bytes order from : List ℕ) (n : ℕ) (count : n ≡ length (scopes_of bytes)) (blocked : WholeOrder bytes order n) where
+  -- the blocks of an order of all of them
+  abbrev rows : List ℕ
+  rows = take n order
+
   abbrev book : List Scope
   book = scopes_of bytes
 
   whole : length (blocks book) ≡ length book
-  whole = blocked.all ∙ scoped.count
+  whole = blocked.all ∙ count
 
-  pub order_long : n ≤ length order
-  order_long = omega (arith, length-take n order, ap length blocked.is, blocked.all)
+  rows_all : length rows ≡ n
+  rows_all = ap length blocked.is ∙ blocked.all
 
   module _ (weights : List ℕ) (k : ℕ) (g : Weighing book from weights k) where
-    pub all_weighed : n ≤ k → Weighed book false weights
+    pub all_weighed : length rows ≤ k → Weighed book false weights
     all_weighed l =
         let at = g.at in
+        let all = rows_all in
         let every : take k (blocks book) ≡ blocks book = take_all k (blocks book) (omega (arith, whole)) in
         let each : (i : ℕ) → i < length book → (get_or weights i 0 ≡ weight book i) × (weight book i ≤ 4096) =
         λ i h. g.done i (rw every (every_block book whole i h)) in
@@ -79,12 +84,15 @@ module _ (bytes order from : List ℕ) (n : ℕ) (scoped : Scoped bytes n) (bloc
           each = λ e i h. (each i h).0;
         }
 
-    module _ (l : k < n) (i : ℕ) (ei : i ≡ get_or order k 0) where
+    module _ (l : k < length rows) (i : ℕ) (ei : i ≡ get_or rows k 0) where
       is_block : i ≡ get_or (blocks book) k 0
-      is_block = ei ∙ sym (get_or-take n order k 0 l) ∙ ap (λ (xs : List ℕ). get_or xs k 0) blocked.is
+      is_block = ei ∙ ap (λ (xs : List ℕ). get_or xs k 0) blocked.is
+
+      below : k < length book
+      below = rw (blocked.is, whole) at l
 
       pub in_book : i < length book
-      in_book = rw is_block (block_bound book whole k (omega arith))
+      in_book = rw is_block (block_bound book whole k below)
 
       module _ (w : ℕ) (ew : w ≡ weight_by weights (scope_at book i)) where
         right : w ≡ weight book i
@@ -93,7 +101,7 @@ module _ (bytes order from : List ℕ) (n : ℕ) (scoped : Scoped bytes n) (bloc
             ew
             ∙ ap suc
             (sum_same (λ j. get_or weights j 0) (weight book) (scope_at book i).sub_scopes
-            (λ j m. (g.done j (called_before book whole blocked.sound k (omega arith) j (rw is_block at m))).0))
+            (λ j m. (g.done j (called_before book whole blocked.sound k below j (rw is_block at m))).0))
             ∙ sym (weight_sum book whole blocked.sound i in_book)
 
         pub heavy : 4096 < w → Weighed book true weights
@@ -103,16 +111,18 @@ module _ (bytes order from : List ℕ) (n : ℕ) (scoped : Scoped bytes n) (bloc
               each = λ e. absurd (true≢false e);
             }
 
-        pub weighed : w ≤ 4096 → 32 ≤ length from → Weighing book from (set weights i w) (k + 1)
-        weighed small room =
+        pub weighed : w ≤ 4096 → length book ≤ 32 → 32 ≤ length from → Weighing book from (set weights i w) (k + 1)
+        weighed small few room =
             let long = g.long in
+            let within = below in
+            let all = whole in
             record {
               at = omega arith;
               long = length-set weights i w ∙ long;
               done =
                   λ j m.
                   let m' : (among (take k (blocks book)) j || eqb j i) ≡ true =
-                  (rw is_block (sym (block_snoc book whole k (omega arith) j))) ∙ (rw (add-one k) at m) in
+                  (rw is_block (sym (block_snoc book whole k below j))) ∙ (rw (add-one k) at m) in
                   ⊎_elim
                   (λ (q : eqb j i ≡ true).
                   let e : j ≡ i = eqb-true j i q in

@@ -1,38 +1,44 @@
 -- `blocks::enter`, `run_block`, `run_frame` and `enter_sub` meet their contracts. A block enters only blocks of lower numbers.
 use Prim.Native.Nat.{◌+◌, ◌-◌, ◌*◌}
-use mathlib.Core.Path.{refl, sym, ◌∙◌}
+use mathlib.Core.Path.{refl, sym, ap, ◌∙◌}
 use lib.ListN.{length}
 use native.Mathlib.Omega.{arith}
+use Rattle.std.specs.Prelude.{Err}
+use Rattle.std.proofs.lemmas.Result.{err_from_is_err_and}
 use Rattle.slices.proofs.Parts.{part_room}
 use Rattle.blocks.proofs.Tables.{small}
 use Rattle.blocks.proofs.Entering.{starts, stepping, world, body_is, ordered, ending, came_end, lent_rest, lent_size, lent_marked, rest_length, lent_before, sub_at, enterable}
 use Rattle.blocks.proofs.Entering.{entry_twice, entry_ended, entry_stuck, entry_short, entry_turn, entry_few, callee_entry, came_values, came_ended, came_stuck, came_short}
-use Rattle.blocks.proofs.Entering.{stands, acts, goes_on, ends_so, too_short, moved, further, went_on, went_ended, went_stuck, went_short}
+use Rattle.blocks.proofs.Entering.{stands, acts, goes_on, further, went_on, came_stopped, framed_on}
 use Rattle.blocks.proofs.Entering.{fresh_none, fresh_few, fresh_all}
-use Rattle.blocks.proofs.Known.{row_room, recalled, unrecalled, entry_from, entry_sized, came_from, came_so, noted}
+use Rattle.blocks.proofs.Known.{row_room, recalled, entry_from, entry_sized, came_from, noted}
 use Rattle.blocks.proofs.Large.{came_to}
 use Rattle.blocks.proofs.+enter_enter_sub_run_block_run_frame.Goals as goal
 
 pub enter-variables_in-requires : goal.enter-variables_in-requires
 enter-variables_in-requires t c = small (world c.requires.0) _ c.requires.0.block
 
-pub enter-recall-known-requires : goal.enter-recall-known-requires
-enter-recall-known-requires t c = row_room c.requires.0 c.requires.0.room c.requires.1
+pub enter-recall-requires : goal.enter-recall-requires
+enter-recall-requires t c = row_room c.requires.0 c.requires.0.room c.requires.1
 
-pub enter-returns-then-known-gt0 : goal.enter-returns-then-known-gt0
-enter-returns-then-known-gt0 t c = (recalled c.requires.0 c.variables_in.ensures c.none_given-bare.ensures c.requires.1 c.recall-known.ensures c.if-known-gt0.true, c.requires.1)
+pub enter-returns-in-Some : goal.enter-returns-in-Some
+enter-returns-in-Some t c = (recalled c.requires.0 c.variables_in.ensures c.none_given-bare.ensures c.requires.1 c.recall.ensures c.in-Some.is, c.requires.1)
 
-pub enter-run_block-ran-requires : goal.enter-run_block-ran-requires
-enter-run_block-ran-requires t c = (omega (arith, c.decreases), (entry_from (unrecalled c.recall-known.ensures c.if-known-gt0.false) c.requires.0, c.requires.1))
+pub enter-run_block-requires : goal.enter-run_block-requires
+enter-run_block-requires t c = (omega (arith, c.decreases), (entry_from c.in_default.ensures.kept c.requires.0, c.requires.1))
 
 pub enter-remember-requires : goal.enter-remember-requires
-enter-remember-requires t c = row_room c.requires.0 c.run_block-ran.ensures.0.size c.run_block-ran.ensures.1
+enter-remember-requires t c = row_room c.requires.0 c.run_block.ensures.0.size c.run_block.ensures.1
 
-pub enter-returns-in-Values : goal.enter-returns-in-Values
-enter-returns-in-Values t c = (came_so (came_from (unrecalled c.recall-known.ensures c.if-known-gt0.false) c.run_block-ran.ensures.0) c.in-Values.is, noted c.requires.0 c.variables_in.ensures c.none_given-bare.ensures c.run_block-ran.ensures.1 (came_to _ c.in-Values.is (came_from (unrecalled c.recall-known.ensures c.if-known-gt0.false) c.run_block-ran.ensures.0) tt) c.remember.auto.memo c.remember.ensures)
+pub enter-returns-in_err-n : goal.enter-returns-in_err-n
+enter-returns-in_err-n t c =
+    let e = err_from_is_err_and c.from_residual.result c.from_residual.ensures.1 in
+    rw (e.1, e.2) (came_from c.in_default.ensures.kept c.in_err-n.ensures.0, c.in_err-n.ensures.1)
 
 pub enter-returns : goal.enter-returns
-enter-returns t c = (came_from (unrecalled c.recall-known.ensures c.if-known-gt0.false) c.run_block-ran.ensures.0, c.run_block-ran.ensures.1)
+enter-returns t c =
+    let came = came_from c.in_default.ensures.kept c.in_ok-n.ensures.0 in
+    (came, noted c.requires.0 c.variables_in.ensures c.none_given-bare.ensures c.in_ok-n.ensures.1 (came_to _ refl came tt) c.remember.auto.memo c.remember.ensures)
 
 pub enter_sub-overflow_add-k : goal.enter_sub-overflow_add-k
 enter_sub-overflow_add-k t c = let e = enterable c.requires c.byte_at-k.ensures in omega (arith, e.few, e.cells, e.block)
@@ -103,80 +109,80 @@ enter_sub-enter-requires t c = let e = enterable c.requires c.byte_at-k.ensures 
 pub enter_sub-overflow_add-frame : goal.enter_sub-overflow_add-frame
 enter_sub-overflow_add-frame t c = let e = enterable c.requires c.byte_at-k.ensures in omega (arith, e.few, e.cells, e.block)
 
-pub enter_sub-offset_bounds-frame-k-in-Values : goal.enter_sub-offset_bounds-frame-k-in-Values
-enter_sub-offset_bounds-frame-k-in-Values t c = let e = enterable c.requires c.byte_at-k.ensures in omega (arith, e.few, e.cells, e.block)
+pub enter_sub-offset_bounds-frame-k-in-Ok : goal.enter_sub-offset_bounds-frame-k-in-Ok
+enter_sub-offset_bounds-frame-k-in-Ok t c = let e = enterable c.requires c.byte_at-k.ensures in omega (arith, e.few, e.cells, e.block)
 
-pub enter_sub-bounds-frame-k-in-Values : goal.enter_sub-bounds-frame-k-in-Values
-enter_sub-bounds-frame-k-in-Values t c = let e = enterable c.requires c.byte_at-k.ensures in let n = lent_size c.args.frame.now c.enter.new.own (40 + c.byte_at-k.result * 32) (40 + c.byte_at-k.result * 32 + 32 - (40 + c.byte_at-k.result * 32)) e.cells (omega arith) c.enter.ensures.0.size in omega (arith, e.few, e.cells)
+pub enter_sub-bounds-frame-k-in-Ok : goal.enter_sub-bounds-frame-k-in-Ok
+enter_sub-bounds-frame-k-in-Ok t c = let e = enterable c.requires c.byte_at-k.ensures in let n = lent_size c.args.frame.now c.enter.new.own (40 + c.byte_at-k.result * 32) (40 + c.byte_at-k.result * 32 + 32 - (40 + c.byte_at-k.result * 32)) e.cells (omega arith) c.enter.ensures.0.size in omega (arith, e.few, e.cells)
 
 pub enter_sub-advance-requires : goal.enter_sub-advance-requires
 enter_sub-advance-requires t c = omega (arith, c.requires.inside)
 
-pub enter_sub-overflow_add-count : goal.enter_sub-overflow_add-count
-enter_sub-overflow_add-count t c = omega (arith, entry_few (world c.requires.entry) _ c.requires.entry.block c.requires.stands c.requires.inside c.requires.enters _ (sub_at c.args.s.at _ c.byte_at-k.ensures) c.if-frame-k-ne0.false (40 + c.byte_at-k.result * 32 + 32 - (40 + c.byte_at-k.result * 32)) (omega arith) _ _ (came_values c.block_of-q.ensures c.enter.ensures.0 c.in-Values.is) c.enter.ensures.0.size)
-
 pub enter_sub-overflow_add-result : goal.enter_sub-overflow_add-result
-enter_sub-overflow_add-result t c = omega (arith, (entry_ended (world c.requires.entry) _ c.requires.entry.block c.requires.stands c.requires.inside c.requires.enters _ (sub_at c.args.s.at _ c.byte_at-k.ensures) c.if-frame-k-ne0.false (40 + c.byte_at-k.result * 32 + 32 - (40 + c.byte_at-k.result * 32)) (omega arith) _ _ (came_ended c.block_of-q.ensures c.enter.ensures.0 c.in-Ended.is)).1)
+enter_sub-overflow_add-result t c = omega (arith, entry_few (world c.requires.entry) _ c.requires.entry.block c.requires.stands c.requires.inside c.requires.enters _ (sub_at c.args.s.at _ c.byte_at-k.ensures) c.if-frame-k-ne0.false (40 + c.byte_at-k.result * 32 + 32 - (40 + c.byte_at-k.result * 32)) (omega arith) _ _ (came_values c.block_of-q.ensures c.enter.ensures.0 c.in-Ok.is) c.enter.ensures.0.size)
 
-pub enter_sub-shape_of-st-in-Values : goal.enter_sub-shape_of-st-in-Values
-enter_sub-shape_of-st-in-Values t c = lent_rest c.args.st.now c.enter.new.st c.args.s.height c.requires.stands.room.stack c.enter.auto.st
+pub enter_sub-overflow_add-result-in-Err-Ended : goal.enter_sub-overflow_add-result-in-Err-Ended
+enter_sub-overflow_add-result-in-Err-Ended t c = omega (arith, (entry_ended (world c.requires.entry) _ c.requires.entry.block c.requires.stands c.requires.inside c.requires.enters _ (sub_at c.args.s.at _ c.byte_at-k.ensures) c.if-frame-k-ne0.false (40 + c.byte_at-k.result * 32 + 32 - (40 + c.byte_at-k.result * 32)) (omega arith) _ _ (came_ended c.block_of-q.ensures c.enter.ensures.0 (c.in-Err-Ended.is ∙ ap Err c.in-Err-Ended.field-0-is))).1)
 
-pub enter_sub-shape_of-tr-in-Values : goal.enter_sub-shape_of-tr-in-Values
-enter_sub-shape_of-tr-in-Values t c = lent_rest c.args.tr.now c.enter.new.tr (c.args.s.tries * 2) c.requires.stands.room.pairs c.enter.auto.tr
+pub enter_sub-shape_of-st-in-Ok : goal.enter_sub-shape_of-st-in-Ok
+enter_sub-shape_of-st-in-Ok t c = lent_rest c.args.st.now c.enter.new.st c.args.s.height c.requires.stands.room.stack c.enter.auto.st
 
-pub enter_sub-shape_of-frame-in-Values : goal.enter_sub-shape_of-frame-in-Values
-enter_sub-shape_of-frame-in-Values t c = let e = enterable c.requires c.byte_at-k.ensures in lent_marked c.args.frame.now c.enter.new.own (40 + c.byte_at-k.result * 32) (40 + c.byte_at-k.result * 32 + 32 - (40 + c.byte_at-k.result * 32)) (32 + c.byte_at-k.result) e.cells (omega arith) c.enter.ensures.0.size
+pub enter_sub-shape_of-tr-in-Ok : goal.enter_sub-shape_of-tr-in-Ok
+enter_sub-shape_of-tr-in-Ok t c = lent_rest c.args.tr.now c.enter.new.tr (c.args.s.tries * 2) c.requires.stands.room.pairs c.enter.auto.tr
 
-pub enter_sub-shape_of-memo-in-Values : goal.enter_sub-shape_of-memo-in-Values
-enter_sub-shape_of-memo-in-Values t c = c.enter.ensures.1.size ∙ sym c.requires.known.size
+pub enter_sub-shape_of-frame-in-Ok : goal.enter_sub-shape_of-frame-in-Ok
+enter_sub-shape_of-frame-in-Ok t c = let e = enterable c.requires c.byte_at-k.ensures in lent_marked c.args.frame.now c.enter.new.own (40 + c.byte_at-k.result * 32) (40 + c.byte_at-k.result * 32 + 32 - (40 + c.byte_at-k.result * 32)) (32 + c.byte_at-k.result) e.cells (omega arith) c.enter.ensures.0.size
 
-pub enter_sub-returns-in-Values : goal.enter_sub-returns-in-Values
-enter_sub-returns-in-Values t c = record { entered_at = record { shows = λ own k. (entry_turn (world c.requires.entry) _ c.requires.entry.block k c.requires.inside c.requires.enters _ (sub_at c.args.s.at _ c.byte_at-k.ensures) c.if-frame-k-ne0.false (40 + c.byte_at-k.result * 32 + 32 - (40 + c.byte_at-k.result * 32)) (omega arith) _ _ (came_values c.block_of-q.ensures c.enter.ensures.0 c.in-Values.is) c.enter.ensures.0.size _ _ _ (moved c.stand.ensures.0 c.advance.ensures) c.stand.ensures.1 c.stand.ensures.2 c.stand.ensures.3 (λ i l. lent_before c.args.st.now c.enter.new.st c.args.s.height (length c.args.st.now - c.args.s.height) c.requires.stands.room.stack i l) (λ i l. lent_before c.args.tr.now c.enter.new.tr (c.args.s.tries * 2) (length c.args.tr.now - (c.args.s.tries * 2)) c.requires.stands.room.pairs i l) (lent_rest c.args.st.now c.enter.new.st c.args.s.height c.requires.stands.room.stack c.enter.auto.st) (lent_rest c.args.tr.now c.enter.new.tr (c.args.s.tries * 2) c.requires.stands.room.pairs c.enter.auto.tr), further (moved c.stand.ensures.0 c.advance.ensures)) }; known = c.enter.ensures.1 }
+pub enter_sub-shape_of-memo-in-Ok : goal.enter_sub-shape_of-memo-in-Ok
+enter_sub-shape_of-memo-in-Ok t c = c.enter.ensures.1.size ∙ sym c.requires.known.size
 
-pub enter_sub-shape_of-st-in-Ended : goal.enter_sub-shape_of-st-in-Ended
-enter_sub-shape_of-st-in-Ended t c = lent_rest c.args.st.now c.enter.new.st c.args.s.height c.requires.stands.room.stack c.enter.auto.st
+pub enter_sub-returns-in-Ok : goal.enter_sub-returns-in-Ok
+enter_sub-returns-in-Ok t c = record { entered_at = record { shows = λ own k. (entry_turn (world c.requires.entry) _ c.requires.entry.block k c.requires.inside c.requires.enters _ (sub_at c.args.s.at _ c.byte_at-k.ensures) c.if-frame-k-ne0.false (40 + c.byte_at-k.result * 32 + 32 - (40 + c.byte_at-k.result * 32)) (omega arith) _ _ (came_values c.block_of-q.ensures c.enter.ensures.0 c.in-Ok.is) c.enter.ensures.0.size _ _ _ c.advance.ensures refl refl refl (λ i l. lent_before c.args.st.now c.enter.new.st c.args.s.height (length c.args.st.now - c.args.s.height) c.requires.stands.room.stack i l) (λ i l. lent_before c.args.tr.now c.enter.new.tr (c.args.s.tries * 2) (length c.args.tr.now - (c.args.s.tries * 2)) c.requires.stands.room.pairs i l) (lent_rest c.args.st.now c.enter.new.st c.args.s.height c.requires.stands.room.stack c.enter.auto.st) (lent_rest c.args.tr.now c.enter.new.tr (c.args.s.tries * 2) c.requires.stands.room.pairs c.enter.auto.tr), further c.advance.ensures) }; known = c.enter.ensures.1 }
 
-pub enter_sub-shape_of-tr-in-Ended : goal.enter_sub-shape_of-tr-in-Ended
-enter_sub-shape_of-tr-in-Ended t c = lent_rest c.args.tr.now c.enter.new.tr (c.args.s.tries * 2) c.requires.stands.room.pairs c.enter.auto.tr
+pub enter_sub-shape_of-st-in-Err-Ended : goal.enter_sub-shape_of-st-in-Err-Ended
+enter_sub-shape_of-st-in-Err-Ended t c = lent_rest c.args.st.now c.enter.new.st c.args.s.height c.requires.stands.room.stack c.enter.auto.st
 
-pub enter_sub-shape_of-frame-in-Ended : goal.enter_sub-shape_of-frame-in-Ended
-enter_sub-shape_of-frame-in-Ended t c = let e = enterable c.requires c.byte_at-k.ensures in lent_size c.args.frame.now c.enter.new.own (40 + c.byte_at-k.result * 32) (40 + c.byte_at-k.result * 32 + 32 - (40 + c.byte_at-k.result * 32)) e.cells (omega arith) c.enter.ensures.0.size
+pub enter_sub-shape_of-tr-in-Err-Ended : goal.enter_sub-shape_of-tr-in-Err-Ended
+enter_sub-shape_of-tr-in-Err-Ended t c = lent_rest c.args.tr.now c.enter.new.tr (c.args.s.tries * 2) c.requires.stands.room.pairs c.enter.auto.tr
 
-pub enter_sub-shape_of-memo-in-Ended : goal.enter_sub-shape_of-memo-in-Ended
-enter_sub-shape_of-memo-in-Ended t c = c.enter.ensures.1.size ∙ sym c.requires.known.size
+pub enter_sub-shape_of-frame-in-Err-Ended : goal.enter_sub-shape_of-frame-in-Err-Ended
+enter_sub-shape_of-frame-in-Err-Ended t c = let e = enterable c.requires c.byte_at-k.ensures in lent_size c.args.frame.now c.enter.new.own (40 + c.byte_at-k.result * 32) (40 + c.byte_at-k.result * 32 + 32 - (40 + c.byte_at-k.result * 32)) e.cells (omega arith) c.enter.ensures.0.size
 
-pub enter_sub-returns-in-Ended : goal.enter_sub-returns-in-Ended
-enter_sub-returns-in-Ended t c = record { entered_at = record { shows = λ own k. (entry_ended (world c.requires.entry) _ c.requires.entry.block k c.requires.inside c.requires.enters _ (sub_at c.args.s.at _ c.byte_at-k.ensures) c.if-frame-k-ne0.false (40 + c.byte_at-k.result * 32 + 32 - (40 + c.byte_at-k.result * 32)) (omega arith) _ _ (came_ended c.block_of-q.ensures c.enter.ensures.0 c.in-Ended.is)).0 }; known = c.enter.ensures.1 }
+pub enter_sub-shape_of-memo-in-Err-Ended : goal.enter_sub-shape_of-memo-in-Err-Ended
+enter_sub-shape_of-memo-in-Err-Ended t c = c.enter.ensures.1.size ∙ sym c.requires.known.size
 
-pub enter_sub-shape_of-st-in-Stuck : goal.enter_sub-shape_of-st-in-Stuck
-enter_sub-shape_of-st-in-Stuck t c = lent_rest c.args.st.now c.enter.new.st c.args.s.height c.requires.stands.room.stack c.enter.auto.st
+pub enter_sub-returns-in-Err-Ended : goal.enter_sub-returns-in-Err-Ended
+enter_sub-returns-in-Err-Ended t c = rw (c.in-Err-Ended.c-is, c.in-Err-Ended.n-is) (record { entered_at = record { shows = λ own k. (entry_ended (world c.requires.entry) _ c.requires.entry.block k c.requires.inside c.requires.enters _ (sub_at c.args.s.at _ c.byte_at-k.ensures) c.if-frame-k-ne0.false (40 + c.byte_at-k.result * 32 + 32 - (40 + c.byte_at-k.result * 32)) (omega arith) _ _ (came_ended c.block_of-q.ensures c.enter.ensures.0 (c.in-Err-Ended.is ∙ ap Err c.in-Err-Ended.field-0-is))).0 }; known = c.enter.ensures.1 })
 
-pub enter_sub-shape_of-tr-in-Stuck : goal.enter_sub-shape_of-tr-in-Stuck
-enter_sub-shape_of-tr-in-Stuck t c = lent_rest c.args.tr.now c.enter.new.tr (c.args.s.tries * 2) c.requires.stands.room.pairs c.enter.auto.tr
+pub enter_sub-shape_of-st-in-Err-Stuck : goal.enter_sub-shape_of-st-in-Err-Stuck
+enter_sub-shape_of-st-in-Err-Stuck t c = lent_rest c.args.st.now c.enter.new.st c.args.s.height c.requires.stands.room.stack c.enter.auto.st
 
-pub enter_sub-shape_of-frame-in-Stuck : goal.enter_sub-shape_of-frame-in-Stuck
-enter_sub-shape_of-frame-in-Stuck t c = let e = enterable c.requires c.byte_at-k.ensures in lent_size c.args.frame.now c.enter.new.own (40 + c.byte_at-k.result * 32) (40 + c.byte_at-k.result * 32 + 32 - (40 + c.byte_at-k.result * 32)) e.cells (omega arith) c.enter.ensures.0.size
+pub enter_sub-shape_of-tr-in-Err-Stuck : goal.enter_sub-shape_of-tr-in-Err-Stuck
+enter_sub-shape_of-tr-in-Err-Stuck t c = lent_rest c.args.tr.now c.enter.new.tr (c.args.s.tries * 2) c.requires.stands.room.pairs c.enter.auto.tr
 
-pub enter_sub-shape_of-memo-in-Stuck : goal.enter_sub-shape_of-memo-in-Stuck
-enter_sub-shape_of-memo-in-Stuck t c = c.enter.ensures.1.size ∙ sym c.requires.known.size
+pub enter_sub-shape_of-frame-in-Err-Stuck : goal.enter_sub-shape_of-frame-in-Err-Stuck
+enter_sub-shape_of-frame-in-Err-Stuck t c = let e = enterable c.requires c.byte_at-k.ensures in lent_size c.args.frame.now c.enter.new.own (40 + c.byte_at-k.result * 32) (40 + c.byte_at-k.result * 32 + 32 - (40 + c.byte_at-k.result * 32)) e.cells (omega arith) c.enter.ensures.0.size
 
-pub enter_sub-returns-in-Stuck : goal.enter_sub-returns-in-Stuck
-enter_sub-returns-in-Stuck t c = record { entered_at = record { shows = λ own k. entry_stuck (world c.requires.entry) _ c.requires.entry.block k c.requires.inside c.requires.enters _ (sub_at c.args.s.at _ c.byte_at-k.ensures) c.if-frame-k-ne0.false (40 + c.byte_at-k.result * 32 + 32 - (40 + c.byte_at-k.result * 32)) (omega arith) (came_stuck c.block_of-q.ensures c.enter.ensures.0 c.in-Stuck.is) }; known = c.enter.ensures.1 }
+pub enter_sub-shape_of-memo-in-Err-Stuck : goal.enter_sub-shape_of-memo-in-Err-Stuck
+enter_sub-shape_of-memo-in-Err-Stuck t c = c.enter.ensures.1.size ∙ sym c.requires.known.size
 
-pub enter_sub-shape_of-st-in-NoRoom : goal.enter_sub-shape_of-st-in-NoRoom
-enter_sub-shape_of-st-in-NoRoom t c = lent_rest c.args.st.now c.enter.new.st c.args.s.height c.requires.stands.room.stack c.enter.auto.st
+pub enter_sub-returns-in-Err-Stuck : goal.enter_sub-returns-in-Err-Stuck
+enter_sub-returns-in-Err-Stuck t c = record { entered_at = record { shows = λ own k. entry_stuck (world c.requires.entry) _ c.requires.entry.block k c.requires.inside c.requires.enters _ (sub_at c.args.s.at _ c.byte_at-k.ensures) c.if-frame-k-ne0.false (40 + c.byte_at-k.result * 32 + 32 - (40 + c.byte_at-k.result * 32)) (omega arith) (came_stuck c.block_of-q.ensures c.enter.ensures.0 (c.in-Err-Stuck.is ∙ ap Err c.in-Err-Stuck.field-0-is)) }; known = c.enter.ensures.1 }
 
-pub enter_sub-shape_of-tr-in-NoRoom : goal.enter_sub-shape_of-tr-in-NoRoom
-enter_sub-shape_of-tr-in-NoRoom t c = lent_rest c.args.tr.now c.enter.new.tr (c.args.s.tries * 2) c.requires.stands.room.pairs c.enter.auto.tr
+pub enter_sub-shape_of-st-in-Err-NoRoom : goal.enter_sub-shape_of-st-in-Err-NoRoom
+enter_sub-shape_of-st-in-Err-NoRoom t c = lent_rest c.args.st.now c.enter.new.st c.args.s.height c.requires.stands.room.stack c.enter.auto.st
 
-pub enter_sub-shape_of-frame-in-NoRoom : goal.enter_sub-shape_of-frame-in-NoRoom
-enter_sub-shape_of-frame-in-NoRoom t c = let e = enterable c.requires c.byte_at-k.ensures in lent_size c.args.frame.now c.enter.new.own (40 + c.byte_at-k.result * 32) (40 + c.byte_at-k.result * 32 + 32 - (40 + c.byte_at-k.result * 32)) e.cells (omega arith) c.enter.ensures.0.size
+pub enter_sub-shape_of-tr-in-Err-NoRoom : goal.enter_sub-shape_of-tr-in-Err-NoRoom
+enter_sub-shape_of-tr-in-Err-NoRoom t c = lent_rest c.args.tr.now c.enter.new.tr (c.args.s.tries * 2) c.requires.stands.room.pairs c.enter.auto.tr
 
-pub enter_sub-shape_of-memo-in-NoRoom : goal.enter_sub-shape_of-memo-in-NoRoom
-enter_sub-shape_of-memo-in-NoRoom t c = c.enter.ensures.1.size ∙ sym c.requires.known.size
+pub enter_sub-shape_of-frame-in-Err-NoRoom : goal.enter_sub-shape_of-frame-in-Err-NoRoom
+enter_sub-shape_of-frame-in-Err-NoRoom t c = let e = enterable c.requires c.byte_at-k.ensures in lent_size c.args.frame.now c.enter.new.own (40 + c.byte_at-k.result * 32) (40 + c.byte_at-k.result * 32 + 32 - (40 + c.byte_at-k.result * 32)) e.cells (omega arith) c.enter.ensures.0.size
 
-pub enter_sub-returns-in-NoRoom : goal.enter_sub-returns-in-NoRoom
-enter_sub-returns-in-NoRoom t c = record { entered_at = record { shows = λ own k. entry_short (world c.requires.entry) _ c.requires.entry.block k c.requires.inside c.requires.enters _ (sub_at c.args.s.at _ c.byte_at-k.ensures) c.if-frame-k-ne0.false (40 + c.byte_at-k.result * 32 + 32 - (40 + c.byte_at-k.result * 32)) (omega arith) (rest_length c.args.st.now c.args.s.height c.requires.stands.room.stack) (rest_length c.args.tr.now (c.args.s.tries * 2) c.requires.stands.room.pairs) (came_short c.block_of-q.ensures c.enter.ensures.0 c.in-NoRoom.is) }; known = c.enter.ensures.1 }
+pub enter_sub-shape_of-memo-in-Err-NoRoom : goal.enter_sub-shape_of-memo-in-Err-NoRoom
+enter_sub-shape_of-memo-in-Err-NoRoom t c = c.enter.ensures.1.size ∙ sym c.requires.known.size
+
+pub enter_sub-returns-in-Err-NoRoom : goal.enter_sub-returns-in-Err-NoRoom
+enter_sub-returns-in-Err-NoRoom t c = record { entered_at = record { shows = λ own k. entry_short (world c.requires.entry) _ c.requires.entry.block k c.requires.inside c.requires.enters _ (sub_at c.args.s.at _ c.byte_at-k.ensures) c.if-frame-k-ne0.false (40 + c.byte_at-k.result * 32 + 32 - (40 + c.byte_at-k.result * 32)) (omega arith) (rest_length c.args.st.now c.args.s.height c.requires.stands.room.stack) (rest_length c.args.tr.now (c.args.s.tries * 2) c.requires.stands.room.pairs) (came_short c.block_of-q.ensures c.enter.ensures.0 (c.in-Err-NoRoom.is ∙ ap Err c.in-Err-NoRoom.field-0-is)) }; known = c.enter.ensures.1 }
 
 pub run_block-sub_scopes_in-calls-requires : goal.run_block-sub_scopes_in-calls-requires
 run_block-sub_scopes_in-calls-requires t c = small (world c.requires.0) _ c.requires.0.block
@@ -203,7 +209,7 @@ pub run_frame-body_of-body-requires : goal.run_frame-body_of-body-requires
 run_frame-body_of-body-requires t c = (small (world c.requires.0) _ c.requires.0.block, ordered c.requires.0)
 
 pub run_frame-loop-s-init : goal.run_frame-loop-s-init
-run_frame-loop-s-init t c = (starts (world c.requires.0) _ c.requires.0.block _ _ c.requires.2 _ _ _ _ c.stand-s.ensures.0 c.stand-s.ensures.1 c.stand-s.ensures.2 c.stand-s.ensures.3 (c.body_of-body.ensures ∙ body_is c.requires.0) c.requires.0.room, c.requires.1, refl)
+run_frame-loop-s-init t c = (starts (world c.requires.0) _ c.requires.0.block _ _ c.requires.2 _ _ _ _ refl refl refl refl (c.body_of-body.ensures ∙ body_is c.requires.0) c.requires.0.room, c.requires.1, refl)
 
 pub run_frame-bounds-body-at : goal.run_frame-bounds-body-at
 run_frame-bounds-body-at t c = c.loop-s-test.true
@@ -211,128 +217,60 @@ run_frame-bounds-body-at t c = c.loop-s-test.true
 pub run_frame-enter_sub-requires : goal.run_frame-enter_sub-requires
 run_frame-enter_sub-requires t c = (omega (arith, c.decreases), record { own = _; entry = entry_sized c.requires.0 c.loop-s.invariant.0.framed.own_size; known = c.loop-s.invariant.1; inside = c.loop-s-test.true; stands = stands c.loop-s.invariant.0; enters = c.if-body-at-eq-KIND_ENTER.true })
 
-pub run_frame-loop-s-smaller-in-On : goal.run_frame-loop-s-smaller-in-On
-run_frame-loop-s-smaller-in-On t c = omega (arith, (went_on (record { shows = c.enter_sub.ensures.entered_at.shows _ (stands c.loop-s.invariant.0) }) c.in-On.is).1, c.loop-s-test.true)
+pub run_frame-loop-s-smaller-then-body-at-eq-KIND_ENTER : goal.run_frame-loop-s-smaller-then-body-at-eq-KIND_ENTER
+run_frame-loop-s-smaller-then-body-at-eq-KIND_ENTER t c = omega (arith, (went_on (record { shows = c.enter_sub.ensures.entered_at.shows _ (stands c.loop-s.invariant.0) }) c.in_ok-s.was).1, c.loop-s-test.true)
 
-pub run_frame-loop-s-preserved-in-On : goal.run_frame-loop-s-preserved-in-On
-run_frame-loop-s-preserved-in-On t c = (goes_on c.loop-s.invariant.0 (went_on (record { shows = c.enter_sub.ensures.entered_at.shows _ (stands c.loop-s.invariant.0) }) c.in-On.is).0, c.enter_sub.ensures.known, c.enter_sub.auto.frame ∙ c.loop-s.invariant.2)
+pub run_frame-loop-s-preserved-then-body-at-eq-KIND_ENTER : goal.run_frame-loop-s-preserved-then-body-at-eq-KIND_ENTER
+run_frame-loop-s-preserved-then-body-at-eq-KIND_ENTER t c = (goes_on c.loop-s.invariant.0 (went_on (record { shows = c.enter_sub.ensures.entered_at.shows _ (stands c.loop-s.invariant.0) }) c.in_ok-s.was).0, c.enter_sub.ensures.known, c.enter_sub.auto.frame ∙ c.loop-s.invariant.2)
 
-pub run_frame-shape_of-st-in-Ended : goal.run_frame-shape_of-st-in-Ended
-run_frame-shape_of-st-in-Ended t c = c.enter_sub.auto.st ∙ c.loop-s.invariant.0.stack
+pub run_frame-shape_of-st-in_err-s : goal.run_frame-shape_of-st-in_err-s
+run_frame-shape_of-st-in_err-s t c = c.enter_sub.auto.st ∙ c.loop-s.invariant.0.stack
 
-pub run_frame-shape_of-tr-in-Ended : goal.run_frame-shape_of-tr-in-Ended
-run_frame-shape_of-tr-in-Ended t c = c.enter_sub.auto.tr ∙ c.loop-s.invariant.0.open_room
+pub run_frame-shape_of-tr-in_err-s : goal.run_frame-shape_of-tr-in_err-s
+run_frame-shape_of-tr-in_err-s t c = c.enter_sub.auto.tr ∙ c.loop-s.invariant.0.open_room
 
-pub run_frame-shape_of-own-in-Ended : goal.run_frame-shape_of-own-in-Ended
-run_frame-shape_of-own-in-Ended t c = c.loop-s.invariant.0.framed.own_size ∙ sym c.requires.0.room
+pub run_frame-shape_of-own-in_err-s : goal.run_frame-shape_of-own-in_err-s
+run_frame-shape_of-own-in_err-s t c = c.loop-s.invariant.0.framed.own_size ∙ sym c.requires.0.room
 
-pub run_frame-shape_of-frame-in-Ended : goal.run_frame-shape_of-frame-in-Ended
-run_frame-shape_of-frame-in-Ended t c = c.enter_sub.auto.frame ∙ c.loop-s.invariant.2
+pub run_frame-shape_of-frame-in_err-s : goal.run_frame-shape_of-frame-in_err-s
+run_frame-shape_of-frame-in_err-s t c = c.enter_sub.auto.frame ∙ c.loop-s.invariant.2
 
-pub run_frame-shape_of-memo-in-Ended : goal.run_frame-shape_of-memo-in-Ended
-run_frame-shape_of-memo-in-Ended t c = c.enter_sub.ensures.known.size ∙ sym c.requires.1.size
+pub run_frame-shape_of-memo-in_err-s : goal.run_frame-shape_of-memo-in_err-s
+run_frame-shape_of-memo-in_err-s t c = c.enter_sub.ensures.known.size ∙ sym c.requires.1.size
 
-pub run_frame-returns-in-Ended : goal.run_frame-returns-in-Ended
-run_frame-returns-in-Ended t c = (record { size = c.loop-s.invariant.0.framed.own_size; shows = ends_so c.loop-s.invariant.0 (went_ended (record { shows = c.enter_sub.ensures.entered_at.shows _ (stands c.loop-s.invariant.0) }) c.in-Ended.is) }, c.enter_sub.ensures.known)
-
-pub run_frame-shape_of-st-in-Stuck : goal.run_frame-shape_of-st-in-Stuck
-run_frame-shape_of-st-in-Stuck t c = c.enter_sub.auto.st ∙ c.loop-s.invariant.0.stack
-
-pub run_frame-shape_of-tr-in-Stuck : goal.run_frame-shape_of-tr-in-Stuck
-run_frame-shape_of-tr-in-Stuck t c = c.enter_sub.auto.tr ∙ c.loop-s.invariant.0.open_room
-
-pub run_frame-shape_of-own-in-Stuck : goal.run_frame-shape_of-own-in-Stuck
-run_frame-shape_of-own-in-Stuck t c = c.loop-s.invariant.0.framed.own_size ∙ sym c.requires.0.room
-
-pub run_frame-shape_of-frame-in-Stuck : goal.run_frame-shape_of-frame-in-Stuck
-run_frame-shape_of-frame-in-Stuck t c = c.enter_sub.auto.frame ∙ c.loop-s.invariant.2
-
-pub run_frame-shape_of-memo-in-Stuck : goal.run_frame-shape_of-memo-in-Stuck
-run_frame-shape_of-memo-in-Stuck t c = c.enter_sub.ensures.known.size ∙ sym c.requires.1.size
-
-pub run_frame-returns-in-Stuck : goal.run_frame-returns-in-Stuck
-run_frame-returns-in-Stuck t c = (record { size = c.loop-s.invariant.0.framed.own_size; shows = ends_so c.loop-s.invariant.0 (went_stuck (record { shows = c.enter_sub.ensures.entered_at.shows _ (stands c.loop-s.invariant.0) }) c.in-Stuck.is) }, c.enter_sub.ensures.known)
-
-pub run_frame-shape_of-st-in-NoRoom : goal.run_frame-shape_of-st-in-NoRoom
-run_frame-shape_of-st-in-NoRoom t c = c.enter_sub.auto.st ∙ c.loop-s.invariant.0.stack
-
-pub run_frame-shape_of-tr-in-NoRoom : goal.run_frame-shape_of-tr-in-NoRoom
-run_frame-shape_of-tr-in-NoRoom t c = c.enter_sub.auto.tr ∙ c.loop-s.invariant.0.open_room
-
-pub run_frame-shape_of-own-in-NoRoom : goal.run_frame-shape_of-own-in-NoRoom
-run_frame-shape_of-own-in-NoRoom t c = c.loop-s.invariant.0.framed.own_size ∙ sym c.requires.0.room
-
-pub run_frame-shape_of-frame-in-NoRoom : goal.run_frame-shape_of-frame-in-NoRoom
-run_frame-shape_of-frame-in-NoRoom t c = c.enter_sub.auto.frame ∙ c.loop-s.invariant.2
-
-pub run_frame-shape_of-memo-in-NoRoom : goal.run_frame-shape_of-memo-in-NoRoom
-run_frame-shape_of-memo-in-NoRoom t c = c.enter_sub.ensures.known.size ∙ sym c.requires.1.size
-
-pub run_frame-returns-in-NoRoom : goal.run_frame-returns-in-NoRoom
-run_frame-returns-in-NoRoom t c = (record { size = c.loop-s.invariant.0.framed.own_size; shows = too_short c.loop-s.invariant.0 (went_short (record { shows = c.enter_sub.ensures.entered_at.shows _ (stands c.loop-s.invariant.0) }) c.in-NoRoom.is) }, c.enter_sub.ensures.known)
+pub run_frame-returns-in_err-s : goal.run_frame-returns-in_err-s
+run_frame-returns-in_err-s t c =
+    let e = err_from_is_err_and c.from_residual.result c.from_residual.ensures.1 in
+    rw (e.1, e.2) (came_stopped _ c.loop-s.invariant.0 (record { shows = c.enter_sub.ensures.entered_at.shows _ (stands c.loop-s.invariant.0) }) _ c.in_err-s.was c.loop-s.invariant.0.framed.own_size, c.enter_sub.ensures.known)
 
 pub run_frame-one_step-requires : goal.run_frame-one_step-requires
 run_frame-one_step-requires t c = stepping (world c.requires.0) _ c.requires.0.block c.loop-s.invariant.0 c.loop-s-test.true c.if-body-at-eq-KIND_ENTER.false
 
 pub run_frame-loop-s-smaller : goal.run_frame-loop-s-smaller
-run_frame-loop-s-smaller t c = omega (arith, (went_on (record { shows = acts (world c.requires.0) _ c.requires.0.block (stands c.loop-s.invariant.0) c.loop-s-test.true _ _ _ _ c.one_step.auto.st c.one_step.auto.tr (record { own_size = c.one_step.auto.own ∙ c.loop-s.invariant.0.framed.own_size; frame_size = let f = c.loop-s.invariant.0.framed.frame_size in let g = c.one_step.auto.frame in omega arith }) c.one_step.result c.one_step.ensures.shows }) c.in-On-one_step.is).1, c.loop-s-test.true)
+run_frame-loop-s-smaller t c = omega (arith, (went_on (record { shows = acts (world c.requires.0) _ c.requires.0.block (stands c.loop-s.invariant.0) c.loop-s-test.true _ _ _ _ c.one_step.auto.st c.one_step.auto.tr (framed_on c.loop-s.invariant.0.framed c.one_step.auto.own c.one_step.auto.frame) c.one_step.result c.one_step.ensures.shows }) c.in_ok-s-2.was).1, c.loop-s-test.true)
 
 pub run_frame-loop-s-preserved : goal.run_frame-loop-s-preserved
-run_frame-loop-s-preserved t c = (goes_on c.loop-s.invariant.0 (went_on (record { shows = acts (world c.requires.0) _ c.requires.0.block (stands c.loop-s.invariant.0) c.loop-s-test.true _ _ _ _ c.one_step.auto.st c.one_step.auto.tr (record { own_size = c.one_step.auto.own ∙ c.loop-s.invariant.0.framed.own_size; frame_size = let f = c.loop-s.invariant.0.framed.frame_size in let g = c.one_step.auto.frame in omega arith }) c.one_step.result c.one_step.ensures.shows }) c.in-On-one_step.is).0, c.loop-s.invariant.1, c.one_step.auto.frame ∙ c.loop-s.invariant.2)
+run_frame-loop-s-preserved t c = (goes_on c.loop-s.invariant.0 (went_on (record { shows = acts (world c.requires.0) _ c.requires.0.block (stands c.loop-s.invariant.0) c.loop-s-test.true _ _ _ _ c.one_step.auto.st c.one_step.auto.tr (framed_on c.loop-s.invariant.0.framed c.one_step.auto.own c.one_step.auto.frame) c.one_step.result c.one_step.ensures.shows }) c.in_ok-s-2.was).0, c.loop-s.invariant.1, c.one_step.auto.frame ∙ c.loop-s.invariant.2)
 
-pub run_frame-shape_of-st-in-Ended-one_step : goal.run_frame-shape_of-st-in-Ended-one_step
-run_frame-shape_of-st-in-Ended-one_step t c = c.one_step.auto.st ∙ c.loop-s.invariant.0.stack
+pub run_frame-shape_of-st-in_err-s-2 : goal.run_frame-shape_of-st-in_err-s-2
+run_frame-shape_of-st-in_err-s-2 t c = c.one_step.auto.st ∙ c.loop-s.invariant.0.stack
 
-pub run_frame-shape_of-tr-in-Ended-one_step : goal.run_frame-shape_of-tr-in-Ended-one_step
-run_frame-shape_of-tr-in-Ended-one_step t c = c.one_step.auto.tr ∙ c.loop-s.invariant.0.open_room
+pub run_frame-shape_of-tr-in_err-s-2 : goal.run_frame-shape_of-tr-in_err-s-2
+run_frame-shape_of-tr-in_err-s-2 t c = c.one_step.auto.tr ∙ c.loop-s.invariant.0.open_room
 
-pub run_frame-shape_of-own-in-Ended-one_step : goal.run_frame-shape_of-own-in-Ended-one_step
-run_frame-shape_of-own-in-Ended-one_step t c = c.one_step.auto.own ∙ c.loop-s.invariant.0.framed.own_size ∙ sym c.requires.0.room
+pub run_frame-shape_of-own-in_err-s-2 : goal.run_frame-shape_of-own-in_err-s-2
+run_frame-shape_of-own-in_err-s-2 t c = c.one_step.auto.own ∙ c.loop-s.invariant.0.framed.own_size ∙ sym c.requires.0.room
 
-pub run_frame-shape_of-frame-in-Ended-one_step : goal.run_frame-shape_of-frame-in-Ended-one_step
-run_frame-shape_of-frame-in-Ended-one_step t c = c.one_step.auto.frame ∙ c.loop-s.invariant.2
+pub run_frame-shape_of-frame-in_err-s-2 : goal.run_frame-shape_of-frame-in_err-s-2
+run_frame-shape_of-frame-in_err-s-2 t c = c.one_step.auto.frame ∙ c.loop-s.invariant.2
 
-pub run_frame-shape_of-memo-in-Ended-one_step : goal.run_frame-shape_of-memo-in-Ended-one_step
-run_frame-shape_of-memo-in-Ended-one_step t c = c.loop-s.invariant.1.size ∙ sym c.requires.1.size
+pub run_frame-shape_of-memo-in_err-s-2 : goal.run_frame-shape_of-memo-in_err-s-2
+run_frame-shape_of-memo-in_err-s-2 t c = c.loop-s.invariant.1.size ∙ sym c.requires.1.size
 
-pub run_frame-returns-in-Ended-one_step : goal.run_frame-returns-in-Ended-one_step
-run_frame-returns-in-Ended-one_step t c = (record { size = c.one_step.auto.own ∙ c.loop-s.invariant.0.framed.own_size; shows = ends_so c.loop-s.invariant.0 (went_ended (record { shows = acts (world c.requires.0) _ c.requires.0.block (stands c.loop-s.invariant.0) c.loop-s-test.true _ _ _ _ c.one_step.auto.st c.one_step.auto.tr (record { own_size = c.one_step.auto.own ∙ c.loop-s.invariant.0.framed.own_size; frame_size = let f = c.loop-s.invariant.0.framed.frame_size in let g = c.one_step.auto.frame in omega arith }) c.one_step.result c.one_step.ensures.shows }) c.in-Ended-one_step.is) }, c.loop-s.invariant.1)
-
-pub run_frame-shape_of-st-in-Stuck-one_step : goal.run_frame-shape_of-st-in-Stuck-one_step
-run_frame-shape_of-st-in-Stuck-one_step t c = c.one_step.auto.st ∙ c.loop-s.invariant.0.stack
-
-pub run_frame-shape_of-tr-in-Stuck-one_step : goal.run_frame-shape_of-tr-in-Stuck-one_step
-run_frame-shape_of-tr-in-Stuck-one_step t c = c.one_step.auto.tr ∙ c.loop-s.invariant.0.open_room
-
-pub run_frame-shape_of-own-in-Stuck-one_step : goal.run_frame-shape_of-own-in-Stuck-one_step
-run_frame-shape_of-own-in-Stuck-one_step t c = c.one_step.auto.own ∙ c.loop-s.invariant.0.framed.own_size ∙ sym c.requires.0.room
-
-pub run_frame-shape_of-frame-in-Stuck-one_step : goal.run_frame-shape_of-frame-in-Stuck-one_step
-run_frame-shape_of-frame-in-Stuck-one_step t c = c.one_step.auto.frame ∙ c.loop-s.invariant.2
-
-pub run_frame-shape_of-memo-in-Stuck-one_step : goal.run_frame-shape_of-memo-in-Stuck-one_step
-run_frame-shape_of-memo-in-Stuck-one_step t c = c.loop-s.invariant.1.size ∙ sym c.requires.1.size
-
-pub run_frame-returns-in-Stuck-one_step : goal.run_frame-returns-in-Stuck-one_step
-run_frame-returns-in-Stuck-one_step t c = (record { size = c.one_step.auto.own ∙ c.loop-s.invariant.0.framed.own_size; shows = ends_so c.loop-s.invariant.0 (went_stuck (record { shows = acts (world c.requires.0) _ c.requires.0.block (stands c.loop-s.invariant.0) c.loop-s-test.true _ _ _ _ c.one_step.auto.st c.one_step.auto.tr (record { own_size = c.one_step.auto.own ∙ c.loop-s.invariant.0.framed.own_size; frame_size = let f = c.loop-s.invariant.0.framed.frame_size in let g = c.one_step.auto.frame in omega arith }) c.one_step.result c.one_step.ensures.shows }) c.in-Stuck-one_step.is) }, c.loop-s.invariant.1)
-
-pub run_frame-shape_of-st-in-NoRoom-one_step : goal.run_frame-shape_of-st-in-NoRoom-one_step
-run_frame-shape_of-st-in-NoRoom-one_step t c = c.one_step.auto.st ∙ c.loop-s.invariant.0.stack
-
-pub run_frame-shape_of-tr-in-NoRoom-one_step : goal.run_frame-shape_of-tr-in-NoRoom-one_step
-run_frame-shape_of-tr-in-NoRoom-one_step t c = c.one_step.auto.tr ∙ c.loop-s.invariant.0.open_room
-
-pub run_frame-shape_of-own-in-NoRoom-one_step : goal.run_frame-shape_of-own-in-NoRoom-one_step
-run_frame-shape_of-own-in-NoRoom-one_step t c = c.one_step.auto.own ∙ c.loop-s.invariant.0.framed.own_size ∙ sym c.requires.0.room
-
-pub run_frame-shape_of-frame-in-NoRoom-one_step : goal.run_frame-shape_of-frame-in-NoRoom-one_step
-run_frame-shape_of-frame-in-NoRoom-one_step t c = c.one_step.auto.frame ∙ c.loop-s.invariant.2
-
-pub run_frame-shape_of-memo-in-NoRoom-one_step : goal.run_frame-shape_of-memo-in-NoRoom-one_step
-run_frame-shape_of-memo-in-NoRoom-one_step t c = c.loop-s.invariant.1.size ∙ sym c.requires.1.size
-
-pub run_frame-returns-in-NoRoom-one_step : goal.run_frame-returns-in-NoRoom-one_step
-run_frame-returns-in-NoRoom-one_step t c = (record { size = c.one_step.auto.own ∙ c.loop-s.invariant.0.framed.own_size; shows = too_short c.loop-s.invariant.0 (went_short (record { shows = acts (world c.requires.0) _ c.requires.0.block (stands c.loop-s.invariant.0) c.loop-s-test.true _ _ _ _ c.one_step.auto.st c.one_step.auto.tr (record { own_size = c.one_step.auto.own ∙ c.loop-s.invariant.0.framed.own_size; frame_size = let f = c.loop-s.invariant.0.framed.frame_size in let g = c.one_step.auto.frame in omega arith }) c.one_step.result c.one_step.ensures.shows }) c.in-NoRoom-one_step.is) }, c.loop-s.invariant.1)
+pub run_frame-returns-in_err-s-2 : goal.run_frame-returns-in_err-s-2
+run_frame-returns-in_err-s-2 t c =
+    let e = err_from_is_err_and c.from_residual-in_err-s-2.result c.from_residual-in_err-s-2.ensures.1 in
+    rw (e.1, e.2) (came_stopped _ c.loop-s.invariant.0 (record { shows = acts (world c.requires.0) _ c.requires.0.block (stands c.loop-s.invariant.0) c.loop-s-test.true _ _ _ _ c.one_step.auto.st c.one_step.auto.tr (framed_on c.loop-s.invariant.0.framed c.one_step.auto.own c.one_step.auto.frame) c.one_step.result c.one_step.ensures.shows }) _ c.in_err-s-2.was (c.one_step.auto.own ∙ c.loop-s.invariant.0.framed.own_size), c.loop-s.invariant.1)
 
 pub run_frame-finish-requires : goal.run_frame-finish-requires
 run_frame-finish-requires t c = ending c.requires.0 c.loop-s.invariant.0

@@ -1,31 +1,25 @@
 -- `cells::join` meets its contract.
-use mathlib.Core.Path.{sym, ◌∙◌}
-use Rattle.cells.proofs.Joining.{join_case}
+use mathlib.Core.Path.{sym}
+use Rattle.cells.proofs.Joining.{join_case, many_first}
 use Rattle.cells.proofs.join.Goals as goal
 
-pub returns-in-Nothing-right : goal.returns-in-Nothing-right
-returns-in-Nothing-right c = join_case _ _ (sym c.joined_of-left.ensures ∙ c.in-Nothing.is) (sym c.joined_of-right.ensures ∙ c.in-Nothing-right.is)
+pub returns-in-Nothing-Nothing : goal.returns-in-Nothing-Nothing
+returns-in-Nothing-Nothing c = join_case _ _ (sym c.in-Nothing-Nothing.ensures) (sym c.in-Nothing-Nothing.ensures')
 
-pub returns-in-One-right : goal.returns-in-One-right
-returns-in-One-right c = join_case _ _ (sym c.joined_of-left.ensures ∙ c.in-Nothing.is) (sym c.joined_of-right.ensures ∙ c.in-One-right.is)
+pub returns-in-Nothing-One : goal.returns-in-Nothing-One
+returns-in-Nothing-One c = join_case _ _ (sym c.in-Nothing-One.ensures) (sym c.in-Nothing-One.ensures')
 
-pub returns-in-Many-right : goal.returns-in-Many-right
-returns-in-Many-right c = join_case _ _ (sym c.joined_of-left.ensures ∙ c.in-Nothing.is) (sym c.joined_of-right.ensures ∙ c.in-Many-right.is)
+pub returns-in-One-Nothing : goal.returns-in-One-Nothing
+returns-in-One-Nothing c = join_case _ _ (sym c.in-One-Nothing.ensures) (sym c.in-One-Nothing.ensures')
 
-pub returns-in-Nothing-right-2 : goal.returns-in-Nothing-right-2
-returns-in-Nothing-right-2 c = join_case _ _ (sym c.joined_of-left.ensures ∙ c.in-One.is) (sym c.joined_of-right.ensures ∙ c.in-Nothing-right-2.is)
+pub returns-in-One-One : goal.returns-in-One-One
+returns-in-One-One c = join_case _ _ (sym c.in-One-One.ensures) (sym c.in-One-One.ensures')
 
-pub returns-in-One-right-2 : goal.returns-in-One-right-2
-returns-in-One-right-2 c = join_case _ _ (sym c.joined_of-left.ensures ∙ c.in-One.is) (sym c.joined_of-right.ensures ∙ c.in-One-right-2.is)
+pub returns-in-Many-default : goal.returns-in-Many-default
+returns-in-Many-default c = many_first _ _ (sym c.in-Many-default.ensures)
 
-pub returns-in-Many-right-2 : goal.returns-in-Many-right-2
-returns-in-Many-right-2 c = join_case _ _ (sym c.joined_of-left.ensures ∙ c.in-One.is) (sym c.joined_of-right.ensures ∙ c.in-Many-right-2.is)
+pub returns-in_default-Many : goal.returns-in_default-Many
+returns-in_default-Many c = join_case _ _ (sym c.in_default-Many.ensures) (sym c.in_default-Many.ensures')
 
-pub returns-in-Nothing-right-3 : goal.returns-in-Nothing-right-3
-returns-in-Nothing-right-3 c = join_case _ _ (sym c.joined_of-left.ensures ∙ c.in-Many.is) (sym c.joined_of-right.ensures ∙ c.in-Nothing-right-3.is)
-
-pub returns-in-One-right-3 : goal.returns-in-One-right-3
-returns-in-One-right-3 c = join_case _ _ (sym c.joined_of-left.ensures ∙ c.in-Many.is) (sym c.joined_of-right.ensures ∙ c.in-One-right-3.is)
-
-pub returns-in-Many-right-3 : goal.returns-in-Many-right-3
-returns-in-Many-right-3 c = join_case _ _ (sym c.joined_of-left.ensures ∙ c.in-Many.is) (sym c.joined_of-right.ensures ∙ c.in-Many-right-3.is)
+pub returns-in_default-Many-2 : goal.returns-in_default-Many-2
+returns-in_default-Many-2 c = join_case _ _ (sym c.in_default-Many.ensures) (sym c.in_default-Many.ensures')

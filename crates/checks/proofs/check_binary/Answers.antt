@@ -3,6 +3,7 @@ use Rattle.book.specs.References.{node_names}
 use Rattle.references.specs.Dangling.{both_below}
 use Rattle.sharing.proofs.Marks.{marked_then}
 use Rattle.checks.specs.Findings.{type_byte, node_suits}
+use Rattle.checks.proofs.Equal.{equal}
 use Rattle.checks.proofs.check_binary.Goals as goal
 
 pub returns : goal.returns
@@ -13,7 +14,7 @@ returns c =
           record {
             named = c.both_below-names.ensures;
             shared = marked_then c.mark-first.ensures c.mark-shares.ensures;
-            fitting = rw (c.same_type.ensures, c.same_type-2.ensures, c.type_in.ensures, c.operand_type-t.ensures, c.type_in-left.ensures);
+            fitting = rw (equal c.type_in-left.result c.operand_type-t.result c.eq.ensures, equal c.type_in.result c.operand_type-t.result c.eq-2.ensures, c.type_in.ensures, c.operand_type-t.ensures, c.type_in-left.ensures);
             typed = rw (c.byte_of-byte.ensures, c.binary_type.ensures);
           };
     }

@@ -3,6 +3,8 @@ use Rattle.book.specs.References.{node_names}
 use Rattle.references.specs.Dangling.{both_below}
 use Rattle.sharing.proofs.Marks.{marked_then}
 use Rattle.checks.specs.Findings.{type_byte, node_suits}
+use Rattle.book.specs.declared.ValueType.TheVariants.{YesNo}
+use Rattle.checks.proofs.Equal.{equal}
 use Rattle.checks.proofs.check_choice.Goals as goal
 
 pub returns : goal.returns
@@ -13,7 +15,7 @@ returns c =
           record {
             named = rw (c.below.ensures, c.both_below.ensures);
             shared = marked_then c.mark-first.ensures (marked_then c.mark-second.ensures c.mark-shares.ensures);
-            fitting = rw (c.same_type.ensures, c.same_type-2.ensures, c.type_in.ensures, c.type_in-2.ensures, c.type_in-t.ensures);
+            fitting = rw (equal c.type_in.result YesNo c.eq.ensures, equal c.type_in-2.result c.type_in-t.result c.eq-2.ensures, c.type_in.ensures, c.type_in-2.ensures, c.type_in-t.ensures);
             typed = rw (c.byte_of-byte.ensures, c.type_in-t.ensures);
           };
     }

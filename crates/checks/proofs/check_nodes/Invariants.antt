@@ -1,12 +1,8 @@
 -- `checks::check_nodes` meets its contract. The invariant of its loop is `Nodes`.
-use Prim.Native.Nat.{◌-◌}
 use Rattle.book.specs.Decode.{scopes_of}
 use Rattle.checks.proofs.Passes.{Nodes}
 use Rattle.checks.proofs.check_nodes.Given as goal
 
 abbrev pub invariant-loop-n : goal.invariant-loop-n
 invariant-loop-n l =
-    Nodes (scopes_of l.book) l.i l.initial.marks l.marks l.types l.shares l.mismatches l.n
-
-abbrev pub decreases-loop-n : goal.decreases-loop-n
-decreases-loop-n l = l.count - l.n
+    Nodes (scopes_of l.book.bytes.now) l.i l.initial.marks l.marks l.types l.shares l.mismatches l.n

@@ -1,6 +1,7 @@
 -- `checks::check_unary` meets its contract.
 use Rattle.book.specs.References.{node_names}
 use Rattle.checks.specs.Findings.{type_byte, node_suits}
+use Rattle.checks.proofs.Equal.{equal}
 use Rattle.checks.proofs.check_unary.Goals as goal
 
 pub returns : goal.returns
@@ -11,7 +12,7 @@ returns c =
           record {
             named = c.below-names.ensures;
             shared = c.mark-shares.ensures;
-            fitting = rw (c.same_type-suits.ensures, c.type_in.ensures, c.unary_type-t.ensures);
+            fitting = rw (equal c.type_in.result c.unary_type-t.result c.eq-suits.ensures, c.type_in.ensures, c.unary_type-t.ensures);
             typed = rw (c.byte_of-byte.ensures, c.unary_type-t.ensures);
           };
     }

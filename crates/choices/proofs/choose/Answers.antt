@@ -8,19 +8,19 @@ pub slice_bounds-mark_chosen-end : goal.slice_bounds-mark_chosen-end
 slice_bounds-mark_chosen-end c = whole c.fill_types-n.ensures
 
 pub mark_chosen-requires : goal.mark_chosen-requires
-mark_chosen-requires c = record { types_len_bound = few c.fill_types-n.ensures c.requires.i_len_bound; marks_value = refl }
+mark_chosen-requires c = record { types_len_bound = few c.fill_types-n.ensures (c.args.book.now.laid.within.variables c.args.i); marks_value = refl }
 
 pub returns-then-not-mark_chosen : goal.returns-then-not-mark_chosen
 returns-then-not-mark_chosen c =
-    refused c.fill_types-n.ensures (rw c.if-not-mark_chosen.true at c.mark_chosen.ensures) c.requires.ordered_len
+    refused c.fill_types-n.ensures (rw c.if-not-mark_chosen.true at c.mark_chosen.ensures) c.requires
 
 pub slice_bounds-order_marked-end : goal.slice_bounds-order_marked-end
-slice_bounds-order_marked-end c = sym (room c.fill_types-n.ensures c.requires.i_len_bound c.mark_chosen.ensures)
+slice_bounds-order_marked-end c = sym (room c.fill_types-n.ensures (c.args.book.now.laid.within.variables c.args.i) c.mark_chosen.ensures)
 
 pub order_marked-requires : goal.order_marked-requires
 order_marked-requires c =
-    record { marks_len_bound = at_most c.fill_types-n.ensures c.requires.i_len_bound c.mark_chosen.ensures; ordered_len = c.requires.ordered_len }
+    record { marks_len_bound = at_most c.fill_types-n.ensures (c.args.book.now.laid.within.variables c.args.i) c.mark_chosen.ensures; ordered_len = c.requires }
 
 pub returns : goal.returns
 returns c =
-    done c.fill_types-n.ensures c.requires.i_len_bound (rw c.if-not-mark_chosen.false at c.mark_chosen.ensures) c.order_marked.ensures
+    done c.fill_types-n.ensures (c.args.book.now.laid.within.variables c.args.i) (rw c.if-not-mark_chosen.false at c.mark_chosen.ensures) c.order_marked.ensures

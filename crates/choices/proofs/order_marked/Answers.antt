@@ -3,7 +3,7 @@ use mathlib.Core.Path.{sym, ◌∙◌}
 use native.Mathlib.Omega.{arith}
 use Rattle.choices.proofs.Ordering.{start, marked_one, other_one, stop}
 use Rattle.choices.proofs.order_marked.Goals as goal
-use Rattle.choices.proofs.order_marked.Goals.{then-marks-v-ne0, else-marks-v-ne0}
+use Rattle.choices.proofs.order_marked.Goals.{then-mark-ne0, else-mark-ne0}
 
 pub loop-v-init : goal.loop-v-init
 loop-v-init c = start _ c.requires.ordered_len
@@ -19,9 +19,9 @@ overflow_add-count c = omega (arith, c.requires.marks_len_bound, c.loop-v-test.t
 
 pub loop-v-preserved : goal.loop-v-preserved
 loop-v-preserved c =
-    elim c.if-marks-v-ne0.branch [
-      | then-marks-v-ne0 w ↦ rw (w.ordered-is, w.count-is) (marked_one c.loop-v.invariant c.requires.marks_len_bound c.loop-v-test.true w.if-marks-v-ne0.true)
-      | else-marks-v-ne0 w ↦ rw (w.ordered-is, w.count-is) (other_one c.loop-v.invariant c.requires.marks_len_bound c.loop-v-test.true w.if-marks-v-ne0.false)
+    elim c.if-mark-ne0.branch [
+      | then-mark-ne0 w ↦ rw (w.ordered-is, w.count-is) (marked_one c.loop-v.invariant c.requires.marks_len_bound c.loop-v-test.true w.if-mark-ne0.true)
+      | else-mark-ne0 w ↦ rw (w.ordered-is, w.count-is) (other_one c.loop-v.invariant c.requires.marks_len_bound c.loop-v-test.true w.if-mark-ne0.false)
     ]
 
 pub shape_of-ordered : goal.shape_of-ordered

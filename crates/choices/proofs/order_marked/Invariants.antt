@@ -1,11 +1,6 @@
 -- `choices::order_marked` meets its contract. The invariant: the marked numbers below v are written.
-use Prim.Native.Nat.{◌-◌}
-use lib.ListN.{length}
 use Rattle.choices.proofs.Ordering.{WritingMarked}
 use Rattle.choices.proofs.order_marked.Given as goal
 
 abbrev pub invariant-loop-v : goal.invariant-loop-v
 invariant-loop-v l = WritingMarked l.marks l.ordered l.count l.v
-
-abbrev pub decreases-loop-v : goal.decreases-loop-v
-decreases-loop-v l = length l.marks - l.v

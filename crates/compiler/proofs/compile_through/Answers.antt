@@ -1,3 +1,4 @@
+-- `compiler::compile_through` meets its contract.
 use lib.Seq.{length-take-le}
 use Rattle.compiler.proofs.Answers.{short, rest_long, moved, written}
 use mathlib.Core.Path.{refl, sym}
@@ -7,12 +8,12 @@ pub returns-then-code-length : goal.returns-then-code-length
 returns-then-code-length c =
     short _ _ c.requires.accepted c.emit_blocks-length.ensures c.if-code-length.true
 
-pub slice_bounds-copy-end-then-length-room-2 : goal.slice_bounds-copy-end-then-length-room-2
-slice_bounds-copy-end-then-length-room-2 c =
+pub slice_bounds-copy_from_slice-end-then-length-room : goal.slice_bounds-copy_from_slice-end-then-length-room
+slice_bounds-copy_from_slice-end-then-length-room c =
     sym (length-take-le _ _ c.if-code-length.false)
 
-pub copy-requires : goal.copy-requires
-copy-requires c =
+pub copy_from_slice-requires : goal.copy_from_slice-requires
+copy_from_slice-requires c =
     rest_long c.emit_blocks-length.new.out _ _ c.if-length-room.true c.if-code-length.false
 
 pub slice_bounds-emit_blocks-end-else-length-room : goal.slice_bounds-emit_blocks-end-else-length-room
@@ -21,7 +22,7 @@ slice_bounds-emit_blocks-end-else-length-room c =
 
 pub returns-then-length-room : goal.returns-then-length-room
 returns-then-length-room c =
-    moved _ _ c.requires.accepted c.emit_blocks-length.ensures c.if-code-length.false c.if-length-room.true c.copy.ensures
+    moved _ _ c.requires.accepted c.emit_blocks-length.ensures c.if-code-length.false c.if-length-room.true c.copy_from_slice.ensures.after
 
 pub returns-else-length-room : goal.returns-else-length-room
 returns-else-length-room c =

@@ -1,4 +1,4 @@
-use mathlib.Core.Path.{sym, ◌∙◌}
+use mathlib.Core.Path.{◌∙◌}
 use native.Mathlib.Omega.{arith}
 use lib.ListN.{length-set}
 use Rattle.lists.proofs.Types.{start, turn, stop}
@@ -13,19 +13,6 @@ type_byte-requires c =
     let n = c.variables_in-count.ensures in
     (few.0, omega (arith, c.loop-v-test.true))
 
-pub bounds-types-v : goal.bounds-types-v
-bounds-types-v c =
-    let few = c.requires.1 in
-    let n = c.variables_in-count.ensures in
-    let l = c.loop-v.invariant.0 in
-    omega (arith, c.loop-v-test.true)
-
-pub overflow_add-v : goal.overflow_add-v
-overflow_add-v c = omega (arith, c.loop-v-test.true)
-
-pub loop-v-smaller : goal.loop-v-smaller
-loop-v-smaller c = omega (arith, c.loop-v-test.true)
-
 pub loop-v-preserved : goal.loop-v-preserved
 loop-v-preserved c =
     let few = c.requires.1 in
@@ -36,9 +23,6 @@ loop-v-preserved c =
           turn (c.loop-v.invariant.1 vs d) _ (omega (arith, c.loop-v-test.true))
           (c.type_byte.ensures ∙ d.types _ (omega (arith, c.loop-v-test.true))),
     )
-
-pub shape_of-types : goal.shape_of-types
-shape_of-types c = c.loop-v.invariant.0 ∙ sym c.requires.2
 
 pub returns : goal.returns
 returns c =

@@ -5,10 +5,6 @@ use Rattle.emitter.proofs.Terms.{size_also, size_around, around_none, around_als
 use Rattle.emitter.proofs.Chains.{few, siblings_past, siblings_here, next_higher, first_higher, clause_size, emits_clause}
 use Rattle.emitter.proofs.+emit_around_emit_chain.Goals as goal
 
-pub emit_around-clause_count-requires : goal.emit_around-clause_count-requires
-emit_around-clause_count-requires t c =
-    c.requires.0.sound.laid
-
 pub emit_around-returns-then-clause_count-first : goal.emit_around-returns-then-clause_count-first
 emit_around-returns-then-clause_count-first t c =
     around_none _ (siblings_past _ _ _ (omega (arith, c.clause_count.ensures, c.if-clause_count-first.true)))
@@ -33,10 +29,6 @@ pub emit_around-returns : goal.emit_around-returns
 emit_around-returns t c =
     around_also _ (siblings_here _ _ _ c.args.i c.requires.0 c.args.first (omega (arith, c.clause_count.ensures, c.if-clause_count-first.false)) _ refl) c.put_far-p.ensures c.emit_chain-q.ensures c.put_one.ensures
 
-pub emit_chain-clause_count-requires : goal.emit_chain-clause_count-requires
-emit_chain-clause_count-requires t c =
-    c.requires.0.sound.laid
-
 pub emit_chain-returns-then-clause_count-c : goal.emit_chain-returns-then-clause_count-c
 emit_chain-returns-then-clause_count-c t c =
     emits_none (siblings_past _ _ _ (omega (arith, c.clause_count.ensures, c.if-clause_count-c.true)))
@@ -59,7 +51,7 @@ emit_chain-put_caught-q-requires t c =
 
 pub emit_chain-emit_rest-r-requires : goal.emit_chain-emit_rest-r-requires
 emit_chain-emit_rest-r-requires t c =
-    (c.requires.0.sound.laid, omega (arith, size_also (siblings_here _ _ _ c.args.i c.requires.0 c.args.c (omega (arith, c.clause_count.ensures, c.if-clause_count-c.false)) _ c.byte_at-next.ensures), clause_size _ _ _ c.args.i c.requires.0 c.args.c (omega (arith, c.clause_count.ensures, c.if-clause_count-c.false)) _ c.byte_at-first.ensures, c.requires.1, c.emit_chain-p.ensures.next, c.put_caught-q.ensures.next))
+    omega (arith, size_also (siblings_here _ _ _ c.args.i c.requires.0 c.args.c (omega (arith, c.clause_count.ensures, c.if-clause_count-c.false)) _ c.byte_at-next.ensures), clause_size _ _ _ c.args.i c.requires.0 c.args.c (omega (arith, c.clause_count.ensures, c.if-clause_count-c.false)) _ c.byte_at-first.ensures, c.requires.1, c.emit_chain-p.ensures.next, c.put_caught-q.ensures.next)
 
 pub emit_chain-overflow_sub-r : goal.emit_chain-overflow_sub-r
 emit_chain-overflow_sub-r t c =

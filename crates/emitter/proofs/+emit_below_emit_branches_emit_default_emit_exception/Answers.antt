@@ -14,7 +14,7 @@ use Rattle.emitter.proofs.+emit_below_emit_branches_emit_default_emit_exception.
 
 pub emit_below-put_one-requires : goal.emit_below-put_one-requires
 emit_below-put_one-requires t c =
-    omega (arith, size_error (below_past c.args.book.now c.args.i c.args.limit c.args.n c.if-limit-n.true), c.requires.1)
+    omega (arith, size_error (below_past c.args.book.now.bytes.now c.args.i c.args.limit c.args.n c.if-limit-n.true), c.requires)
 
 pub emit_below-shape_of-out-then-limit-n : goal.emit_below-shape_of-out-then-limit-n
 emit_below-shape_of-out-then-limit-n t c =
@@ -26,55 +26,55 @@ emit_below-returns-then-limit-n t c =
 
 pub emit_below-put_truth-requires : goal.emit_below-put_truth-requires
 emit_below-put_truth-requires t c =
-    omega (arith, size_truth (below_here c.args.book.now c.args.i c.args.limit c.args.n _ _ c.if-limit-n.false c.node_at-node.ensures c.in-Constant.is), c.requires.1)
+    omega (arith, size_truth (below_here c.args.book.now.bytes.now c.args.i c.args.limit c.args.n _ _ c.if-limit-n.false c.node_at-node.ensures c.in-Constant.is), c.requires)
 
 pub emit_below-put_number-requires : goal.emit_below-put_number-requires
 emit_below-put_number-requires t c =
-    omega (arith, size_number (below_here c.args.book.now c.args.i c.args.limit c.args.n _ _ c.if-limit-n.false c.node_at-node.ensures c.in-Number.is), c.requires.1)
+    omega (arith, size_number (below_here c.args.book.now.bytes.now c.args.i c.args.limit c.args.n _ _ c.if-limit-n.false c.node_at-node.ensures c.in-Number.is), c.requires)
 
 pub emit_below-put_two-requires : goal.emit_below-put_two-requires
 emit_below-put_two-requires t c =
-    omega (arith, size_own (below_here c.args.book.now c.args.i c.args.limit c.args.n _ _ c.if-limit-n.false c.node_at-node.ensures c.in-Own.is), c.requires.1)
+    omega (arith, size_own (below_here c.args.book.now.bytes.now c.args.i c.args.limit c.args.n _ _ c.if-limit-n.false c.node_at-node.ensures c.in-Own.is), c.requires)
 
 pub emit_below-put_two-p-requires : goal.emit_below-put_two-p-requires
 emit_below-put_two-p-requires t c =
-    omega (arith, size_called (below_here c.args.book.now c.args.i c.args.limit c.args.n _ _ c.if-limit-n.false c.node_at-node.ensures c.in-Called.is), c.requires.1)
+    omega (arith, size_called (below_here c.args.book.now.bytes.now c.args.i c.args.limit c.args.n _ _ c.if-limit-n.false c.node_at-node.ensures c.in-Called.is), c.requires)
 
 pub emit_below-put_one-requires-in-Called : goal.emit_below-put_one-requires-in-Called
 emit_below-put_one-requires-in-Called t c =
-    omega (arith, size_called (below_here c.args.book.now c.args.i c.args.limit c.args.n _ _ c.if-limit-n.false c.node_at-node.ensures c.in-Called.is), c.requires.1, c.put_two-p.ensures.next)
+    omega (arith, size_called (below_here c.args.book.now.bytes.now c.args.i c.args.limit c.args.n _ _ c.if-limit-n.false c.node_at-node.ensures c.in-Called.is), c.requires, c.put_two-p.ensures.next)
 
 pub emit_below-put_one-requires-in-Empty : goal.emit_below-put_one-requires-in-Empty
 emit_below-put_one-requires-in-Empty t c =
-    omega (arith, size_error (below_here c.args.book.now c.args.i c.args.limit c.args.n _ _ c.if-limit-n.false c.node_at-node.ensures c.in-Empty.is), c.requires.1)
+    omega (arith, size_error (below_here c.args.book.now.bytes.now c.args.i c.args.limit c.args.n _ _ c.if-limit-n.false c.node_at-node.ensures c.in-Empty.is), c.requires)
 
 pub emit_below-put_one-requires-in-Conflict : goal.emit_below-put_one-requires-in-Conflict
 emit_below-put_one-requires-in-Conflict t c =
-    omega (arith, size_error (below_here c.args.book.now c.args.i c.args.limit c.args.n _ _ c.if-limit-n.false c.node_at-node.ensures c.in-Conflict.is), c.requires.1)
+    omega (arith, size_error (below_here c.args.book.now.bytes.now c.args.i c.args.limit c.args.n _ _ c.if-limit-n.false c.node_at-node.ensures c.in-Conflict.is), c.requires)
 
 pub emit_below-put_one-p-requires : goal.emit_below-put_one-p-requires
 emit_below-put_one-p-requires t c =
-    omega (arith, size_unary (below_here c.args.book.now c.args.i c.args.limit c.args.n _ _ c.if-limit-n.false c.node_at-node.ensures c.in-Unary.is), c.requires.1)
+    omega (arith, size_unary (below_here c.args.book.now.bytes.now c.args.i c.args.limit c.args.n _ _ c.if-limit-n.false c.node_at-node.ensures c.in-Unary.is), c.requires)
 
 pub emit_below-emit_below-requires : goal.emit_below-emit_below-requires
 emit_below-emit_below-requires t c =
-    (omega (arith, c.decreases, c.if-limit-n.false), (c.requires.0, omega (arith, size_unary (below_here c.args.book.now c.args.i c.args.limit c.args.n _ _ c.if-limit-n.false c.node_at-node.ensures c.in-Unary.is), c.requires.1, c.put_one-p.ensures.next)))
+    (omega (arith, c.decreases, c.if-limit-n.false), omega (arith, size_unary (below_here c.args.book.now.bytes.now c.args.i c.args.limit c.args.n _ _ c.if-limit-n.false c.node_at-node.ensures c.in-Unary.is), c.requires, c.put_one-p.ensures.next))
 
 pub emit_below-put_one-p-requires-in-Binary : goal.emit_below-put_one-p-requires-in-Binary
 emit_below-put_one-p-requires-in-Binary t c =
-    omega (arith, size_binary (below_here c.args.book.now c.args.i c.args.limit c.args.n _ _ c.if-limit-n.false c.node_at-node.ensures c.in-Binary.is), c.requires.1)
+    omega (arith, size_binary (below_here c.args.book.now.bytes.now c.args.i c.args.limit c.args.n _ _ c.if-limit-n.false c.node_at-node.ensures c.in-Binary.is), c.requires)
 
 pub emit_below-emit_below-q-requires : goal.emit_below-emit_below-q-requires
 emit_below-emit_below-q-requires t c =
-    (omega (arith, c.decreases, c.if-limit-n.false), (c.requires.0, omega (arith, size_binary (below_here c.args.book.now c.args.i c.args.limit c.args.n _ _ c.if-limit-n.false c.node_at-node.ensures c.in-Binary.is), c.requires.1, c.put_one-p-in-Binary.ensures.next)))
+    (omega (arith, c.decreases, c.if-limit-n.false), omega (arith, size_binary (below_here c.args.book.now.bytes.now c.args.i c.args.limit c.args.n _ _ c.if-limit-n.false c.node_at-node.ensures c.in-Binary.is), c.requires, c.put_one-p-in-Binary.ensures.next))
 
 pub emit_below-emit_below-requires-in-Binary : goal.emit_below-emit_below-requires-in-Binary
 emit_below-emit_below-requires-in-Binary t c =
-    (omega (arith, c.decreases, c.if-limit-n.false), (c.requires.0, omega (arith, size_binary (below_here c.args.book.now c.args.i c.args.limit c.args.n _ _ c.if-limit-n.false c.node_at-node.ensures c.in-Binary.is), c.requires.1, c.put_one-p-in-Binary.ensures.next, c.emit_below-q.ensures.next)))
+    (omega (arith, c.decreases, c.if-limit-n.false), omega (arith, size_binary (below_here c.args.book.now.bytes.now c.args.i c.args.limit c.args.n _ _ c.if-limit-n.false c.node_at-node.ensures c.in-Binary.is), c.requires, c.put_one-p-in-Binary.ensures.next, c.emit_below-q.ensures.next))
 
 pub emit_below-emit_below-p-requires : goal.emit_below-emit_below-p-requires
 emit_below-emit_below-p-requires t c =
-    (omega (arith, c.decreases, c.if-limit-n.false), (c.requires.0, omega (arith, size_choice (below_here c.args.book.now c.args.i c.args.limit c.args.n _ _ c.if-limit-n.false c.node_at-node.ensures c.in-Choice.is), c.requires.1)))
+    (omega (arith, c.decreases, c.if-limit-n.false), omega (arith, size_choice (below_here c.args.book.now.bytes.now c.args.i c.args.limit c.args.n _ _ c.if-limit-n.false c.node_at-node.ensures c.in-Choice.is), c.requires))
 
 pub emit_below-overflow_sub-p : goal.emit_below-overflow_sub-p
 emit_below-overflow_sub-p t c =
@@ -82,11 +82,11 @@ emit_below-overflow_sub-p t c =
 
 pub emit_below-emit_branches-requires : goal.emit_below-emit_branches-requires
 emit_below-emit_branches-requires t c =
-    (omega (arith, c.decreases, c.if-limit-n.false), (c.requires.0, omega (arith, size_choice (below_here c.args.book.now c.args.i c.args.limit c.args.n _ _ c.if-limit-n.false c.node_at-node.ensures c.in-Choice.is), c.requires.1, c.emit_below-p.ensures.next)))
+    (omega (arith, c.decreases, c.if-limit-n.false), omega (arith, size_choice (below_here c.args.book.now.bytes.now c.args.i c.args.limit c.args.n _ _ c.if-limit-n.false c.node_at-node.ensures c.in-Choice.is), c.requires, c.emit_below-p.ensures.next))
 
 pub emit_below-emit_default-requires : goal.emit_below-emit_default-requires
 emit_below-emit_default-requires t c =
-    (omega (arith, c.decreases, c.if-limit-n.false), (c.requires.0, room_same _ _ _ (below_here c.args.book.now c.args.i c.args.limit c.args.n _ _ c.if-limit-n.false c.node_at-node.ensures c.in-Default.is ∙ default_same _ _ _ _ _ _ _ _) c.requires.1))
+    (omega (arith, c.decreases, c.if-limit-n.false), room_same _ _ _ (below_here c.args.book.now.bytes.now c.args.i c.args.limit c.args.n _ _ c.if-limit-n.false c.node_at-node.ensures c.in-Default.is ∙ default_same _ _ _ _ _ _ _ _) c.requires)
 
 pub emit_below-shape_of-out-in-Constant : goal.emit_below-shape_of-out-in-Constant
 emit_below-shape_of-out-in-Constant t c =
@@ -94,7 +94,7 @@ emit_below-shape_of-out-in-Constant t c =
 
 pub emit_below-returns-in-Constant : goal.emit_below-returns-in-Constant
 emit_below-returns-in-Constant t c =
-    told (below_here c.args.book.now c.args.i c.args.limit c.args.n _ _ c.if-limit-n.false c.node_at-node.ensures c.in-Constant.is) c.put_truth.ensures
+    told (below_here c.args.book.now.bytes.now c.args.i c.args.limit c.args.n _ _ c.if-limit-n.false c.node_at-node.ensures c.in-Constant.is) c.put_truth.ensures
 
 pub emit_below-shape_of-out-in-Number : goal.emit_below-shape_of-out-in-Number
 emit_below-shape_of-out-in-Number t c =
@@ -103,7 +103,7 @@ emit_below-shape_of-out-in-Number t c =
 pub emit_below-returns-in-Number : goal.emit_below-returns-in-Number
 emit_below-returns-in-Number t c =
     let f : SFits w32 c.in-Number.z = search rules in
-    told (below_here c.args.book.now c.args.i c.args.limit c.args.n _ _ c.if-limit-n.false c.node_at-node.ensures c.in-Number.is) (rw (to_z-of_z f) at c.put_number.ensures)
+    told (below_here c.args.book.now.bytes.now c.args.i c.args.limit c.args.n _ _ c.if-limit-n.false c.node_at-node.ensures c.in-Number.is) (rw (to_z-of_z f) at c.put_number.ensures)
 
 pub emit_below-shape_of-out-in-Own : goal.emit_below-shape_of-out-in-Own
 emit_below-shape_of-out-in-Own t c =
@@ -111,7 +111,7 @@ emit_below-shape_of-out-in-Own t c =
 
 pub emit_below-returns-in-Own : goal.emit_below-returns-in-Own
 emit_below-returns-in-Own t c =
-    emits_own (below_here c.args.book.now c.args.i c.args.limit c.args.n _ _ c.if-limit-n.false c.node_at-node.ensures c.in-Own.is) c.put_two.ensures
+    emits_own (below_here c.args.book.now.bytes.now c.args.i c.args.limit c.args.n _ _ c.if-limit-n.false c.node_at-node.ensures c.in-Own.is) c.put_two.ensures
 
 pub emit_below-shape_of-out-in-Called : goal.emit_below-shape_of-out-in-Called
 emit_below-shape_of-out-in-Called t c =
@@ -119,7 +119,7 @@ emit_below-shape_of-out-in-Called t c =
 
 pub emit_below-returns-in-Called : goal.emit_below-returns-in-Called
 emit_below-returns-in-Called t c =
-    emits_called (below_here c.args.book.now c.args.i c.args.limit c.args.n _ _ c.if-limit-n.false c.node_at-node.ensures c.in-Called.is) c.put_two-p.ensures c.put_one-in-Called.ensures
+    emits_called (below_here c.args.book.now.bytes.now c.args.i c.args.limit c.args.n _ _ c.if-limit-n.false c.node_at-node.ensures c.in-Called.is) c.put_two-p.ensures c.put_one-in-Called.ensures
 
 pub emit_below-shape_of-out-in-Empty : goal.emit_below-shape_of-out-in-Empty
 emit_below-shape_of-out-in-Empty t c =
@@ -127,7 +127,7 @@ emit_below-shape_of-out-in-Empty t c =
 
 pub emit_below-returns-in-Empty : goal.emit_below-returns-in-Empty
 emit_below-returns-in-Empty t c =
-    emits_error (below_here c.args.book.now c.args.i c.args.limit c.args.n _ _ c.if-limit-n.false c.node_at-node.ensures c.in-Empty.is) refl c.put_one-in-Empty.ensures
+    emits_error (below_here c.args.book.now.bytes.now c.args.i c.args.limit c.args.n _ _ c.if-limit-n.false c.node_at-node.ensures c.in-Empty.is) refl c.put_one-in-Empty.ensures
 
 pub emit_below-shape_of-out-in-Conflict : goal.emit_below-shape_of-out-in-Conflict
 emit_below-shape_of-out-in-Conflict t c =
@@ -135,7 +135,7 @@ emit_below-shape_of-out-in-Conflict t c =
 
 pub emit_below-returns-in-Conflict : goal.emit_below-returns-in-Conflict
 emit_below-returns-in-Conflict t c =
-    emits_error (below_here c.args.book.now c.args.i c.args.limit c.args.n _ _ c.if-limit-n.false c.node_at-node.ensures c.in-Conflict.is) refl c.put_one-in-Conflict.ensures
+    emits_error (below_here c.args.book.now.bytes.now c.args.i c.args.limit c.args.n _ _ c.if-limit-n.false c.node_at-node.ensures c.in-Conflict.is) refl c.put_one-in-Conflict.ensures
 
 pub emit_below-shape_of-out-in-Unary : goal.emit_below-shape_of-out-in-Unary
 emit_below-shape_of-out-in-Unary t c =
@@ -143,7 +143,7 @@ emit_below-shape_of-out-in-Unary t c =
 
 pub emit_below-returns-in-Unary : goal.emit_below-returns-in-Unary
 emit_below-returns-in-Unary t c =
-    emits_unary (below_here c.args.book.now c.args.i c.args.limit c.args.n _ _ c.if-limit-n.false c.node_at-node.ensures c.in-Unary.is) c.unary_kind.ensures c.put_one-p.ensures c.emit_below.ensures
+    emits_unary (below_here c.args.book.now.bytes.now c.args.i c.args.limit c.args.n _ _ c.if-limit-n.false c.node_at-node.ensures c.in-Unary.is) c.unary_kind.ensures c.put_one-p.ensures c.emit_below.ensures
 
 pub emit_below-shape_of-out-in-Binary : goal.emit_below-shape_of-out-in-Binary
 emit_below-shape_of-out-in-Binary t c =
@@ -151,7 +151,7 @@ emit_below-shape_of-out-in-Binary t c =
 
 pub emit_below-returns-in-Binary : goal.emit_below-returns-in-Binary
 emit_below-returns-in-Binary t c =
-    emits_binary (below_here c.args.book.now c.args.i c.args.limit c.args.n _ _ c.if-limit-n.false c.node_at-node.ensures c.in-Binary.is) c.binary_kind.ensures c.put_one-p-in-Binary.ensures c.emit_below-q.ensures c.emit_below-in-Binary.ensures
+    emits_binary (below_here c.args.book.now.bytes.now c.args.i c.args.limit c.args.n _ _ c.if-limit-n.false c.node_at-node.ensures c.in-Binary.is) c.binary_kind.ensures c.put_one-p-in-Binary.ensures c.emit_below-q.ensures c.emit_below-in-Binary.ensures
 
 pub emit_below-shape_of-out-in-Choice : goal.emit_below-shape_of-out-in-Choice
 emit_below-shape_of-out-in-Choice t c =
@@ -159,7 +159,7 @@ emit_below-shape_of-out-in-Choice t c =
 
 pub emit_below-returns-in-Choice : goal.emit_below-returns-in-Choice
 emit_below-returns-in-Choice t c =
-    emits_choice (below_here c.args.book.now c.args.i c.args.limit c.args.n _ _ c.if-limit-n.false c.node_at-node.ensures c.in-Choice.is) c.emit_below-p.ensures refl c.emit_branches.ensures
+    emits_choice (below_here c.args.book.now.bytes.now c.args.i c.args.limit c.args.n _ _ c.if-limit-n.false c.node_at-node.ensures c.in-Choice.is) c.emit_below-p.ensures refl c.emit_branches.ensures
 
 pub emit_below-shape_of-out-in-Default : goal.emit_below-shape_of-out-in-Default
 emit_below-shape_of-out-in-Default t c =
@@ -167,15 +167,15 @@ emit_below-shape_of-out-in-Default t c =
 
 pub emit_below-returns-in-Default : goal.emit_below-returns-in-Default
 emit_below-returns-in-Default t c =
-    told (below_here c.args.book.now c.args.i c.args.limit c.args.n _ _ c.if-limit-n.false c.node_at-node.ensures c.in-Default.is ∙ default_same c.args.book.now c.args.i c.args.n _ _ _ _ _) c.emit_default.ensures
+    told (below_here c.args.book.now.bytes.now c.args.i c.args.limit c.args.n _ _ c.if-limit-n.false c.node_at-node.ensures c.in-Default.is ∙ default_same c.args.book.now.bytes.now c.args.i c.args.n _ _ _ _ _) c.emit_default.ensures
 
 pub emit_branches-put_far-p-requires : goal.emit_branches-put_far-p-requires
 emit_branches-put_far-p-requires t c =
-    omega (arith, c.requires.1)
+    omega (arith, c.requires)
 
 pub emit_branches-emit_below-q-requires : goal.emit_branches-emit_below-q-requires
 emit_branches-emit_below-q-requires t c =
-    (omega (arith, c.decreases), (c.requires.0, omega (arith, c.requires.1, c.put_far-p.ensures.next)))
+    (omega (arith, c.decreases), omega (arith, c.requires, c.put_far-p.ensures.next))
 
 pub emit_branches-overflow_sub-q : goal.emit_branches-overflow_sub-q
 emit_branches-overflow_sub-q t c =
@@ -183,15 +183,15 @@ emit_branches-overflow_sub-q t c =
 
 pub emit_branches-overflow_add-q : goal.emit_branches-overflow_add-q
 emit_branches-overflow_add-q t c =
-    omega (arith, c.requires.1, c.put_far-p.ensures.next, c.emit_below-q.ensures.next)
+    omega (arith, c.requires, c.put_far-p.ensures.next, c.emit_below-q.ensures.next)
 
 pub emit_branches-put_far-r-requires : goal.emit_branches-put_far-r-requires
 emit_branches-put_far-r-requires t c =
-    omega (arith, c.requires.1, c.put_far-p.ensures.next, c.emit_below-q.ensures.next)
+    omega (arith, c.requires, c.put_far-p.ensures.next, c.emit_below-q.ensures.next)
 
 pub emit_branches-emit_below-requires : goal.emit_branches-emit_below-requires
 emit_branches-emit_below-requires t c =
-    (omega (arith, c.decreases), (c.requires.0, omega (arith, c.requires.1, c.put_far-p.ensures.next, c.emit_below-q.ensures.next, c.put_far-r.ensures.next)))
+    (omega (arith, c.decreases), omega (arith, c.requires, c.put_far-p.ensures.next, c.emit_below-q.ensures.next, c.put_far-r.ensures.next))
 
 pub emit_branches-shape_of-out : goal.emit_branches-shape_of-out
 emit_branches-shape_of-out t c =
@@ -203,11 +203,11 @@ emit_branches-returns t c =
 
 pub emit_default-put_one-p-requires : goal.emit_default-put_one-p-requires
 emit_default-put_one-p-requires t c =
-    omega (arith, default_size c.args.book.now c.args.i c.args.limit c.args.d.first c.args.d.second c.args.d.third c.args.d.justification c.args.d.consequence, c.requires.1)
+    omega (arith, default_size c.args.book.now.bytes.now c.args.i c.args.limit c.args.d.first c.args.d.second c.args.d.third c.args.d.justification c.args.d.consequence, c.requires)
 
 pub emit_default-emit_branches-q-requires : goal.emit_default-emit_branches-q-requires
 emit_default-emit_branches-q-requires t c =
-    (omega (arith, c.decreases), (c.requires.0, omega (arith, default_size c.args.book.now c.args.i c.args.limit c.args.d.first c.args.d.second c.args.d.third c.args.d.justification c.args.d.consequence, c.requires.1, c.put_one-p.ensures.next)))
+    (omega (arith, c.decreases), omega (arith, default_size c.args.book.now.bytes.now c.args.i c.args.limit c.args.d.first c.args.d.second c.args.d.third c.args.d.justification c.args.d.consequence, c.requires, c.put_one-p.ensures.next))
 
 pub emit_default-shape_of-out-then-no_exception : goal.emit_default-shape_of-out-then-no_exception
 emit_default-shape_of-out-then-no_exception t c =
@@ -223,23 +223,23 @@ emit_default-overflow_sub-q t c =
 
 pub emit_default-put_far-r-requires : goal.emit_default-put_far-r-requires
 emit_default-put_far-r-requires t c =
-    omega (arith, default_sizes c.args.book.now c.args.i c.args.limit c.args.d.first c.args.d.second c.args.d.third c.args.d.justification c.args.d.consequence (sym c.no_exception.ensures ∙ c.if-no_exception.false), c.requires.1, c.put_one-p.ensures.next, c.emit_branches-q.ensures.next)
+    omega (arith, default_sizes c.args.book.now.bytes.now c.args.i c.args.limit c.args.d.first c.args.d.second c.args.d.third c.args.d.justification c.args.d.consequence (sym c.no_exception.ensures ∙ c.if-no_exception.false), c.requires, c.put_one-p.ensures.next, c.emit_branches-q.ensures.next)
 
 pub emit_default-emit_exception-s-requires : goal.emit_default-emit_exception-s-requires
 emit_default-emit_exception-s-requires t c =
-    (omega (arith, c.decreases), (c.requires.0, omega (arith, default_sizes c.args.book.now c.args.i c.args.limit c.args.d.first c.args.d.second c.args.d.third c.args.d.justification c.args.d.consequence (sym c.no_exception.ensures ∙ c.if-no_exception.false), c.requires.1, c.put_one-p.ensures.next, c.emit_branches-q.ensures.next, c.put_far-r.ensures.next)))
+    (omega (arith, c.decreases), omega (arith, default_sizes c.args.book.now.bytes.now c.args.i c.args.limit c.args.d.first c.args.d.second c.args.d.third c.args.d.justification c.args.d.consequence (sym c.no_exception.ensures ∙ c.if-no_exception.false), c.requires, c.put_one-p.ensures.next, c.emit_branches-q.ensures.next, c.put_far-r.ensures.next))
 
 pub emit_default-emit_exception-t-requires : goal.emit_default-emit_exception-t-requires
 emit_default-emit_exception-t-requires t c =
-    (omega (arith, c.decreases), (c.requires.0, omega (arith, default_sizes c.args.book.now c.args.i c.args.limit c.args.d.first c.args.d.second c.args.d.third c.args.d.justification c.args.d.consequence (sym c.no_exception.ensures ∙ c.if-no_exception.false), c.requires.1, c.put_one-p.ensures.next, c.emit_branches-q.ensures.next, c.put_far-r.ensures.next, c.emit_exception-s.ensures.next)))
+    (omega (arith, c.decreases), omega (arith, default_sizes c.args.book.now.bytes.now c.args.i c.args.limit c.args.d.first c.args.d.second c.args.d.third c.args.d.justification c.args.d.consequence (sym c.no_exception.ensures ∙ c.if-no_exception.false), c.requires, c.put_one-p.ensures.next, c.emit_branches-q.ensures.next, c.put_far-r.ensures.next, c.emit_exception-s.ensures.next))
 
 pub emit_default-emit_exception-u-requires : goal.emit_default-emit_exception-u-requires
 emit_default-emit_exception-u-requires t c =
-    (omega (arith, c.decreases), (c.requires.0, omega (arith, default_sizes c.args.book.now c.args.i c.args.limit c.args.d.first c.args.d.second c.args.d.third c.args.d.justification c.args.d.consequence (sym c.no_exception.ensures ∙ c.if-no_exception.false), c.requires.1, c.put_one-p.ensures.next, c.emit_branches-q.ensures.next, c.put_far-r.ensures.next, c.emit_exception-s.ensures.next, c.emit_exception-t.ensures.next)))
+    (omega (arith, c.decreases), omega (arith, default_sizes c.args.book.now.bytes.now c.args.i c.args.limit c.args.d.first c.args.d.second c.args.d.third c.args.d.justification c.args.d.consequence (sym c.no_exception.ensures ∙ c.if-no_exception.false), c.requires, c.put_one-p.ensures.next, c.emit_branches-q.ensures.next, c.put_far-r.ensures.next, c.emit_exception-s.ensures.next, c.emit_exception-t.ensures.next))
 
 pub emit_default-put_one-requires : goal.emit_default-put_one-requires
 emit_default-put_one-requires t c =
-    omega (arith, default_sizes c.args.book.now c.args.i c.args.limit c.args.d.first c.args.d.second c.args.d.third c.args.d.justification c.args.d.consequence (sym c.no_exception.ensures ∙ c.if-no_exception.false), c.requires.1, c.put_one-p.ensures.next, c.emit_branches-q.ensures.next, c.put_far-r.ensures.next, c.emit_exception-s.ensures.next, c.emit_exception-t.ensures.next, c.emit_exception-u.ensures.next)
+    omega (arith, default_sizes c.args.book.now.bytes.now c.args.i c.args.limit c.args.d.first c.args.d.second c.args.d.third c.args.d.justification c.args.d.consequence (sym c.no_exception.ensures ∙ c.if-no_exception.false), c.requires, c.put_one-p.ensures.next, c.emit_branches-q.ensures.next, c.put_far-r.ensures.next, c.emit_exception-s.ensures.next, c.emit_exception-t.ensures.next, c.emit_exception-u.ensures.next)
 
 pub emit_default-shape_of-out : goal.emit_default-shape_of-out
 emit_default-shape_of-out t c =
@@ -255,11 +255,11 @@ emit_exception-returns-then-x-eq255 t c =
 
 pub emit_exception-put_caught-p-requires : goal.emit_exception-put_caught-p-requires
 emit_exception-put_caught-p-requires t c =
-    omega (arith, exception_size c.args.book.now c.args.i c.args.limit c.args.x c.if-x-eq255.false, c.requires.1)
+    omega (arith, exception_size c.args.book.now.bytes.now c.args.i c.args.limit c.args.x c.if-x-eq255.false, c.requires)
 
 pub emit_exception-emit_below-q-requires : goal.emit_exception-emit_below-q-requires
 emit_exception-emit_below-q-requires t c =
-    (omega (arith, c.decreases), (c.requires.0, omega (arith, exception_size c.args.book.now c.args.i c.args.limit c.args.x c.if-x-eq255.false, c.requires.1, c.put_caught-p.ensures.next)))
+    (omega (arith, c.decreases), omega (arith, exception_size c.args.book.now.bytes.now c.args.i c.args.limit c.args.x c.if-x-eq255.false, c.requires, c.put_caught-p.ensures.next))
 
 pub emit_exception-overflow_sub-q : goal.emit_exception-overflow_sub-q
 emit_exception-overflow_sub-q t c =
@@ -267,11 +267,11 @@ emit_exception-overflow_sub-q t c =
 
 pub emit_exception-overflow_add-q : goal.emit_exception-overflow_add-q
 emit_exception-overflow_add-q t c =
-    omega (arith, exception_size c.args.book.now c.args.i c.args.limit c.args.x c.if-x-eq255.false, c.requires.1, c.put_caught-p.ensures.next, c.emit_below-q.ensures.next)
+    omega (arith, exception_size c.args.book.now.bytes.now c.args.i c.args.limit c.args.x c.if-x-eq255.false, c.requires, c.put_caught-p.ensures.next, c.emit_below-q.ensures.next)
 
 pub emit_exception-put_far-requires : goal.emit_exception-put_far-requires
 emit_exception-put_far-requires t c =
-    omega (arith, exception_size c.args.book.now c.args.i c.args.limit c.args.x c.if-x-eq255.false, c.requires.1, c.put_caught-p.ensures.next, c.emit_below-q.ensures.next)
+    omega (arith, exception_size c.args.book.now.bytes.now c.args.i c.args.limit c.args.x c.if-x-eq255.false, c.requires, c.put_caught-p.ensures.next, c.emit_below-q.ensures.next)
 
 pub emit_exception-shape_of-out : goal.emit_exception-shape_of-out
 emit_exception-shape_of-out t c =

@@ -6,7 +6,7 @@ use Rattle.emitter.proofs.emit_bases.Goals as goal
 
 pub put_last-p-requires : goal.put_last-p-requires
 put_last-p-requires c =
-    omega (arith, bases_size c.args.book.now c.args.i c.args.first c.args.ruled, c.requires.1)
+    omega (arith, bases_size c.args.book.now.bytes.now c.args.i c.args.first c.args.ruled, c.requires.1)
 
 pub overflow_sub-p : goal.overflow_sub-p
 overflow_sub-p c =
@@ -14,7 +14,7 @@ overflow_sub-p c =
 
 pub emit_around-requires : goal.emit_around-requires
 emit_around-requires c =
-    (c.requires.0, omega (arith, bases_size c.args.book.now c.args.i c.args.first c.args.ruled, c.requires.1, c.put_last-p.ensures.next))
+    (c.requires.0, omega (arith, bases_size c.args.book.now.bytes.now c.args.i c.args.first c.args.ruled, c.requires.1, c.put_last-p.ensures.next))
 
 pub shape_of-out : goal.shape_of-out
 shape_of-out c =

@@ -10,21 +10,13 @@ pub loop-m-init : goal.loop-m-init
 loop-m-init c =
     start _ _ _ _ (accepted_count _ _ c.requires.accepted)
 
-pub overflow_sub-m : goal.overflow_sub-m
-overflow_sub-m c =
-    omega (arith, c.loop-m-test.true)
-
 pub emit_block-p-requires : goal.emit_block-p-requires
 emit_block-p-requires c =
-    (block_ready _ _ c.requires.accepted c.requires _ _ (omega (arith, c.loop-m.invariant.below, c.loop-m-test.true, accepted_count c.args.book.now c.args.n c.requires.accepted)) c.byte_at-i.ensures, omega (arith, room c.loop-m.invariant _ refl c.loop-m-test.true (book_room _ _ c.requires.accepted), block_number _ _ c.requires.accepted c.requires _ _ (omega (arith, c.loop-m.invariant.below, c.loop-m-test.true, accepted_count c.args.book.now c.args.n c.requires.accepted)) c.byte_at-i.ensures))
-
-pub loop-m-smaller : goal.loop-m-smaller
-loop-m-smaller c =
-    omega (arith, c.loop-m-test.true)
+    (block_ready _ _ c.requires.accepted c.requires _ _ (omega (arith, c.loop-m.invariant.below, c.loop-m-test.true, accepted_count c.args.book.now.bytes.now c.args.book.now.scopes c.requires.accepted)) c.byte_at-i.ensures, omega (arith, room c.loop-m.invariant _ refl c.loop-m-test.true (book_room _ _ c.requires.accepted), block_number _ _ c.requires.accepted c.requires _ _ (omega (arith, c.loop-m.invariant.below, c.loop-m-test.true, accepted_count c.args.book.now.bytes.now c.args.book.now.scopes c.requires.accepted)) c.byte_at-i.ensures))
 
 pub loop-m-preserved : goal.loop-m-preserved
 loop-m-preserved c =
-    turn c.loop-m.invariant _ refl c.loop-m-test.true (emits_ordered _ _ c.requires.accepted c.requires _ _ (omega (arith, c.loop-m.invariant.below, c.loop-m-test.true, accepted_count c.args.book.now c.args.n c.requires.accepted)) c.byte_at-i.ensures c.emit_block-p.ensures)
+    turn c.loop-m.invariant _ refl c.loop-m-test.true (emits_ordered _ _ c.requires.accepted c.requires _ _ (omega (arith, c.loop-m.invariant.below, c.loop-m-test.true, accepted_count c.args.book.now.bytes.now c.args.book.now.scopes c.requires.accepted)) c.byte_at-i.ensures c.emit_block-p.ensures)
 
 pub shape_of-out : goal.shape_of-out
 shape_of-out c =

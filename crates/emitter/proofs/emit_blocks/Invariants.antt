@@ -7,7 +7,4 @@ use Rattle.emitter.proofs.emit_blocks.Given as goal
 
 abbrev pub invariant-loop-m : goal.invariant-loop-m
 invariant-loop-m l =
-    Downward l.initial.out 0 (ordered_block l.book) (ordered_block_size l.book) (length (scopes_of l.book)) l.m l.p l.out
-
-abbrev pub decreases-loop-m : goal.decreases-loop-m
-decreases-loop-m l = l.m
+    Downward l.initial.out 0 (ordered_block l.book.bytes.now) (ordered_block_size l.book.bytes.now) (length (scopes_of l.book.bytes.now)) l.m l.p l.out

@@ -10,29 +10,17 @@ use Rattle.emitter.proofs.Pieces.{call_size_lem, call_stop}
 use mathlib.Core.Path.{refl, ap, ◌∙◌}
 use Rattle.emitter.proofs.emit_call.Goals as goal
 
-pub sub_scope_at-j-requires : goal.sub_scope_at-j-requires
-sub_scope_at-j-requires c =
-    c.requires.0.sound.laid
-
-pub variable_count-v-requires : goal.variable_count-v-requires
-variable_count-v-requires c =
-    c.requires.0.sound.laid
-
 pub overflow_cast-k : goal.overflow_cast-k
 overflow_cast-k c =
     omega (arith, c.requires.1, c.requires.0.sound.sub_scopes c.args.i)
 
 pub put_two-p-requires : goal.put_two-p-requires
 put_two-p-requires c =
-    omega (arith, call_size_lem c.args.book.now c.args.i c.args.k, c.requires.2)
+    omega (arith, call_size_lem c.args.book.now.bytes.now c.args.i c.args.k, c.requires.2)
 
 pub loop-v-init : goal.loop-v-init
 loop-v-init c =
-    start _ _ _ _ (c.variable_count-v.ensures ∙ ap (λ (j : ℕ). length (scope_at (scopes_of c.args.book.now) j).variables) c.sub_scope_at-j.ensures)
-
-pub overflow_sub-v : goal.overflow_sub-v
-overflow_sub-v c =
-    omega (arith, c.loop-v-test.true)
+    start _ _ _ _ (c.variable_count-v.ensures ∙ ap (λ (j : ℕ). length (scope_at (scopes_of c.args.book.now.bytes.now) j).variables) c.sub_scope_at-j.ensures)
 
 pub overflow_cast-k-in-loop-v : goal.overflow_cast-k-in-loop-v
 overflow_cast-k-in-loop-v c =
@@ -40,15 +28,11 @@ overflow_cast-k-in-loop-v c =
 
 pub overflow_cast-v : goal.overflow_cast-v
 overflow_cast-v c =
-    omega (arith, c.loop-v.invariant.below, c.requires.0.sound.variables (sub_scope_at (scopes_of c.args.book.now) c.args.i c.args.k))
+    omega (arith, c.loop-v.invariant.below, c.requires.0.sound.variables (sub_scope_at (scopes_of c.args.book.now.bytes.now) c.args.i c.args.k))
 
 pub emit_override-p-requires : goal.emit_override-p-requires
 emit_override-p-requires c =
-    (c.requires.0, room c.loop-v.invariant _ refl c.loop-v-test.true (omega (arith, call_size_lem c.args.book.now c.args.i c.args.k, c.requires.2, c.put_two-p.ensures.next)))
-
-pub loop-v-smaller : goal.loop-v-smaller
-loop-v-smaller c =
-    omega (arith, c.loop-v-test.true)
+    (c.requires.0, room c.loop-v.invariant _ refl c.loop-v-test.true (omega (arith, call_size_lem c.args.book.now.bytes.now c.args.i c.args.k, c.requires.2, c.put_two-p.ensures.next)))
 
 pub loop-v-preserved : goal.loop-v-preserved
 loop-v-preserved c =

@@ -5,7 +5,4 @@ use Rattle.emitter.proofs.emit_call.Given as goal
 
 abbrev pub invariant-loop-v : goal.invariant-loop-v
 invariant-loop-v l =
-    Downward l.initial.out l.initial.p (override_piece l.book l.i l.k) (override_size l.book l.i l.k) (called_count l.book l.i l.k) l.v l.p l.out
-
-abbrev pub decreases-loop-v : goal.decreases-loop-v
-decreases-loop-v l = l.v
+    Downward l.initial.out l.initial.p (override_piece l.book.bytes.now l.i l.k) (override_size l.book.bytes.now l.i l.k) (called_count l.book.bytes.now l.i l.k) l.v l.p l.out

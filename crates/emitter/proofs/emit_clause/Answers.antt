@@ -10,7 +10,7 @@ overflow_add-c c =
 
 pub emit_rest-p-requires : goal.emit_rest-p-requires
 emit_rest-p-requires c =
-    (c.requires.0.sound.laid, omega (arith, clause_size _ _ _ _ c.requires.0 c.args.c c.requires.1 _ c.byte_at-first.ensures, c.requires.2))
+    omega (arith, clause_size _ _ _ _ c.requires.0 c.args.c c.requires.1 _ c.byte_at-first.ensures, c.requires.2)
 
 pub overflow_sub-p : goal.overflow_sub-p
 overflow_sub-p c =

@@ -5,7 +5,7 @@ use Rattle.emitter.proofs.emit_condition.Goals as goal
 
 pub put_truth-requires : goal.put_truth-requires
 put_truth-requires c =
-    omega (arith, size_truth (condition_always c.args.book.now c.args.i c.args.n c.if-n-eq255.true), c.requires.1)
+    omega (arith, size_truth (condition_always c.args.book.now.bytes.now c.args.i c.args.n c.if-n-eq255.true), c.requires)
 
 pub shape_of-out-then-n-eq255 : goal.shape_of-out-then-n-eq255
 shape_of-out-then-n-eq255 c =
@@ -17,7 +17,7 @@ returns-then-n-eq255 c =
 
 pub emit_below-requires : goal.emit_below-requires
 emit_below-requires c =
-    (c.requires.0, rw (← condition_node _ _ _ c.node_count-limit.ensures _ c.if-n-eq255.false) c.requires.1)
+    rw (← condition_node _ _ _ c.node_count-limit.ensures _ c.if-n-eq255.false) c.requires
 
 pub shape_of-out : goal.shape_of-out
 shape_of-out c =

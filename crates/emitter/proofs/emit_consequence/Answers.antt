@@ -5,11 +5,11 @@ use Rattle.emitter.proofs.emit_consequence.Goals as goal
 
 pub emit_below-requires : goal.emit_below-requires
 emit_below-requires c =
-    (c.requires.0, rw (← consequence_node_lem _ _ _ c.node_count-limit.ensures _ _ c.in-Of.is) c.requires.1)
+    rw (← consequence_node_lem _ _ _ c.node_count-limit.ensures _ _ c.in-Of.is) c.requires
 
 pub put_truth-requires : goal.put_truth-requires
 put_truth-requires c =
-    omega (arith, size_truth (consequence_fixed c.args.book.now c.args.i c.args.c _ c.in-Fixed.is), c.requires.1)
+    omega (arith, size_truth (consequence_fixed c.args.book.now.bytes.now c.args.i c.args.c _ c.in-Fixed.is), c.requires)
 
 pub shape_of-out-in-Of : goal.shape_of-out-in-Of
 shape_of-out-in-Of c =

@@ -6,21 +6,15 @@ use Rattle.emitter.proofs.Pieces.{heads_size_lem, heads_stop, emits_head}
 use Rattle.emitter.proofs.emit_heads.Goals as goal
 
 pub loop-n-init : goal.loop-n-init
-loop-n-init c = start _ _ _ _ c.requires.2
-
-pub overflow_sub-n : goal.overflow_sub-n
-overflow_sub-n c = omega (arith, c.loop-n-test.true)
+loop-n-init c = start _ _ _ _ c.requires.1
 
 pub head_byte-b-requires : goal.head_byte-b-requires
-head_byte-b-requires c = (c.requires.0, c.requires.1, omega (arith, c.loop-n.invariant.below, c.loop-n-test.true))
+head_byte-b-requires c = (c.requires.0, omega (arith, c.loop-n.invariant.below, c.loop-n-test.true))
 
 pub put_two-p-requires : goal.put_two-p-requires
 put_two-p-requires c =
     room c.loop-n.invariant _ refl c.loop-n-test.true
-    (omega (arith, heads_size_lem c.args.book.now c.args.i c.args.kind, c.requires.3))
-
-pub loop-n-smaller : goal.loop-n-smaller
-loop-n-smaller c = omega (arith, c.loop-n-test.true)
+    (omega (arith, heads_size_lem c.args.book.now.bytes.now c.args.i c.args.kind, c.requires.2))
 
 pub loop-n-preserved : goal.loop-n-preserved
 loop-n-preserved c =

@@ -4,7 +4,4 @@ use Rattle.emitter.proofs.Emission.{Downward}
 use Rattle.emitter.proofs.emit_heads.Given as goal
 
 abbrev pub invariant-loop-n : goal.invariant-loop-n
-invariant-loop-n l = Downward l.initial.out l.at (head_piece l.book l.i l.kind) pair (head_count l.book l.i l.kind) l.n l.p l.out
-
-abbrev pub decreases-loop-n : goal.decreases-loop-n
-decreases-loop-n l = l.n
+invariant-loop-n l = Downward l.initial.out l.at (head_piece l.book.bytes.now l.i l.kind) pair (head_count l.book.bytes.now l.i l.kind) l.n l.p l.out

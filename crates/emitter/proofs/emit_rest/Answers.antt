@@ -6,15 +6,15 @@ use Rattle.emitter.proofs.emit_rest.Goals as goal
 
 pub put_one-p-requires : goal.put_one-p-requires
 put_one-p-requires c =
-    omega (arith, rest_size c.args.book.now c.args.i c.args.c _ c.clause_at-clause.ensures, c.requires.1)
+    omega (arith, rest_size c.args.book.now.bytes.now c.args.i c.args.c _ c.clause_at-clause.ensures, c.requires)
 
 pub put_far-q-requires : goal.put_far-q-requires
 put_far-q-requires c =
-    omega (arith, rest_size c.args.book.now c.args.i c.args.c _ c.clause_at-clause.ensures, c.requires.1, c.put_one-p.ensures.next)
+    omega (arith, rest_size c.args.book.now.bytes.now c.args.i c.args.c _ c.clause_at-clause.ensures, c.requires, c.put_one-p.ensures.next)
 
 pub emit_consequence-r-requires : goal.emit_consequence-r-requires
 emit_consequence-r-requires c =
-    (c.requires.0, omega (arith, rest_size c.args.book.now c.args.i c.args.c _ c.clause_at-clause.ensures, c.requires.1, c.put_one-p.ensures.next, c.put_far-q.ensures.next))
+    omega (arith, rest_size c.args.book.now.bytes.now c.args.i c.args.c _ c.clause_at-clause.ensures, c.requires, c.put_one-p.ensures.next, c.put_far-q.ensures.next)
 
 pub overflow_sub-r : goal.overflow_sub-r
 overflow_sub-r c =
@@ -22,15 +22,15 @@ overflow_sub-r c =
 
 pub overflow_add-r : goal.overflow_add-r
 overflow_add-r c =
-    omega (arith, rest_size c.args.book.now c.args.i c.args.c _ c.clause_at-clause.ensures, c.requires.1, c.put_one-p.ensures.next, c.put_far-q.ensures.next, c.emit_consequence-r.ensures.next)
+    omega (arith, rest_size c.args.book.now.bytes.now c.args.i c.args.c _ c.clause_at-clause.ensures, c.requires, c.put_one-p.ensures.next, c.put_far-q.ensures.next, c.emit_consequence-r.ensures.next)
 
 pub put_far-s-requires : goal.put_far-s-requires
 put_far-s-requires c =
-    omega (arith, rest_size c.args.book.now c.args.i c.args.c _ c.clause_at-clause.ensures, c.requires.1, c.put_one-p.ensures.next, c.put_far-q.ensures.next, c.emit_consequence-r.ensures.next)
+    omega (arith, rest_size c.args.book.now.bytes.now c.args.i c.args.c _ c.clause_at-clause.ensures, c.requires, c.put_one-p.ensures.next, c.put_far-q.ensures.next, c.emit_consequence-r.ensures.next)
 
 pub emit_condition-requires : goal.emit_condition-requires
 emit_condition-requires c =
-    (c.requires.0, omega (arith, rest_size c.args.book.now c.args.i c.args.c _ c.clause_at-clause.ensures, c.requires.1, c.put_one-p.ensures.next, c.put_far-q.ensures.next, c.emit_consequence-r.ensures.next, c.put_far-s.ensures.next))
+    omega (arith, rest_size c.args.book.now.bytes.now c.args.i c.args.c _ c.clause_at-clause.ensures, c.requires, c.put_one-p.ensures.next, c.put_far-q.ensures.next, c.emit_consequence-r.ensures.next, c.put_far-s.ensures.next)
 
 pub shape_of-out : goal.shape_of-out
 shape_of-out c =

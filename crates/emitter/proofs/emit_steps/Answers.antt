@@ -5,25 +5,13 @@ use mathlib.Core.Path.{refl}
 use Rattle.emitter.proofs.Pieces.{step_total, step_number, step_size_lem, emits_step, steps_size_lem, steps_stop}
 use Rattle.emitter.proofs.emit_steps.Goals as goal
 
-pub variable_count-requires : goal.variable_count-requires
-variable_count-requires c =
-    c.requires.0.sound.laid
-
-pub sub_scope_count-requires : goal.sub_scope_count-requires
-sub_scope_count-requires c =
-    c.requires.0.sound.laid
-
-pub overflow_add-n : goal.overflow_add-n
-overflow_add-n c =
+pub overflow_add-count : goal.overflow_add-count
+overflow_add-count c =
     omega (arith, c.requires.0.sound.variables c.args.i, c.requires.0.sound.sub_scopes c.args.i, c.variable_count.ensures, c.sub_scope_count.ensures)
 
 pub loop-n-init : goal.loop-n-init
 loop-n-init c =
     start _ _ _ _ (step_total _ _ _ _ c.variable_count.ensures c.sub_scope_count.ensures)
-
-pub overflow_sub-n : goal.overflow_sub-n
-overflow_sub-n c =
-    omega (arith, c.loop-n-test.true)
 
 pub overflow_mul-i : goal.overflow_mul-i
 overflow_mul-i c =
@@ -31,15 +19,11 @@ overflow_mul-i c =
 
 pub overflow_add-i : goal.overflow_add-i
 overflow_add-i c =
-    omega (arith, c.requires.1.few, c.loop-n.invariant.below, step_total c.args.book.now c.args.i _ _ c.variable_count.ensures c.sub_scope_count.ensures, c.requires.0.sound.variables c.args.i, c.requires.0.sound.sub_scopes c.args.i, c.variable_count.ensures, c.sub_scope_count.ensures)
+    omega (arith, c.requires.1.few, c.loop-n.invariant.below, step_total c.args.book.now.bytes.now c.args.i _ _ c.variable_count.ensures c.sub_scope_count.ensures, c.requires.0.sound.variables c.args.i, c.requires.0.sound.sub_scopes c.args.i, c.variable_count.ensures, c.sub_scope_count.ensures)
 
 pub emit_step-p-requires : goal.emit_step-p-requires
 emit_step-p-requires c =
-    (c.requires.0, step_number _ _ _ c.requires.1 _ _ (omega (arith, c.loop-n.invariant.below, c.loop-n-test.true)) c.byte_at-x.ensures, omega (arith, room c.loop-n.invariant _ refl c.loop-n-test.true (omega (arith, steps_size_lem c.args.book.now c.args.i, c.requires.2)), step_size_lem _ _ _ c.requires.1 _ _ (omega (arith, c.loop-n.invariant.below, c.loop-n-test.true)) c.byte_at-x.ensures))
-
-pub loop-n-smaller : goal.loop-n-smaller
-loop-n-smaller c =
-    omega (arith, c.loop-n-test.true)
+    (c.requires.0, step_number _ _ _ c.requires.1 _ _ (omega (arith, c.loop-n.invariant.below, c.loop-n-test.true)) c.byte_at-x.ensures, omega (arith, room c.loop-n.invariant _ refl c.loop-n-test.true (omega (arith, steps_size_lem c.args.book.now.bytes.now c.args.i, c.requires.2)), step_size_lem _ _ _ c.requires.1 _ _ (omega (arith, c.loop-n.invariant.below, c.loop-n-test.true)) c.byte_at-x.ensures))
 
 pub loop-n-preserved : goal.loop-n-preserved
 loop-n-preserved c =

@@ -8,7 +8,4 @@ use Rattle.emitter.proofs.emit_steps.Given as goal
 
 abbrev pub invariant-loop-n : goal.invariant-loop-n
 invariant-loop-n l =
-    Downward l.initial.out l.at (ordered_piece l.book l.i) (ordered_size l.book l.i) (step_count (scope_at (scopes_of l.book) l.i)) l.n l.p l.out
-
-abbrev pub decreases-loop-n : goal.decreases-loop-n
-decreases-loop-n l = l.n
+    Downward l.initial.out l.at (ordered_piece l.book.bytes.now l.i) (ordered_size l.book.bytes.now l.i) (step_count (scope_at (scopes_of l.book.bytes.now) l.i)) l.n l.p l.out

@@ -6,10 +6,6 @@ use Rattle.emitter.proofs.Chains.{few, tree_ruled, tree_none, tree_one, tree_man
 use mathlib.Core.Path.{refl}
 use Rattle.emitter.proofs.emit_tree.Goals as goal
 
-pub clause_count-count-requires : goal.clause_count-count-requires
-clause_count-count-requires c =
-    c.requires.0.sound.laid
-
 pub overflow_add-slot : goal.overflow_add-slot
 overflow_add-slot c =
     omega (arith, slot_few _ _ _ _ c.requires.0 c.args.sub c.args.variable _ c.slot_of-slot.ensures)

@@ -6,11 +6,11 @@ use Rattle.emitter.proofs.emit_variable.Goals as goal
 
 pub put_two-p-requires : goal.put_two-p-requires
 put_two-p-requires c =
-    omega (arith, variable_size_lem c.args.book.now c.args.i c.args.x, c.requires.1)
+    omega (arith, variable_size_lem c.args.book.now.bytes.now c.args.i c.args.x, c.requires.1)
 
 pub emit_tree-q-requires : goal.emit_tree-q-requires
 emit_tree-q-requires c =
-    (c.requires.0, omega (arith, variable_size_lem c.args.book.now c.args.i c.args.x, c.requires.1, c.put_two-p.ensures.next))
+    (c.requires.0, omega (arith, variable_size_lem c.args.book.now.bytes.now c.args.i c.args.x, c.requires.1, c.put_two-p.ensures.next))
 
 pub overflow_sub-d : goal.overflow_sub-d
 overflow_sub-d c =
@@ -18,11 +18,11 @@ overflow_sub-d c =
 
 pub put_two-r-requires : goal.put_two-r-requires
 put_two-r-requires c =
-    omega (arith, variable_size_lem c.args.book.now c.args.i c.args.x, c.requires.1, c.put_two-p.ensures.next, c.emit_tree-q.ensures.next)
+    omega (arith, variable_size_lem c.args.book.now.bytes.now c.args.i c.args.x, c.requires.1, c.put_two-p.ensures.next, c.emit_tree-q.ensures.next)
 
 pub put_two-requires : goal.put_two-requires
 put_two-requires c =
-    omega (arith, variable_size_lem c.args.book.now c.args.i c.args.x, c.requires.1, c.put_two-p.ensures.next, c.emit_tree-q.ensures.next, c.put_two-r.ensures.next)
+    omega (arith, variable_size_lem c.args.book.now.bytes.now c.args.i c.args.x, c.requires.1, c.put_two-p.ensures.next, c.emit_tree-q.ensures.next, c.put_two-r.ensures.next)
 
 pub shape_of-out : goal.shape_of-out
 shape_of-out c =

@@ -1,13 +1,12 @@
 -- `index::node_of` meets its contract.
 use native.Mathlib.Omega.{arith}
-use borrow.Author.Tests.{ne_eqb}
 use mir.Facts.{to_z-of_z}
 use mir.Val.{SFits}
 use mir.Syntax.{w32}
 use Rattle.record.specs.Kinds.{kinds, shapes_of, shape_in}
 use Rattle.book.specs.Syntax.{node_of}
 use Rattle.book.specs.Positions.{node_from, node_length}
-use Rattle.index.proofs.Bodies.{after, number_after, body_byte, kind_inside, default_inside}
+use Rattle.index.proofs.Bodies.{number_after, body_byte, kind_inside, default_inside}
 use Rattle.index.proofs.node_of.Goals as goal
 
 pub bounds-book-at : goal.bounds-book-at
@@ -57,62 +56,6 @@ bounds-book-at-in_default-3 c = default_inside c.args.book.now c.args.at c.requi
 pub bounds-book-at-in_default-4 : goal.bounds-book-at-in_default-4
 bounds-book-at-in_default-4 c = default_inside c.args.book.now c.args.at c.requires c.in_default.in_default-own.rest (let h = c.type_inv.book c.args.at in omega arith) 5 (omega arith)
 
-pub returns-in-4 : goal.returns-in-4
-unfolding node_from node_of
-returns-in-4 c = rw (c.in-4.is, after c.args.book.now c.args.at 0)
-
 pub returns-in-5 : goal.returns-in-5
 unfolding node_from node_of
 returns-in-5 c = let f : SFits w32 c.number_at.result = record { sfits = c.number_at.type_inv } in rw (c.in-5.is, to_z-of_z f, c.number_at.ensures, number_after c.args.book.now c.args.at)
-
-pub returns-in-6 : goal.returns-in-6
-unfolding node_from node_of
-returns-in-6 c = rw (c.in-6.is, after c.args.book.now c.args.at 0)
-
-pub returns-in-7 : goal.returns-in-7
-unfolding node_from node_of
-returns-in-7 c = rw (c.in-7.is, after c.args.book.now c.args.at 0, after c.args.book.now c.args.at 1)
-
-pub returns-in-8 : goal.returns-in-8
-unfolding node_from node_of
-returns-in-8 c = rw (c.in-8.is, c.type_of.ensures, after c.args.book.now c.args.at 0)
-
-pub returns-in-9 : goal.returns-in-9
-unfolding node_from node_of
-returns-in-9 c = rw (c.in-9.is, c.type_of-in-9.ensures, after c.args.book.now c.args.at 0)
-
-pub returns-in-10 : goal.returns-in-10
-unfolding node_from node_of
-returns-in-10 c = rw (c.in-10.is, after c.args.book.now c.args.at 0)
-
-pub returns-in-11 : goal.returns-in-11
-unfolding node_from node_of
-returns-in-11 c = rw (c.in-11.is, after c.args.book.now c.args.at 0)
-
-pub returns-in-12 : goal.returns-in-12
-unfolding node_from node_of
-returns-in-12 c = rw (c.in-12.is, after c.args.book.now c.args.at 0, after c.args.book.now c.args.at 1)
-
-pub returns-in-13 : goal.returns-in-13
-unfolding node_from node_of
-returns-in-13 c = rw (c.in-13.is, after c.args.book.now c.args.at 0, after c.args.book.now c.args.at 1)
-
-pub returns-in-14 : goal.returns-in-14
-unfolding node_from node_of
-returns-in-14 c = rw (c.in-14.is, after c.args.book.now c.args.at 0, after c.args.book.now c.args.at 1)
-
-pub returns-in-15 : goal.returns-in-15
-unfolding node_from node_of
-returns-in-15 c = rw (c.in-15.is, after c.args.book.now c.args.at 0, after c.args.book.now c.args.at 1)
-
-pub returns-in-16 : goal.returns-in-16
-unfolding node_from node_of
-returns-in-16 c = rw (c.in-16.is, after c.args.book.now c.args.at 0, after c.args.book.now c.args.at 1)
-
-pub returns-in-17 : goal.returns-in-17
-unfolding node_from node_of
-returns-in-17 c = rw (c.in-17.is, after c.args.book.now c.args.at 0, after c.args.book.now c.args.at 1, after c.args.book.now c.args.at 2)
-
-pub returns-in_default : goal.returns-in_default
-unfolding node_from node_of
-returns-in_default c = rw (ne_eqb _ 4 c.in_default.in_default-own.rest.0.0.0.0.0.0.0.0.0.0.0.0.0.1, ne_eqb _ 5 c.in_default.in_default-own.rest.0.0.0.0.0.0.0.0.0.0.0.0.1, ne_eqb _ 6 c.in_default.in_default-own.rest.0.0.0.0.0.0.0.0.0.0.0.1, ne_eqb _ 7 c.in_default.in_default-own.rest.0.0.0.0.0.0.0.0.0.0.1, ne_eqb _ 8 c.in_default.in_default-own.rest.0.0.0.0.0.0.0.0.0.1, ne_eqb _ 9 c.in_default.in_default-own.rest.0.0.0.0.0.0.0.0.1, ne_eqb _ 10 c.in_default.in_default-own.rest.0.0.0.0.0.0.0.1, ne_eqb _ 11 c.in_default.in_default-own.rest.0.0.0.0.0.0.1, ne_eqb _ 12 c.in_default.in_default-own.rest.0.0.0.0.0.1, ne_eqb _ 13 c.in_default.in_default-own.rest.0.0.0.0.1, ne_eqb _ 14 c.in_default.in_default-own.rest.0.0.0.1, ne_eqb _ 15 c.in_default.in_default-own.rest.0.0.1, ne_eqb _ 16 c.in_default.in_default-own.rest.0.1, ne_eqb _ 17 c.in_default.in_default-own.rest.1, after c.args.book.now c.args.at 0, after c.args.book.now c.args.at 1, after c.args.book.now c.args.at 2, after c.args.book.now c.args.at 3, after c.args.book.now c.args.at 4)

@@ -1,14 +1,13 @@
 -- `inputs::read_by` meets its contract. The invariant: the list is read up to a position, and the cells hold what it gives so far.
-use Rattle.lists.specs.Inputs.{input_length, bad_record}
+use Rattle.lists.specs.Inputs.{bad_record}
 use Rattle.lists.specs.Reading.{typed}
-use Rattle.lists.proofs.Reading.{start, stop, fault, room, cell, turn}
+use Rattle.lists.proofs.Reading.{start, stop, fault, cell, turn}
 use Rattle.lists.proofs.Types.{typed_count}
 use Rattle.slices.proofs.Parts.{all_left}
 use Rattle.cells.specs.Cells.{given_of}
 use lib.ListN.{length, get_or, drop}
-use native.Mathlib.Omega.{arith}
 use Prim.Native.Nat.{ℕ, ◌+◌, ◌≤◌}
-use mathlib.Core.Path.{◌≡◌, sym, ap, ◌∙◌}
+use mathlib.Core.Path.{◌≡◌, sym, ◌∙◌}
 use mathlib.Core.Bool.{Bool, false, false≢true}
 use mathlib.Core.List.{List, map}
 use Rattle.inputs.proofs.read_by.Goals as goal
@@ -35,9 +34,6 @@ good c e = judged c ∙ e
 few : (types : List ℕ) → length types ≤ 32 → length (typed types) ≤ 32
 few types h = rw (typed_count types) h
 
-pub shape_of-given-then-is_bad : goal.shape_of-given-then-is_bad
-shape_of-given-then-is_bad c = c.loop-at.invariant.size ∙ sym (ap length c.requires.given_value)
-
 pub returns-then-is_bad : goal.returns-then-is_bad
 unfolding verdict
 returns-then-is_bad c =
@@ -53,25 +49,11 @@ bounds-given-v c =
     rw (c.byte_at-v.ensures, all_left (c.loop-at.at + 1) c.args.inputs.now)
     (cell c.loop-at.invariant c.loop-at-test.true (few c.args.types.now c.requires.types_len_bound) (good (goal.at.bounds-given-v c).After-is_bad c.if-is_bad.false))
 
--- the record ends within the list
-whole : (c : After-is_bad) (n : ℕ) → c.is_bad.result ≡ false → n ≡ input_length (get_or c.args.inputs.now c.loop-at.at 0) → c.loop-at.at + 1 + n ≤ length c.args.inputs.now
-unfolding verdict
-whole c n e h = rw h (room c.loop-at.invariant c.loop-at-test.true (few c.args.types.now c.requires.types_len_bound) (good c e))
-
-pub overflow_add-at : goal.overflow_add-at
-overflow_add-at c = let r = whole (goal.at.overflow_add-at c).After-is_bad _ c.if-is_bad.false c.input_length.ensures in omega arith
-
-pub loop-at-smaller : goal.loop-at-smaller
-loop-at-smaller c = let r = whole (goal.at.loop-at-smaller c).After-is_bad _ c.if-is_bad.false c.input_length.ensures in omega arith
-
 pub loop-at-preserved : goal.loop-at-preserved
 unfolding verdict
 loop-at-preserved c =
     rw (c.byte_at-v.ensures, c.cell_of.ensures, c.input_value.ensures, c.input_length.ensures, all_left (c.loop-at.at + 1) c.args.inputs.now)
     (turn c.loop-at.invariant c.loop-at-test.true (few c.args.types.now c.requires.types_len_bound) (good (goal.at.loop-at-preserved c).After-is_bad c.if-is_bad.false))
-
-pub shape_of-given : goal.shape_of-given
-shape_of-given c = c.loop-at.invariant.size ∙ sym (ap length c.requires.given_value)
 
 pub returns : goal.returns
 returns c =

@@ -1,7 +1,9 @@
 -- `integers::distance_at` meets its contract.
-use mathlib.Core.Path.{◌∙◌}
+use Rattle.std.proofs.Common.{◌∙◌}
 use Rattle.integers.proofs.Endian.{part}
+use Rattle.integers.proofs.Library.{two}
 use Rattle.integers.proofs.distance_at.Goals as goal
 
 pub returns : goal.returns
-returns c = c.two_bytes.ensures ∙ rw c.part_of.ensures (part 2 c.args.s.now c.args.at)
+returns c = rw (c.from.ensures, c.from_be_bytes.ensures, c.byte_at.ensures, c.byte_at-2.ensures, c.part_of-part.ensures)
+    (two _ ∙ part 2 c.args.s.now c.args.at)

@@ -1,30 +1,11 @@
--- `integers::four_bytes` meets its contract: four bytes at once where there are so many.
-use native.Mathlib.Omega.{arith}
-use Rattle.slices.specs.Bytes.{big_endian}
+-- `integers::four_bytes` meets its contract.
+use Rattle.std.proofs.Common.{take, ◌∙◌}
+use Rattle.integers.proofs.Endian.{part}
+use Rattle.integers.proofs.Library.{four}
 use Rattle.integers.proofs.four_bytes.Goals as goal
 
-pub overflow_mul-result : goal.overflow_mul-result
-overflow_mul-result c = omega (arith, c.type_inv.s 0)
-
-pub overflow_add-result : goal.overflow_add-result
-overflow_add-result c = omega (arith, c.type_inv.s 0, c.type_inv.s 1)
-
-pub overflow_mul-result-then-s-gt3 : goal.overflow_mul-result-then-s-gt3
-overflow_mul-result-then-s-gt3 c = omega (arith, c.type_inv.s 0, c.type_inv.s 1)
-
-pub overflow_add-result-then-s-gt3 : goal.overflow_add-result-then-s-gt3
-overflow_add-result-then-s-gt3 c = omega (arith, c.type_inv.s 0, c.type_inv.s 1, c.type_inv.s 2)
-
-pub overflow_mul-result-then-s-gt3-2 : goal.overflow_mul-result-then-s-gt3-2
-overflow_mul-result-then-s-gt3-2 c = omega (arith, c.type_inv.s 0, c.type_inv.s 1, c.type_inv.s 2)
-
-pub overflow_add-result-then-s-gt3-2 : goal.overflow_add-result-then-s-gt3-2
-overflow_add-result-then-s-gt3-2 c = omega (arith, c.type_inv.s 0, c.type_inv.s 1, c.type_inv.s 2, c.type_inv.s 3)
-
-pub returns-then-s-gt3 : goal.returns-then-s-gt3
-unfolding big_endian
-returns-then-s-gt3 c = omega arith
+pub returns-in-Some : goal.returns-in-Some
+returns-in-Some c = rw c.from_be_bytes.ensures (rw c.in-Some.ensures.cases.same (four (take 4 c.args.s.now) ∙ part 4 c.args.s.now 0))
 
 pub returns : goal.returns
-unfolding big_endian
-returns c = omega arith
+returns c = rw (c.from_be_bytes-2.ensures, c.byte_at.ensures, c.byte_at-2.ensures, c.byte_at-3.ensures, c.byte_at-4.ensures) (four c.args.s.now)

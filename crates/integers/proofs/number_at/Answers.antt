@@ -1,10 +1,8 @@
 -- `integers::number_at` meets its contract.
-use Rattle.integers.proofs.Endian.{part}
-use mir.Facts.{to_z-of_z}
-use mir.Val.{to_z}
-use mir.Syntax.{w32}
-use mathlib.Core.Path.{ap}
+use Rattle.std.proofs.Common.{ap, to_z, to_z-of_z}
+use Rattle.std.specs.Int.{w32}
 use Rattle.slices.specs.Bytes.{number_at}
+use Rattle.integers.proofs.Endian.{part}
 use Rattle.integers.proofs.number_at.Goals as goal
 
 pub returns : goal.returns

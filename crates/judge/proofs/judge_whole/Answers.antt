@@ -1,58 +1,43 @@
 -- `judge::judge_whole` meets its contract.
-use Rattle.judge.proofs.Faults.{refused, dangling, shared, mismatched, mixed, orders_left}
+use mathlib.Core.Path.{◌≡◌, sym, ◌∙◌}
+use Rattle.std.proofs.Common.{arith}
+use Rattle.std.proofs.lemmas.Result.{err_from_is_err_and}
+use Rattle.answers.specs.declared.Fault.TheVariants.{DanglingReference}
 use Rattle.book.specs.Decode.{scopes_of}
-use mathlib.Core.Path.{sym, ◌∙◌}
+use Rattle.judge.proofs.Faults.{refused, found_dangling, found_sound, found_shares, found_mismatches, dangling, shared, mismatched, mixed, orders_left}
 use Rattle.judge.proofs.judge_whole.Goals as goal
 
-pub find_faults-found-requires : goal.find_faults-found-requires
-find_faults-found-requires c = record { fact_1 = c.requires.0.filled.laid; fact_2 = c.requires.0.filled.scopes }
+pub returns-in_err-found : goal.returns-in_err-found
+returns-in_err-found c =
+    let fault : c.in_err-found.field-0.0 ≡ DanglingReference = grind arith in
+    let p = err_from_is_err_and c.from_residual.result c.from_residual.ensures.1 in
+    rw (p.1, p.2, fault)
+    (refused (dangling (scopes_of c.args.book.now.bytes.now) (found_dangling c.find_faults.ensures c.ok_or.ensures.ok_part c.in_err-found.was)))
 
 pub returns-then-found : goal.returns-then-found
-returns-then-found c = refused (dangling (scopes_of c.args.book.now) (sym c.find_faults-found.ensures.dangling ∙ c.if-found.true))
+returns-then-found c =
+    let sound = found_sound c.find_faults.ensures c.ok_or.ensures.ok_part c.in_ok-found.was in
+    let shares = found_shares c.find_faults.ensures c.ok_or.ensures.ok_part c.in_ok-found.was c.if-found.true in
+    refused (shared (scopes_of c.args.book.now.bytes.now) sound shares)
 
 pub returns-then-found-2 : goal.returns-then-found-2
 returns-then-found-2 c =
-    let none = c.if-found.false in
-    let f = c.find_faults-found.ensures in
-    refused (shared (scopes_of c.args.book.now) (sym f.dangling ∙ none) (sym (f.shared none) ∙ c.if-found-2.true))
-
-pub returns-then-found-3 : goal.returns-then-found-3
-returns-then-found-3 c =
-    let none = c.if-found.false in
-    let f = c.find_faults-found.ensures in
-    refused (mismatched (scopes_of c.args.book.now) (sym f.dangling ∙ none) (sym (f.shared none) ∙ c.if-found-2.false) (sym (f.mismatched none) ∙ c.if-found-3.true))
-
-pub has_mixed-requires : goal.has_mixed-requires
-has_mixed-requires c =
-    record {
-      fact_1 = c.requires.0.filled.laid;
-      fact_2 = c.requires.0.filled.scopes;
-      fact_3 = sym c.find_faults-found.ensures.dangling ∙ c.if-found.false;
-      fact_4 = c.requires.0.filled.laid.within;
-    }
+    let sound = found_sound c.find_faults.ensures c.ok_or.ensures.ok_part c.in_ok-found.was in
+    let shares = found_shares c.find_faults.ensures c.ok_or.ensures.ok_part c.in_ok-found.was c.if-found.false in
+    let mismatches = found_mismatches c.find_faults.ensures c.ok_or.ensures.ok_part c.in_ok-found.was c.if-found-2.true in
+    refused (mismatched (scopes_of c.args.book.now.bytes.now) sound shares mismatches)
 
 pub returns-then-has_mixed : goal.returns-then-has_mixed
 returns-then-has_mixed c =
-    let none = c.if-found.false in
-    let f = c.find_faults-found.ensures in
-    refused (mixed (scopes_of c.args.book.now) (sym f.dangling ∙ none) (sym (f.shared none) ∙ c.if-found-2.false) (sym (f.mismatched none) ∙ c.if-found-3.false) (sym c.has_mixed.ensures ∙ c.if-has_mixed.true))
-
-pub judge_orders-requires : goal.judge_orders-requires
-judge_orders-requires c =
-    let p = c.requires in
-    let f = c.find_faults-found.ensures in
-    let none = c.if-found.false in
-    let w = p.0.filled.laid.within in (
-      record {
-        named = record { laid = p.0.filled.laid; sound = sym f.dangling ∙ none; single = sym (f.shared none) ∙ c.if-found-2.false };
-        scoped = record { count = p.0.filled.scopes; few = rw p.0.filled.scopes w.scopes };
-      },
-      p.1,
-    )
+    let sound = found_sound c.find_faults.ensures c.ok_or.ensures.ok_part c.in_ok-found.was in
+    let shares = found_shares c.find_faults.ensures c.ok_or.ensures.ok_part c.in_ok-found.was c.if-found.false in
+    let mismatches = found_mismatches c.find_faults.ensures c.ok_or.ensures.ok_part c.in_ok-found.was c.if-found-2.false in
+    refused (mixed (scopes_of c.args.book.now.bytes.now) sound shares mismatches (sym c.has_mixed.ensures ∙ c.if-has_mixed.true))
 
 pub returns : goal.returns
 returns c =
-    let none = c.if-found.false in
-    let f = c.find_faults-found.ensures in
-    let left = orders_left (scopes_of c.args.book.now) (sym f.dangling ∙ none) (sym (f.shared none) ∙ c.if-found-2.false) (sym (f.mismatched none) ∙ c.if-found-3.false) (sym c.has_mixed.ensures ∙ c.if-has_mixed.false) in
+    let sound = found_sound c.find_faults.ensures c.ok_or.ensures.ok_part c.in_ok-found.was in
+    let shares = found_shares c.find_faults.ensures c.ok_or.ensures.ok_part c.in_ok-found.was c.if-found.false in
+    let mismatches = found_mismatches c.find_faults.ensures c.ok_or.ensures.ok_part c.in_ok-found.was c.if-found-2.false in
+    let left = orders_left (scopes_of c.args.book.now.bytes.now) sound shares mismatches (sym c.has_mixed.ensures ∙ c.if-has_mixed.false) in
     record { answer = c.judge_orders.ensures.answer ∙ left; tables = c.judge_orders.ensures.tables }

@@ -1,15 +1,20 @@
--- `memo::none_given` meets its contract. The invariant: none of the variables so far is given.
-use Rattle.memo.proofs.Rows.{absent_none, absent_more, ungiven_false, ungiven_true}
+-- `memo::none_given` meets its contract.
+use Prim.Native.Nat.{ℕ}
+use mathlib.Core.Path.{◌≡◌, refl}
+use native.Mathlib.Omega.{arith}
+use Rattle.std.specs.Prelude.{None}
+use Rattle.std.proofs.Common.{rules, tests}
+use Rattle.std.proofs.lemmas.Iterator.{cases_from_all, YieldsList-from_range}
+use Rattle.cells.specs.Cells.{given_at}
+use Rattle.memo.proofs.Rows.{ungiven}
 use Rattle.memo.proofs.none_given.Goals as goal
 
-pub loop-v-init : goal.loop-v-init
-loop-v-init c = absent_none _
-
-pub returns-in-Present : goal.returns-in-Present
-returns-in-Present c = ungiven_false c.loop-v-test.true c.given_at-g.ensures c.in-Present.is
-
-pub loop-v-preserved : goal.loop-v-preserved
-loop-v-preserved c = absent_more _ _ c.loop-v.invariant _ c.given_at-g.ensures c.in-Absent.is
-
 pub returns : goal.returns
-returns c = ungiven_true c.loop-v.invariant c.loop-v-test.false
+returns c =
+    let given = c.args.given.now in
+    let count = c.args.count in
+    ungiven given count _
+    (cases_from_all _ _ _ (λ (u : ℕ). given_at given u ≡ None) (λ (u : ℕ). given_at given u ≡ None → ⊥) c.all.ensures.ran
+    (YieldsList-from_range 0 count count refl (omega arith))
+    (λ u f h. search (rules, tests))
+    (λ u f h. search (rules, tests)))

@@ -1,11 +1,7 @@
 -- `mixing::mixed_at` meets its contract. The invariant of its loop is `Marking`.
-use Prim.Native.Nat.{◌-◌}
 use Rattle.book.specs.Decode.{scopes_of}
 use Rattle.mixing.proofs.Marking.{Marking}
 use Rattle.mixing.proofs.mixed_at.Given as goal
 
 abbrev pub invariant-loop-n : goal.invariant-loop-n
-invariant-loop-n l = Marking (scopes_of l.book) l.i l.seen l.n
-
-abbrev pub decreases-loop-n : goal.decreases-loop-n
-decreases-loop-n l = l.count - l.n
+invariant-loop-n l = Marking (scopes_of l.book.bytes.now) l.i l.seen l.n

@@ -1,8 +1,7 @@
 -- `order::ready_vertex` meets its contract. The outer loop's invariant: each vertex below v rests, and what rows pass over is done. The inner
 -- one's: nothing below w that v depends on is unmet.
-use Prim.Native.Nat.{◌+◌, ◌-◌}
+use Prim.Native.Nat.{◌+◌}
 use mathlib.Core.Path.{refl, ◌∙◌}
-use mathlib.Core.Bool.{false}
 use native.Mathlib.Omega.{arith}
 use borrow.Author.Rules.{rules}
 use Rattle.order.proofs.Matrix.{marked_true, marked_false, edge_false, edge_passed}

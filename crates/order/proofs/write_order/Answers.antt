@@ -1,6 +1,5 @@
 -- `order::write_order` meets its contract. The loop's invariant is `Filling`, `Met`: what rows pass over is done, and `Resting`: each vertex
 -- below the one at which a search starts is done or waits.
-use Prim.Native.Nat.{◌-◌}
 use mathlib.Core.Path.{refl, ◌∙◌}
 use native.Mathlib.Omega.{arith}
 use borrow.Author.Rules.{rules}

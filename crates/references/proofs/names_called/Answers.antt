@@ -10,7 +10,7 @@ returns-then-below c =
       ← c.sub_scope_count.ensures,
       ← c.below.ensures,
       c.if-below.true,
-      ← c.sub_scope_at-called.ensures,
+      ← c.sub_scope_at.ensures,
       ← c.variable_count.ensures,
     )
     c.below-then-below.ensures

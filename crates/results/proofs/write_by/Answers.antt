@@ -11,8 +11,5 @@ put_result-at-requires c = rw (c.value_of.ensures, c.given_at.ensures) (room c.l
 pub loop-v-preserved : goal.loop-v-preserved
 loop-v-preserved c = turn c.loop-v.invariant c.loop-v-test.true (rw (← c.given_at.ensures, ← c.value_of.ensures) c.put_result-at.ensures)
 
-pub shape_of-results : goal.shape_of-results
-shape_of-results c = c.loop-v.invariant.size
-
 pub returns : goal.returns
 returns c = stop c.loop-v.invariant c.loop-v-test.false

@@ -3,9 +3,6 @@ use native.Mathlib.Omega.{arith}
 use Rattle.scopes.proofs.Entering.{runs_steps, called_few}
 use Rattle.scopes.proofs.enter.Goals as goal
 
-pub sub_scope_count-requires : goal.sub_scope_count-requires
-sub_scope_count-requires c = c.requires.world.sound.laid
-
 pub run_steps-requires : goal.run_steps-requires
 run_steps-requires c = runs_steps c.requires 1 c.requires.room c.requires.kept (omega (arith, c.sub_scope_count.ensures, c.if-sub_scope_count-eq0.true))
 

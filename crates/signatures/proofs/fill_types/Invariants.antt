@@ -2,11 +2,7 @@
 use Rattle.lists.proofs.Types.{Filling}
 use Rattle.book.specs.References.{scope_at}
 use Rattle.book.specs.Decode.{scopes_of}
-use Prim.Native.Nat.{◌-◌}
 use Rattle.signatures.proofs.fill_types.Given as goal
 
 abbrev pub invariant-loop-v : goal.invariant-loop-v
-invariant-loop-v l = Filling (scope_at (scopes_of l.book) l.i).variables l.types l.v
-
-abbrev pub decreases-loop-v : goal.decreases-loop-v
-decreases-loop-v l = l.count - l.v
+invariant-loop-v l = Filling (scope_at (scopes_of l.book.bytes.now) l.i).variables l.types l.v

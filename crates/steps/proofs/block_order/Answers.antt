@@ -5,5 +5,6 @@ use Rattle.steps.proofs.block_order.Goals as goal
 
 pub returns : goal.returns
 returns c =
-    blocks_written _ _ _ _ _ _ c.fill_calls.ensures (omega arith) (omega arith)
-    c.write_order.ensures
+    let few = c.args.book.now.laid.within.scopes in
+    let counted = c.requires.counted in
+    blocks_written _ _ _ _ _ _ c.fill_calls.ensures counted (omega arith) c.write_order.ensures

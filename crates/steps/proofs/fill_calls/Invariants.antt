@@ -1,5 +1,4 @@
 -- `steps::fill_calls` meets its contract. The loop's invariant: with the calls of the scopes from i on, all calls are marked.
-use Prim.Native.Nat.{◌≤◌, ◌-◌}
 use Rattle.book.specs.Decode.{scopes_of}
 use Rattle.book.specs.Scopes.{calls}
 use Rattle.steps.proofs.Marking.{Marking}
@@ -7,7 +6,4 @@ use Rattle.steps.proofs.Calls.{rows_left}
 use Rattle.steps.proofs.fill_calls.Given as goal
 
 abbrev pub invariant-loop-i : goal.invariant-loop-i
-invariant-loop-i l = (l.i ≤ l.scopes) × Marking l.initial.deps l.deps (rows_left (scopes_of l.book) l.i) (calls (scopes_of l.book))
-
-abbrev pub decreases-loop-i : goal.decreases-loop-i
-decreases-loop-i l = l.scopes - l.i
+invariant-loop-i l = Marking l.initial.deps l.deps (rows_left (scopes_of l.book.bytes.now) l.i) (calls (scopes_of l.book.bytes.now))

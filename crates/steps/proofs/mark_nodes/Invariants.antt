@@ -4,7 +4,4 @@ use Rattle.steps.proofs.Descent.{Descent}
 use Rattle.steps.proofs.mark_nodes.Given as goal
 
 abbrev pub invariant-loop-n : goal.invariant-loop-n
-invariant-loop-n l = Descent (scopes_of l.book) l.i l.initial.deps l.deps l.owners l.n
-
-abbrev pub decreases-loop-n : goal.decreases-loop-n
-decreases-loop-n l = l.n
+invariant-loop-n l = Descent (scopes_of l.book.bytes.now) l.i l.initial.deps l.deps l.owners l.n

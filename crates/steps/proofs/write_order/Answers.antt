@@ -1,12 +1,10 @@
 -- `steps::write_order` meets its contract.
 use native.Mathlib.Omega.{arith}
-use Rattle.steps.proofs.Orders.{written, not_unfit}
+use Rattle.steps.proofs.Orders.{fit, written}
 use Rattle.steps.proofs.write_order.Goals as goal
 
-pub returns-in-Taken : goal.returns-in-Taken
-returns-in-Taken c =
-    written _ _ _ _ _ c.fill_order.ensures (omega arith) (omega arith) (omega arith) _ c.in-Taken.is
+pub unwrap-requires : goal.unwrap-requires
+unwrap-requires c = fit _ _ _ _ _ c.fill_order.ensures (omega arith) (omega arith) (omega arith)
 
-pub returns-in-Unfit : goal.returns-in-Unfit
-returns-in-Unfit c =
-    not_unfit _ _ _ _ _ c.fill_order.ensures (omega arith) (omega arith) (omega arith) c.in-Unfit.is
+pub returns : goal.returns
+returns c = written _ _ _ _ _ c.fill_order.ensures (omega arith) (omega arith) (omega arith) _ c.unwrap.ensures

@@ -6,9 +6,6 @@ use Rattle.loaded.proofs.Preparing.{few_scopes, blank_memo}
 use Rattle.tabulator.proofs.Service.{few_chosen, results_few, sized, fills, short_so, written_so}
 use Rattle.tabulator.proofs.write_table.Goals as goal
 
-pub result_length-requires : goal.result_length-requires
-result_length-requires c = record { laid = c.requires.enterable.world.sound.laid; i_len_bound = c.requires.enterable.world.sound.variables c.args.i }
-
 pub table_length-length-requires : goal.table_length-length-requires
 table_length-length-requires c = (omega (arith, few_chosen c.requires), rw c.result_length.ensures (results_few _ _ (c.requires.enterable.world.sound.variables c.args.i)))
 

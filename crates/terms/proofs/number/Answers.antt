@@ -5,4 +5,4 @@ use Rattle.terms.proofs.number.Goals as goal
 
 pub returns : goal.returns
 unfolding value_cell
-returns c = rw (c.bits_of.ensures, to_z-of_z c.ranges.z)
+returns c = rw (c.from.ensures, c.bits_of.ensures, to_z-of_z c.ranges.z)

@@ -1,29 +1,56 @@
--- `terms::ranged` meets its contract.
-use mathlib.Core.Path.{refl}
+-- `terms::ranged` meets its contract: by the sign of a number that fits 32 bits or does not.
+use mathlib.Core.Path.{◌≡◌}
+use mathlib.Core.Bool.{true, false}
+use mathlib.Core.Logic.{⊎_elim}
+use native.Mathlib.Omega.{arith}
+use lib.IntN.{ℤ, pos, negsuc}
+use lib.Signed.{lt_z}
+use lib.Dec.{ltb}
 use mir.Syntax.{w32}
 use mir.Val.{SFits}
 use mir.Facts.{to_z-of_z}
+use borrow.Author.Tests.{le-ltb, ltb-true, ltb-false}
+use Rattle.std.specs.Prelude.{Ok, Err}
+use Rattle.laws.proofs.Booleans.{decide}
 use Rattle.answers.specs.declared.Side.TheVariants.{Above, Below}
-use Rattle.calculus.proofs.Numbers.{ranged_by_lem, within_by}
+use Rattle.answers.specs.declared.Cause.TheVariants.{OutOfRange}
+use Rattle.calculus.specs.Values.{ranged as ranged_value}
+use Rattle.calculus.specs.declared.Value.TheVariants.{Number}
 use Rattle.terms.proofs.Operators.{side_codes, number_codes}
 use Rattle.terms.proofs.ranged.Goals as goal
-use Rattle.terms.proofs.ranged.Goals.{Else-z-gt2147483647}
 
-narrow : (c : Else-z-gt2147483647) → SFits w32 c.args.z
-narrow c = within_by c.args.z c.ranges.z c.if-z-ltminus2147483648.false c.if-z-gt2147483647.false
+inside : (z : ℤ) → SFits w32 z → ranged_value z ≡ Ok (Number z)
+inside (pos a) p = rw (le-ltb 2147483647 a (omega (arith, p.sfits)))
+inside (negsuc a) p = rw (le-ltb 2147483647 a (omega (arith, p.sfits)))
 
-pub returns-then-z-ltminus2147483648 : goal.returns-then-z-ltminus2147483648
-returns-then-z-ltminus2147483648 c = rw (ranged_by_lem c.args.z c.ranges.z c.if-z-ltminus2147483648.true refl) (side_codes Below)
+below : (z : ℤ) → (SFits w32 z → ⊥) → lt_z z (pos 0) ≡ true → ranged_value z ≡ Err (OutOfRange Below)
+below (pos a) n e = absurd (omega (arith, ltb-true a 0 e))
+below (negsuc a) n e =
+    ⊎_elim
+    (λ (q : ltb 2147483647 a ≡ true). rw q)
+    (λ (q : ltb 2147483647 a ≡ false). absurd (n (record { sfits = omega (arith, ltb-false 2147483647 a q) })))
+    (decide (ltb 2147483647 a))
 
-pub returns-then-z-gt2147483647 : goal.returns-then-z-gt2147483647
-returns-then-z-gt2147483647 c = rw (ranged_by_lem c.args.z c.ranges.z c.if-z-ltminus2147483648.false c.if-z-gt2147483647.true) (side_codes Above)
+above : (z : ℤ) → (SFits w32 z → ⊥) → lt_z z (pos 0) ≡ false → ranged_value z ≡ Err (OutOfRange Above)
+above (pos a) n e =
+    ⊎_elim
+    (λ (q : ltb 2147483647 a ≡ true). rw q)
+    (λ (q : ltb 2147483647 a ≡ false). absurd (n (record { sfits = omega (arith, ltb-false 2147483647 a q) })))
+    (decide (ltb 2147483647 a))
+above (negsuc a) n e = absurd (cc)
 
-pub overflow_cast-z : goal.overflow_cast-z
-overflow_cast-z c = rw (to_z-of_z c.ranges.z) (narrow (goal.at.overflow_cast-z c).Else-z-gt2147483647)
-
-pub returns : goal.returns
-returns c =
+pub returns-in-Ok : goal.returns-in-Ok
+returns-in-Ok c =
     let z = c.args.z in
+    let h = rw (to_z-of_z c.ranges.z) at c.in-Ok.ensures in
+    rw (inside z h.0) (number_codes _ z h.0 (rw (h.1, to_z-of_z h.0) at c.number.ensures))
+
+pub returns-in-Err : goal.returns-in-Err
+returns-in-Err c =
     let f = c.ranges.z in
-    rw (ranged_by_lem z f c.if-z-ltminus2147483648.false c.if-z-gt2147483647.false)
-    (number_codes _ z (narrow (goal.at.returns c).Else-z-gt2147483647) (rw (to_z-of_z f, to_z-of_z (narrow (goal.at.returns c).Else-z-gt2147483647)) at c.number.ensures))
+    rw (below c.args.z (rw (to_z-of_z f) at c.in-Err.ensures) (rw (to_z-of_z f) at c.if-z-lt0.true)) (side_codes Below)
+
+pub returns-in-Err-2 : goal.returns-in-Err-2
+returns-in-Err-2 c =
+    let f = c.ranges.z in
+    rw (above c.args.z (rw (to_z-of_z f) at c.in-Err-2.ensures) (rw (to_z-of_z f) at c.if-z-lt0.false)) (side_codes Above)

@@ -29,7 +29,7 @@ pub returns-else-has_names : goal.returns-else-has_names
 returns-else-has_names c = landed_jump _ _ _ _ _ c.requires.0 c.requires.1 c.if-u-eq0.false (sym (ap (λ (x : Shape). x.stage) c.requires.2) ∙ c.if-shape-ne4.false) _ (sym (ap (λ (x : Shape). x.length) c.requires.2) ∙ c.in-2.is) (sym c.has_names.ensures ∙ c.if-has_names.false) c.jump.ensures
 
 pub returns-in-3 : goal.returns-in-3
-returns-in-3 c = landed_given _ _ _ _ _ c.requires.0 c.requires.1 c.if-u-eq0.false (sym (ap (λ (x : Shape). x.stage) c.requires.2) ∙ c.if-shape-ne4.false) _ (sym (ap (λ (x : Shape). x.length) c.requires.2) ∙ c.in-3.is) (rw (← c.byte_at.ensures, ← c.wide-x.ensures) c.jump-in-3.ensures)
+returns-in-3 c = landed_given _ _ _ _ _ c.requires.0 c.requires.1 c.if-u-eq0.false (sym (ap (λ (x : Shape). x.stage) c.requires.2) ∙ c.if-shape-ne4.false) _ (sym (ap (λ (x : Shape). x.length) c.requires.2) ∙ c.in-3.is) (rw (← c.byte_at.ensures, ← c.from-x.ensures) c.jump-in-3.ensures)
 
 pub returns-in_default : goal.returns-in_default
-returns-in_default c = landed_number _ _ _ _ _ c.requires.0 c.requires.1 c.if-u-eq0.false (sym (ap (λ (x : Shape). x.stage) c.requires.2) ∙ c.if-shape-ne4.false) _ (λ e. c.in_default.in_default-own.rest.0.0.0.1 (ap (λ (x : Shape). x.length) c.requires.2 ∙ e)) (λ e. c.in_default.in_default-own.rest.0.0.1 (ap (λ (x : Shape). x.length) c.requires.2 ∙ e)) (λ e. c.in_default.in_default-own.rest.0.1 (ap (λ (x : Shape). x.length) c.requires.2 ∙ e)) (λ e. c.in_default.in_default-own.rest.1 (ap (λ (x : Shape). x.length) c.requires.2 ∙ e)) c.no_name.ensures
+returns-in_default c = let same = ap (λ (x : Shape). x.length) c.requires.2 in landed_number _ _ _ _ _ c.requires.0 c.requires.1 c.if-u-eq0.false (sym (ap (λ (x : Shape). x.stage) c.requires.2) ∙ c.if-shape-ne4.false) _ (λ e. omega arith) (λ e. omega arith) (λ e. omega arith) (λ e. omega arith) c.no_name.ensures

@@ -11,8 +11,8 @@ returns-then-u-eq0 c = leave_idle _ _ _ _ _ c.requires c.if-u-eq0.true
 pub returns-then-at-u : goal.returns-then-at-u
 returns-then-at-u c = reach_refused _ _ _ _ _ c.requires (let z = c.if-u-eq0.false in omega arith) c.if-at-u.true
 
-pub returns-then-u-gt4096 : goal.returns-then-u-gt4096
-returns-then-u-gt4096 c = weight_refused _ _ _ _ _ c.requires (let z = c.if-u-eq0.false in omega arith) c.if-u-gt4096.true
+pub returns-then-u-gt-WEIGHT_LIMIT : goal.returns-then-u-gt-WEIGHT_LIMIT
+returns-then-u-gt-WEIGHT_LIMIT c = weight_refused _ _ _ _ _ c.requires (let z = c.if-u-eq0.false in omega arith) c.if-u-gt-WEIGHT_LIMIT.true
 
 pub overflow_mul-row : goal.overflow_mul-row
 overflow_mul-row c = let h = leave_bounds _ _ _ _ _ c.requires c.if-u-eq0.false in omega arith
@@ -78,4 +78,4 @@ pub shape_of-directory : goal.shape_of-directory
 shape_of-directory c = simp length-set refl
 
 pub returns : goal.returns
-returns c = leave_closed _ _ _ _ _ c.requires (let z = c.if-u-eq0.false in omega arith) c.if-at-u.false c.if-u-gt4096.false
+returns c = leave_closed _ _ _ _ _ c.requires (let z = c.if-u-eq0.false in omega arith) c.if-at-u.false c.if-u-gt-WEIGHT_LIMIT.false

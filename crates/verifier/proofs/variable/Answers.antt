@@ -4,4 +4,4 @@ use native.Mathlib.Omega.{arith}
 use Rattle.verifier.proofs.variable.Goals as goal
 
 pub returns : goal.returns
-returns c = (refl, rw c.wide.ensures refl, omega arith)
+returns c = (refl, rw c.from.ensures refl, omega arith)

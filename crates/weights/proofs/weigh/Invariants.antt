@@ -1,5 +1,5 @@
 -- `weights::weigh` meets its contract. The loop's invariant: with the weights of the sub-scopes from the k-th on, the total is the scope's weight.
-use Prim.Native.Nat.{◌≤◌, ◌+◌, ◌-◌, ◌*◌}
+use Prim.Native.Nat.{◌≤◌, ◌+◌, ◌*◌}
 use mathlib.Core.Path.{◌≡◌}
 use Rattle.book.specs.Decode.{scopes_of}
 use Rattle.book.specs.References.{scope_at}
@@ -9,7 +9,4 @@ use Rattle.weights.proofs.weigh.Given as goal
 
 abbrev pub invariant-loop-k : goal.invariant-loop-k
 invariant-loop-k l =
-    (l.k ≤ l.count) × (l.total ≤ 1 + l.k * 65535) × (l.total + sum_from (scopes_of l.book) l.i l.weights l.k ≡ weight_by l.weights (scope_at (scopes_of l.book) l.i))
-
-abbrev pub decreases-loop-k : goal.decreases-loop-k
-decreases-loop-k l = l.count - l.k
+    (l.total ≤ 1 + l.k * 65535) × (l.total + sum_from (scopes_of l.book.bytes.now) l.i l.weights l.k ≡ weight_by l.weights (scope_at (scopes_of l.book.bytes.now) l.i))
