@@ -25,9 +25,10 @@ def read(path):
 
 
 def files():
-    """The files that documents name and that are not there. Files of crates are named from crates/ on. docs/PORT.md speaks of former files, too."""
+    """The files that documents name and that are not there. Files of crates are named from crates/ on. docs/PORT.md and
+    docs/DESIGN-PASS.md speak of former files, too."""
     missing = ""
-    for document in ["README.md"] + sorted(set(glob.glob("docs/*.md")) - {"docs/PORT.md"}):
+    for document in ["README.md"] + sorted(set(glob.glob("docs/*.md")) - {"docs/PORT.md", "docs/DESIGN-PASS.md"}):
         for name in re.findall(r"`(\w+/[\w./+]+)`", read(document)):
             places = [name, f"crates/{name}", f"crates/{name}.edit", "crates/" + name.replace("/", "/must-fail/", 1) + ".edit"]
             if not name.startswith(("target/", "src/")) and not any(map(os.path.exists, places)):

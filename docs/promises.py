@@ -4,7 +4,7 @@
     python3 docs/promises.py            from the project's root: prints what is amiss
     python3 docs/promises.py --write    puts the first line of each edit behind its name in docs/CLAIMS.md
 
-Under the heading "Public promises" a row is for one function, `crate::name`; under "Definitions" for a crate. The last column names edits of
+Under the heading "Public promises" a row is for one function, `crate::name`, or a method, `crate::Type::name`; under "Definitions" for a crate. The last column names edits of
 that crate's must-fail/, or `crate/name` of another's, which holds the definition. Ends with status 0 when each public function has a row with
 two edits or more, each edit named is there, each edit there is named, and each of a function stands beside what its first line says.
 """
@@ -17,11 +17,17 @@ CLAIMS = "docs/CLAIMS.md"
 
 
 def functions():
-    """The public functions of every crate."""
+    """The public functions of every crate, methods with their type."""
     found = []
     for path in sorted(glob.glob("crates/*/src/*.rt")):
-        text = open(path, encoding="utf-8").read()
-        found += [f"{path.split('/')[1]}::{name}" for name in re.findall(r'^pub (?:extern "C" )?fn (\w+)', text, re.M)]
+        owner = ""
+        for line in open(path, encoding="utf-8"):
+            if block := re.match(r"impl(?:<[^>]*>)? (\w+)(?:<[^>]*>)? \{", line):
+                owner = f"{block.group(1)}::"
+            elif line == "}\n":
+                owner = ""
+            elif name := re.match(r'(?:    )?pub (?:extern "C" )?fn (\w+)', line):
+                found.append(f"{path.split('/')[1]}::{owner}{name.group(1)}")
     return found
 
 
@@ -49,7 +55,7 @@ def main():
     text = open(CLAIMS, encoding="utf-8").read()
     amiss, rows, named = [], {}, set()
     for subject, equals, edits, line in rows_of(text, "## Public promises"):
-        crate, function = re.match(r"`(\w+)::(\w+)`$", subject).groups()
+        crate, function = re.match(r"`(\w+)::((?:\w+::)?\w+)`$", subject).groups()
         names = re.findall(r"`([\w/]+)`:", edits)
         rows[f"{crate}::{function}"] = names
         named |= {placed(crate, name) for name in names}
