@@ -4,8 +4,8 @@
     python3 docs/promises.py            from the project's root: prints what is amiss
     python3 docs/promises.py --write    puts the first line of each edit behind its name in docs/CLAIMS.md
 
-Under the heading "Public promises" a row is for one function, `crate::name`, or a method, `crate::Type::name`; under "Definitions" for a crate. The last column names edits of
-that crate's must-fail/, or `crate/name` of another's, which holds the definition. Ends with status 0 when each public function has a row with
+Under the heading "Public promises" a row is for one function, `crate::name`, or a method, `crate::Type::name`, also one that a trait asks for; under "Definitions" for a crate. The
+last column names edits of that crate's must-fail/, or `crate/name` of another's, which holds the definition. Ends with status 0 when each public function has a row with
 two edits or more, each edit named is there, each edit there is named, and each of a function stands beside what its first line says.
 """
 import glob
@@ -17,16 +17,16 @@ CLAIMS = "docs/CLAIMS.md"
 
 
 def functions():
-    """The public functions of every crate, methods with their type."""
+    """The public functions of every crate, methods with their type; those that an impl has of a trait are public."""
     found = []
     for path in sorted(glob.glob("crates/*/src/*.rt")):
-        owner = ""
+        owner, of_trait = "", False
         for line in open(path, encoding="utf-8"):
-            if block := re.match(r"impl(?:<[^>]*>)? (\w+)(?:<[^>]*>)? \{", line):
-                owner = f"{block.group(1)}::"
+            if block := re.match(r"impl(?:<[^>]*>)? ([\w:]+(?:<[^>]*>)? for )?(\w+)(?:<[^>]*>)? \{", line):
+                owner, of_trait = f"{block.group(2)}::", bool(block.group(1))
             elif line == "}\n":
-                owner = ""
-            elif name := re.match(r'(?:    )?pub (?:extern "C" )?fn (\w+)', line):
+                owner, of_trait = "", False
+            elif name := re.match(r'(?:    )?pub (?:extern "C" )?fn (\w+)' if not of_trait else r"    fn (\w+)", line):
                 found.append(f"{path.split('/')[1]}::{owner}{name.group(1)}")
     return found
 

@@ -1,3 +1,4 @@
 pub mod Numbers
 pub mod Response
 pub mod Production
+pub mod Words

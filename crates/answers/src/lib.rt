@@ -22,7 +22,13 @@ pub enum Cause {
     OutOfRange(Side),
 }
 
+// The word of the printed line.
 impl fmt::Display for Cause {
+    ghost use Rattle.std.specs.Prelude.{Some};
+    ghost use Rattle.answers.specs.Words.{cause_word};
+
+    ghost output = { λ c. Some (cause_word c) };
+
     fn fmt<W: fmt::Write>(&self, f: &mut fmt::Formatter<W>) -> fmt::Result {
         f.write_str(match self {
             Cause::Empty => "empty",

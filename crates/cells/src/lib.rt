@@ -112,16 +112,20 @@ pub fn joined_of(c: u64) -> Joined
     Joined::Many
 }
 
-// What two found exceptions come to together, the left one found first. The definition `join` has the cases without many first.
+// What two found exceptions come to together, the left one found first: the nine cases of nothing, a value and many on each side, by the left
+// side. The definition `join` has those without many first.
 pub fn join(a: u64, b: u64) -> u64
     ensures { result ≡ join_cell a b }
 {
     match (joined_of(a), joined_of(b)) {
         (Joined::Nothing, Joined::Nothing) => NOTHING,
         (Joined::Nothing, Joined::One(_)) => b,
+        (Joined::Nothing, Joined::Many) => MANY,
         (Joined::One(_), Joined::Nothing) => a,
         (Joined::One(_), Joined::One(_)) => MANY, // where figure 10 raises
-        (Joined::Many, _) => MANY,
-        (_, Joined::Many) => MANY,
+        (Joined::One(_), Joined::Many) => MANY,
+        (Joined::Many, Joined::Nothing) => MANY,
+        (Joined::Many, Joined::One(_)) => MANY,
+        (Joined::Many, Joined::Many) => MANY,
     }
 }

@@ -16,7 +16,10 @@ pub fn copy_cells(from: &[u64], start: usize, to: &mut [u64], at: usize)
     requires { Copying from.now start to.old at }
     ensures { Copied from.now start 32 to.old at to.new }
 {
-    to[at..at + VARIABLES].copy_from_slice(&from[start..start + VARIABLES]);
+    // `copy_from_slice` calls `memmove`, which the library for C is not to need.
+    for v in 0..VARIABLES {
+        to[at + v] = from[start + v];
+    }
 }
 
 // Whether none of the first variables is given.

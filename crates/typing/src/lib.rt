@@ -36,6 +36,7 @@ pub fn called_type(book: &IndexedBook, i: usize, k: u8, v: u8) -> ValueType
 }
 
 // Whether a number is 255, none, or a node of this type.
+#[tactic(auto, unfolding(crate::specs::Types::named_fits))]
 pub fn named_fits(types: &[u8], t: ValueType, n: u8) -> bool
     ensures { result ≡ named_fits types.now t n }
 {

@@ -9,17 +9,23 @@ returns-in-Nothing-Nothing c = join_case _ _ (sym c.in-Nothing-Nothing.ensures) 
 pub returns-in-Nothing-One : goal.returns-in-Nothing-One
 returns-in-Nothing-One c = join_case _ _ (sym c.in-Nothing-One.ensures) (sym c.in-Nothing-One.ensures')
 
+pub returns-in-Nothing-Many : goal.returns-in-Nothing-Many
+returns-in-Nothing-Many c = join_case _ _ (sym c.in-Nothing-Many.ensures) (sym c.in-Nothing-Many.ensures')
+
 pub returns-in-One-Nothing : goal.returns-in-One-Nothing
 returns-in-One-Nothing c = join_case _ _ (sym c.in-One-Nothing.ensures) (sym c.in-One-Nothing.ensures')
 
 pub returns-in-One-One : goal.returns-in-One-One
 returns-in-One-One c = join_case _ _ (sym c.in-One-One.ensures) (sym c.in-One-One.ensures')
 
-pub returns-in-Many-default : goal.returns-in-Many-default
-returns-in-Many-default c = many_first _ _ (sym c.in-Many-default.ensures)
+pub returns-in-One-Many : goal.returns-in-One-Many
+returns-in-One-Many c = join_case _ _ (sym c.in-One-Many.ensures) (sym c.in-One-Many.ensures')
 
-pub returns-in_default-Many : goal.returns-in_default-Many
-returns-in_default-Many c = join_case _ _ (sym c.in_default-Many.ensures) (sym c.in_default-Many.ensures')
+pub returns-in-Many-Nothing : goal.returns-in-Many-Nothing
+returns-in-Many-Nothing c = many_first _ _ (sym c.in-Many-Nothing.ensures)
 
-pub returns-in_default-Many-2 : goal.returns-in_default-Many-2
-returns-in_default-Many-2 c = join_case _ _ (sym c.in_default-Many.ensures) (sym c.in_default-Many.ensures')
+pub returns-in-Many-One : goal.returns-in-Many-One
+returns-in-Many-One c = many_first _ _ (sym c.in-Many-One.ensures)
+
+pub returns-in-Many-Many : goal.returns-in-Many-Many
+returns-in-Many-Many c = many_first _ _ (sym c.in-Many-Many.ensures)

@@ -19,7 +19,7 @@ turn t c =
       running = c.loop-n.invariant.running;
       variables = c.variable_count-variables.ensures;
       sub_scopes = c.sub_scope_count.ensures;
-      more = c.loop-n-test.true;
+      more = omega (arith, c.loop-n-test.true);
       at = c.byte_at-x.ensures;
     }
 
@@ -140,7 +140,7 @@ pub run_steps-returns-in-Err : goal.run_steps-returns-in-Err
 run_steps-returns-in-Err t c = record { came = end_call c.requires.entry (turn t (goal.at.run_steps-returns-in-Err t c).After-byte_at-x) c.if-x-variables.false c.hand_over-c.ensures c.if-c-ge-EMPTY-2.false c.sub_scope_at-j.ensures c.enter_sub.ensures.came c.in-Err.is; known = c.enter_sub.ensures.known }
 
 pub run_steps-remember_scope-requires : goal.run_steps-remember_scope-requires
-run_steps-remember_scope-requires t c = record { noting = noting c.requires.entry c.loop-n.invariant.running.own_room c.loop-n.invariant.running.own_kept c.loop-n.invariant.known; came = ends c.requires.entry c.loop-n.invariant.running c.variable_count-variables.ensures c.sub_scope_count.ensures c.loop-n-test.false }
+run_steps-remember_scope-requires t c = record { noting = noting c.requires.entry c.loop-n.invariant.running.own_room c.loop-n.invariant.running.own_kept c.loop-n.invariant.known; came = ends c.requires.entry c.loop-n.invariant.running c.variable_count-variables.ensures c.sub_scope_count.ensures (omega (arith, c.loop-n-test.false)) }
 
 pub run_steps-shape_of-own : goal.run_steps-shape_of-own
 run_steps-shape_of-own t c = c.loop-n.invariant.running.own_room ∙ sym c.requires.entry.room
@@ -152,4 +152,4 @@ pub run_steps-shape_of-memo : goal.run_steps-shape_of-memo
 run_steps-shape_of-memo t c = c.remember_scope.auto.memo ∙ c.loop-n.invariant.memo_same
 
 pub run_steps-returns : goal.run_steps-returns
-run_steps-returns t c = record { came = ends c.requires.entry c.loop-n.invariant.running c.variable_count-variables.ensures c.sub_scope_count.ensures c.loop-n-test.false; known = c.remember_scope.ensures }
+run_steps-returns t c = record { came = ends c.requires.entry c.loop-n.invariant.running c.variable_count-variables.ensures c.sub_scope_count.ensures (omega (arith, c.loop-n-test.false)); known = c.remember_scope.ensures }
