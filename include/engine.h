@@ -23,7 +23,7 @@
 extern "C" {
 #endif
 
-#define ENGINE_VERSION "3.0.3"
+#define ENGINE_VERSION "3.0.4"
 
 /*
  * The most bytes of a book that is not refused, of its code and of the results of a scope: memory of such a length is never too short. The code of a
