@@ -4,7 +4,8 @@ use Rattle.answers.specs.declared.Side.TheVariants.{Above, Below}
 use Rattle.answers.specs.declared.Cause.{Cause}
 use Rattle.answers.specs.declared.Cause.TheVariants.{Empty, Conflict, OutOfRange}
 
--- "`empty 1`. Other first lines: `conflict N`, `range N`", the last of which "becomes `above N` or `below N`" (paper 02, No. 3): the word
+-- "Without inputs: `empty 1`. Other first lines: `conflict N`, `range N`" (paper 01); where it was `range N`, "the printed line, which becomes
+-- `above N` or `below N`" (paper 02, No. 3): the word
 abbrev pub cause_word : Cause → List ℕ
 cause_word Empty = codes "empty"
 cause_word Conflict = codes "conflict"

@@ -2,6 +2,9 @@
 use mathlib.Core.Path.{◌≡◌, refl, ◌∙◌}
 use mathlib.Core.Bool.{not}
 use denote.Enum.Bare.{sameb}
+use Prim.Native.Nat.{◌≤◌}
+use lib.ListN.{length}
+use Rattle.std.proofs.Common.{rules, tests}
 use Rattle.std.specs.Prelude.{Option, None, Some, is_some}
 use Rattle.calculus.specs.declared.Value.{Value}
 use Rattle.book.specs.Syntax.{same_type}
@@ -23,7 +26,9 @@ some_given None = refl
 some_given (Some v) = refl
 
 pub returns-in_default : goal.returns-in_default
-returns-in_default c = past _ _ _ _ c.in_default.ensures.lookup.3
+returns-in_default c =
+    let far : length c.args.types.now ≤ c.args.v = c.in_default.ensures.lookup.3 in
+    rw (← past c.args.types.now c.args.given.now c.args.t c.args.v far) (search (rules, tests))
 
 pub returns-then-ne : goal.returns-then-ne
 returns-then-ne c =
